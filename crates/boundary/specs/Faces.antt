@@ -1,0 +1,48 @@
+-- The call faces: it takes a table and writes one record for each boundary face: sign word, d vertices.
+--   faceSize d            words of a face record of a table of dimension d
+--   boundaryCells i       the boundary of the table
+--   facesRules, facesOutcome (the count of records), facesBuffer
+use mathlib.Core.Bool.{not}
+use mathlib.Core.List.{List, [], _∷_, map}
+use Prim.Native.Nat.{ℕ, suc, _*_}
+use lib.Dec.{eqb, ltb}
+use lib.ListN.{length}
+use Rattle.words.specs.Records.{concat}
+use Rattle.rules.specs.Limits.{maxDimension}
+use Rattle.rules.specs.Shapes.{shapeOk}
+use Rattle.rules.specs.Calls.{Rule, refuse, Outcome, decide, after}
+use Rattle.simplex.specs.Cell.{Cell}
+use Rattle.complex.specs.Layout.{entriesOf, cellWords}
+use Rattle.complex.specs.Table.{sound}
+use Rattle.complex.specs.Wing.{tableLength}
+use Rattle.boundary.specs.Boundary.{boundaryOf}
+
+pub record FacesInput : Type 0 where
+  pub d : ℕ
+  pub v : ℕ
+  pub s : ℕ
+  pub table : List ℕ
+  pub room : ℕ
+
+abbrev pub faceSize : ℕ → ℕ
+faceSize d = suc d
+
+unfoldable pub boundaryCells : FacesInput → List Cell
+boundaryCells i = boundaryOf (entriesOf (i .d) (i .s) (i .table))
+
+abbrev pub facesLength : FacesInput → ℕ
+facesLength i = length (boundaryCells i) * faceSize (i .d)
+
+unfoldable pub facesRules : List (Rule FacesInput)
+facesRules =
+    refuse 2 (λ i. not (shapeOk maxDimension (i .d) (i .v) (i .s)))
+    ∷ refuse 3 (λ i. not (eqb (length (i .table)) (tableLength (i .d) (i .s))))
+    ∷ refuse 14 (λ i. not (sound (i .d) (i .v) (i .s) (i .table)))
+    ∷ refuse 15 (λ i. ltb (i .room) (facesLength i))
+    ∷ []
+
+unfoldable pub facesOutcome : FacesInput → Outcome ℕ
+facesOutcome i = decide facesRules (λ i. length (boundaryCells i)) i
+
+unfoldable pub facesBuffer : FacesInput → List ℕ → List ℕ
+facesBuffer i out = after (facesOutcome i) (concat (map cellWords (boundaryCells i))) out

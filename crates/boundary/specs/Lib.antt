@@ -1,0 +1,3 @@
+-- Boundaries: of a table, of a solid, and the call faces.
+pub mod Boundary
+pub mod Faces

@@ -1,0 +1,1 @@
+// Boundary faces. Definitions only so far: see specs/.

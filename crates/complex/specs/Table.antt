@@ -1,0 +1,35 @@
+-- The table of a solid, and soundness.
+--   tableOf cs            the cells with their wings
+--   tableOfList l         the table of a list of cells, as words
+--   ownTable d v s ws     the table is that of its own cells, and those are acceptable
+--   sound d v s ws        own table, and its numbers are within the limits
+use mathlib.Core.Bool.{Bool, _&&_}
+use mathlib.Core.List.{List, [], _∷_}
+use Prim.Native.Nat.{ℕ, suc}
+use Rattle.rules.specs.Limits.{maxDimension}
+use Rattle.rules.specs.Shapes.{shapeOk}
+use Rattle.simplex.specs.Cell.{Cell, sameRow}
+use Rattle.complex.specs.Layout.{Entry, tableWords, ownList}
+use Rattle.complex.specs.Accept.{Listed, solidOf, acceptable}
+use Rattle.complex.specs.Wings.{wingsOf}
+
+-- the entries of the cells numbered from p, among all cells
+abbrev pub entriesFrom : List Cell → ℕ → List Cell → List Entry
+entriesFrom all p [] = []
+entriesFrom all p (c ∷ cs) = record { cell = c; wings = wingsOf all p c } ∷ entriesFrom all (suc p) cs
+
+abbrev pub tableOf : List Cell → List Entry
+tableOf cs = entriesFrom cs 0 cs
+
+unfoldable pub tableOfList : Listed → List ℕ
+tableOfList l = tableWords (tableOf (solidOf l))
+
+-- the list of a table's own cells
+abbrev pub listed : ℕ → ℕ → ℕ → List ℕ → Listed
+listed d v s ws = record { d = d; v = v; s = s; words = ownList d s ws }
+
+unfoldable pub ownTable : ℕ → ℕ → ℕ → List ℕ → Bool
+ownTable d v s ws = let l = listed d v s ws in acceptable l && sameRow ws (tableOfList l)
+
+unfoldable pub sound : ℕ → ℕ → ℕ → List ℕ → Bool
+sound d v s ws = shapeOk maxDimension d v s && ownTable d v s ws

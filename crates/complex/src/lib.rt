@@ -1,0 +1,1 @@
+// Solids and their tables. Definitions only so far: see specs/.

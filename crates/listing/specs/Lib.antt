@@ -1,0 +1,4 @@
+-- The key's text, and the call list.
+pub mod Decimal
+pub mod Lines
+pub mod Listing

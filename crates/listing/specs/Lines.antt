@@ -1,0 +1,51 @@
+-- The lines of the key: one space between fields, a line feed after each line.
+--   line fields                   a line of these fields
+--   firstLine d n v f             "key", dimension, axes, vertices, faces
+--   vertexLines n v ps            for each vertex "v", its number, its coordinates
+--   faceLines fs                  for each face "+" or "-", and its vertices
+--   keyText d n v ps fs           the whole key
+use mathlib.Core.List.{List, [], _∷_, _++_, map}
+use mathlib.Core.Bool.{true, false}
+use Prim.Native.Nat.{ℕ}
+use lib.Ieee.{Float}
+use lib.ListN.{length}
+use Rattle.words.specs.Records.{tabulate, part, concat}
+use Rattle.words.specs.Text.{ascii}
+use Rattle.simplex.specs.Cell.{Sign, Cell}
+use Rattle.listing.specs.Decimal.{digits, coordinate}
+
+-- fields after the first, each with a space before it, and the line feed
+abbrev pub restOfLine : List (List ℕ) → List ℕ
+restOfLine [] = 10 ∷ []
+restOfLine (f ∷ fs) = 32 ∷ (f ++ restOfLine fs)
+
+abbrev pub line : List ℕ → List (List ℕ) → List ℕ
+line f fs = f ++ restOfLine fs
+
+abbrev pub keyWord : List ℕ
+keyWord = ascii "key"
+
+abbrev pub vertexWord : List ℕ
+vertexWord = ascii "v"
+
+abbrev pub signText : Sign → List ℕ
+signText true = ascii "+"
+signText false = ascii "-"
+
+unfoldable pub firstLine : ℕ → ℕ → ℕ → ℕ → List ℕ
+firstLine d n v f = line keyWord (digits d ∷ digits n ∷ digits v ∷ digits f ∷ [])
+
+unfoldable pub vertexLine : ℕ → List Float → ℕ → List ℕ
+vertexLine n ps p = line vertexWord (digits p ∷ map coordinate (part n p ps))
+
+abbrev pub vertexLines : ℕ → ℕ → List Float → List ℕ
+vertexLines n v ps = concat (tabulate v (vertexLine n ps))
+
+unfoldable pub faceLine : Cell → List ℕ
+faceLine f = line (signText (f .sign)) (map digits (f .row))
+
+abbrev pub faceLines : List Cell → List ℕ
+faceLines fs = concat (map faceLine fs)
+
+unfoldable pub keyText : ℕ → ℕ → ℕ → List Float → List Cell → List ℕ
+keyText d n v ps fs = firstLine d n v (length fs) ++ (vertexLines n v ps ++ faceLines fs)

@@ -1,0 +1,1 @@
+// The key in print. Definitions only so far: see specs/.

@@ -1,0 +1,2 @@
+// Points and steps.
+pub mod step;

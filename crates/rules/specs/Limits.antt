@@ -1,0 +1,49 @@
+-- The limits on the numbers that a call is told.
+--   maxDimension      d of a table; read and sweep go to maxSource, since a sweep adds one
+--   maxAxes, maxVertices, maxCells, maxSteps
+--   empty             the wing word for no neighbour, 65535
+--   sizesOk v s       vertex and cell count are within the limits
+--   sweptVertices     the vertex count of a sweep: v vertices give (h + 1) v in h steps
+use mathlib.Core.Bool.{Bool, _&&_}
+use Prim.Native.Nat.{ℕ, suc, _*_}
+use lib.Dec.{leb}
+
+abbrev pub maxDimension : ℕ
+maxDimension = 7
+
+abbrev pub maxSource : ℕ
+maxSource = 6
+
+abbrev pub maxAxes : ℕ
+maxAxes = 8
+
+abbrev pub maxVertices : ℕ
+maxVertices = 4096
+
+abbrev pub maxCells : ℕ
+maxCells = 4096
+
+abbrev pub maxSteps : ℕ
+maxSteps = 64
+
+abbrev pub empty : ℕ
+empty = 65535
+
+-- lo ≤ x ≤ hi
+abbrev pub within : ℕ → ℕ → ℕ → Bool
+within lo hi x = leb lo x && leb x hi
+
+abbrev pub verticesOk : ℕ → Bool
+verticesOk v = within 1 maxVertices v
+
+abbrev pub sizesOk : ℕ → ℕ → Bool
+sizesOk v s = verticesOk v && within 1 maxCells s
+
+abbrev pub axesOk : ℕ → Bool
+axesOk n = within 1 maxAxes n
+
+abbrev pub stepsOk : ℕ → Bool
+stepsOk h = within 1 maxSteps h
+
+abbrev pub sweptVertices : ℕ → ℕ → ℕ
+sweptVertices v h = suc h * v

@@ -1,0 +1,26 @@
+-- Lists of signed cells: how often a cell stands in one, and the list as a sum with whole coefficients (a chain).
+-- Rows are compared place by place, so cells are put in ascending order before.
+--   countOn s w cs      how many cells of the list have the sign s and the row w
+--   total w cs          how many have the row w
+--   Same xs ys          equal, list order aside: every signed cell stands in both equally often
+--   coefficient w cs    plus cells on the row less minus cells on it
+use mathlib.Core.Bool.{Bool, true, false, _&&_}
+use mathlib.Core.List.{List, [], _∷_}
+use mathlib.Core.Path.{_≡_}
+use Prim.Native.Nat.{ℕ, _+_}
+use lib.IntN.{ℤ, pos, _-ℤ_}
+use Rattle.simplex.specs.Cell.{Row, Sign, Cell, times, sameRow, one}
+
+abbrev pub countOn : Sign → Row → List Cell → ℕ
+countOn s w [] = 0
+countOn s w (c ∷ cs) = one (times (c .sign) s && sameRow (c .row) w) + countOn s w cs
+
+abbrev pub total : Row → List Cell → ℕ
+total w [] = 0
+total w (c ∷ cs) = one (sameRow (c .row) w) + total w cs
+
+abbrev pub Same : List Cell → List Cell → Type 0
+Same xs ys = (s : Sign) (w : Row) → countOn s w xs ≡ countOn s w ys
+
+abbrev pub coefficient : Row → List Cell → ℤ
+coefficient w cs = pos (countOn true w cs) -ℤ pos (countOn false w cs)

@@ -1,0 +1,5 @@
+-- Signed simplices: cells, their ascending order, their faces, and lists of them.
+pub mod Cell
+pub mod Order
+pub mod Faces
+pub mod Chain

@@ -1,0 +1,1 @@
+// Signed simplices. Definitions only so far: see specs/.

@@ -1,0 +1,5 @@
+-- The sweep: swept cells, their numbers and wings, and the call sweep.
+pub mod Cells
+pub mod Sides
+pub mod Wings
+pub mod Sweep

@@ -1,0 +1,1 @@
+// The sweep. Definitions only so far: see specs/.

@@ -1,0 +1,22 @@
+-- One name that opens every definition, so that an example is proved by computing both sides.
+use lib.Count.{trailingZeros}
+use lib.Ieee.{add, sub, mul, neg, lt, le, eq, ofBits}
+use Rattle.complex.specs.Accept.{solidRules, acceptable}
+use Rattle.complex.specs.Table.{tableOfList, ownTable, sound}
+use Rattle.complex.specs.Wing.{wingRules, wingOutcome, wingBuffer}
+use Rattle.sweep.specs.Sides.{allSides}
+use Rattle.sweep.specs.Sweep.{sweepRules, sweptWords, sweepOutcome, sweepBuffer}
+use Rattle.boundary.specs.Faces.{boundaryCells, facesRules, facesOutcome, facesBuffer}
+use Rattle.points.specs.Step.{inRange, onCircle, stepFits, addAt, turned, movedPoint}
+use Rattle.points.specs.Move.{movedLevels, moveRules, moveOutcome, moveBuffer}
+use Rattle.file.specs.File.{filePoints, fileCells}
+use Rattle.file.specs.Read.{readRules, headerOf, fileWords, readOutcome, readCells, readPoints}
+use Rattle.listing.specs.Decimal.{digits, thousandths, coordinate}
+use Rattle.listing.specs.Lines.{firstLine, vertexLine, faceLine, keyText}
+use Rattle.listing.specs.Listing.{listText, listRules, listOutcome, listBuffer}
+use Rattle.winged.specs.Key.{keyOutcome, printed}
+use Rattle.winged.specs.Host.{hostWingOutcome, hostWing, hostWingBuffer, hostSweepOutcome, hostSweep, hostSweepBuffer, hostFacesOutcome, hostFaces, hostFacesBuffer}
+
+unfoldable pub computing : Unit {0}
+unfolding add sub mul neg lt le eq ofBits solidRules acceptable tableOfList ownTable sound wingRules wingOutcome wingBuffer allSides sweepRules sweptWords sweepOutcome sweepBuffer boundaryCells facesRules facesOutcome facesBuffer inRange onCircle stepFits addAt turned movedPoint movedLevels moveRules moveOutcome moveBuffer filePoints fileCells readRules headerOf fileWords readOutcome readCells readPoints digits thousandths coordinate firstLine vertexLine faceLine keyText listText listRules listOutcome listBuffer keyOutcome printed hostWingOutcome hostWing hostWingBuffer hostSweepOutcome hostSweep hostSweepBuffer hostFacesOutcome hostFaces hostFacesBuffer
+computing = tt

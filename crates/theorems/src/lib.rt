@@ -1,0 +1,1 @@
+// The theorems about the whole. No code: see proofs/.

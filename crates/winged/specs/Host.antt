@@ -1,0 +1,79 @@
+-- What a host in C gets: wing, sweep and faces on numbers and byte slices, words little-endian.
+--   hostAnswer f o        the count of words written, or minus the refusal's number
+--   hostWing, hostSweep, hostFaces                  the answers
+--   hostWingBuffer, hostSweepBuffer, hostFacesBuffer    the lent bytes after the call
+-- An input of an odd number of bytes is row 3; of an output only whole words count.
+use mathlib.Core.Bool.{Bool, not, cond, _&&_}
+use mathlib.Core.List.{List, [], _∷_, map}
+use Prim.Native.Nat.{ℕ, _*_, _/_, _%_}
+use lib.Dec.{eqb}
+use lib.IntN.{ℤ, pos, negℤ}
+use lib.ListN.{length}
+use Rattle.words.specs.Records.{concat}
+use Rattle.words.specs.Bytes.{words16, bytesOf}
+use Rattle.rules.specs.Limits.{maxDimension, maxSource, stepsOk}
+use Rattle.rules.specs.Shapes.{shapeOk}
+use Rattle.rules.specs.Calls.{Outcome, accepted, refused, after}
+use Rattle.complex.specs.Accept.{Listed}
+use Rattle.complex.specs.Layout.{cellWords}
+use Rattle.complex.specs.Table.{tableOfList}
+use Rattle.complex.specs.Wing.{WingInput, wingOutcome}
+use Rattle.sweep.specs.Sweep.{SweepInput, sweptWords, sweepOutcome}
+use Rattle.boundary.specs.Faces.{FacesInput, faceSize, boundaryCells, facesOutcome}
+
+-- the call's outcome, but row 3 where the numbers are within the limits and the bytes are odd
+abbrev pub hosted : Bool → List ℕ → Outcome ℕ → Outcome ℕ
+hosted numbersOk bytes o = cond (numbersOk && eqb (length bytes % 2) 1) (refused 3) o
+
+abbrev pub hostAnswer : Outcome ℕ → ℤ
+hostAnswer (accepted n) = pos n
+hostAnswer (refused n) = negℤ (pos n)
+
+-- whole words of a lent buffer
+abbrev pub wordsIn : List ℕ → ℕ
+wordsIn out = length out / 2
+
+module _ (d v s : ℕ) (cells out : List ℕ) where
+  abbrev pub hostList : Listed
+  hostList = record { d = d; v = v; s = s; words = words16 cells }
+
+  unfoldable pub hostWingOutcome : Outcome ℕ
+  hostWingOutcome = hosted (shapeOk maxDimension d v s) cells (wingOutcome (record { list = hostList; room = wordsIn out }))
+
+  unfoldable pub hostWing : ℤ
+  hostWing = hostAnswer hostWingOutcome
+
+  unfoldable pub hostWingBuffer : List ℕ
+  hostWingBuffer = after hostWingOutcome (bytesOf (tableOfList hostList)) out
+
+module _ (d v s h : ℕ) (table out : List ℕ) where
+  abbrev pub hostSweepInput : SweepInput
+  hostSweepInput = record { d = d; v = v; s = s; h = h; table = words16 table; room = wordsIn out }
+
+  unfoldable pub hostSweepOutcome : Outcome ℕ
+  hostSweepOutcome = hosted (shapeOk maxSource d v s && stepsOk h) table (sweepOutcome hostSweepInput)
+
+  unfoldable pub hostSweep : ℤ
+  hostSweep = hostAnswer hostSweepOutcome
+
+  unfoldable pub hostSweepBuffer : List ℕ
+  hostSweepBuffer = after hostSweepOutcome (bytesOf (sweptWords hostSweepInput)) out
+
+module _ (d v s : ℕ) (table out : List ℕ) where
+  abbrev pub hostFacesInput : FacesInput
+  hostFacesInput = record { d = d; v = v; s = s; table = words16 table; room = wordsIn out }
+
+  -- the count of records
+  unfoldable pub hostFacesOutcome : Outcome ℕ
+  hostFacesOutcome = hosted (shapeOk maxDimension d v s) table (facesOutcome hostFacesInput)
+
+  -- the count of words
+  abbrev pub inWords : Outcome ℕ → Outcome ℕ
+  inWords (accepted n) = accepted (n * faceSize d)
+  inWords (refused n) = refused n
+
+  unfoldable pub hostFaces : ℤ
+  hostFaces = hostAnswer (inWords hostFacesOutcome)
+
+  unfoldable pub hostFacesBuffer : List ℕ
+  hostFacesBuffer = after hostFacesOutcome (bytesOf (concat (map cellWords (boundaryCells hostFacesInput)))) out

@@ -1,0 +1,3 @@
+-- What the program key prints, and what a host in C gets.
+pub mod Key
+pub mod Host

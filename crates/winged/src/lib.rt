@@ -1,0 +1,1 @@
+// The whole library. Definitions only so far: see specs/.

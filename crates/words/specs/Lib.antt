@@ -1,0 +1,4 @@
+-- Numbers and floats as bytes.
+pub mod Records
+pub mod Bytes
+pub mod Text

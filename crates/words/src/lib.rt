@@ -1,0 +1,1 @@
+// Numbers and floats in bytes. Definitions only: see specs/.

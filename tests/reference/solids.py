@@ -1,0 +1,305 @@
+"""Random solids, points, steps and files for comparison tests, sound and damaged.
+
+A signed cell is a pair (sign, vertices): +1 or -1, and a tuple of vertices.
+All chance comes from the random.Random that the caller lends.
+"""
+
+import math
+import struct
+
+from winged_reference import EMPTY, Slant, Slide, Turn, ascending
+
+BIG = 1048576.0
+BELOW_BIG = math.nextafter(BIG, 0.0)
+MANNERS = ("connected", "scattered", "mixed")
+
+# Solids.
+class Growth:
+    """A solid that takes a cell only if it stays accepted."""
+
+    def __init__(self):
+        self.cells = []
+        self.taken = set()
+        self.signs = {}
+
+    def faces(self, sign, vertices):
+        """The faces of an ascending cell; none in dimension 0."""
+        places = range(len(vertices)) if len(vertices) > 1 else ()
+        return [(vertices[:i] + vertices[i + 1:], sign if i % 2 == 0 else -sign) for i in places]
+
+    def add(self, sign, vertices):
+        """Takes the ascending cell if it fits; tells whether it did."""
+        found = self.faces(sign, vertices)
+        if vertices in self.taken or any(self.signs.get(f) not in (None, -s) for f, s in found):
+            return False
+        self.cells.append((sign, vertices))
+        self.taken.add(vertices)
+        for f, s in found:
+            self.signs[f] = s if f not in self.signs else "full"
+        return True
+
+    def propose(self, d, v, rng, connected):
+        """Vertices of a next cell: any, or those of a cell with one changed."""
+        if not (connected and self.cells and v > d + 1):
+            return tuple(sorted(rng.sample(range(v), d + 1)))
+        vertices = list(rng.choice(self.cells)[1])
+        vertices[rng.randrange(d + 1)] = rng.choice([x for x in range(v) if x not in vertices]
+                                                    if v < 40 else [rng.randrange(v)])
+        return tuple(sorted(set(vertices)))
+
+def random_solid(d, v, s, rng, manner="mixed"):
+    """An accepted solid of up to s ascending cells, v at least d+1; never empty."""
+    growth = Growth()
+    for _ in range(12 * s + 40):
+        if len(growth.cells) == s:
+            break
+        connected = manner == "connected" or manner == "mixed" and rng.random() < 0.8
+        vertices = growth.propose(d, v, rng, connected)
+        sign = rng.choice((1, -1))
+        if len(vertices) == d + 1:
+            growth.add(sign, vertices) or growth.add(-sign, vertices)
+    return growth.cells
+
+def closed_solid(d, v, rng):
+    """All faces of a simplex of dimension d+1: no boundary; v at least d+2, d at least 1."""
+    vertices = sorted(rng.sample(range(v), d + 2))
+    sign = rng.choice((1, -1))
+    cells = [(sign * (-1) ** i, tuple(vertices[:i] + vertices[i + 1:])) for i in range(d + 2)]
+    rng.shuffle(cells)
+    return cells
+
+def shuffled(cells, rng, adjust=True):
+    """Cells in random vertex order; without adjusting, odd reorderings turn cells over."""
+    result = []
+    for sign, vertices in cells:
+        order = rng.sample(vertices, len(vertices))
+        result.append((ascending(sign, order)[0] if adjust else sign, tuple(order)))
+    return result
+
+def cell_words(cells):
+    """The list of cells that wing takes."""
+    return [word for sign, vertices in cells for word in (0 if sign == 1 else 1, *vertices)]
+
+def small_solid(d, rng):
+    """A small solid of dimension d, of any manner: (v, cells)."""
+    v = d + 1 + rng.choice((0, 1, 2, 3, 6))
+    if d > 0 and v > d + 1 and rng.random() < 0.15:
+        return v, closed_solid(d, v, rng)
+    return v, random_solid(d, v, rng.randint(1, 9), rng, rng.choice(MANNERS))
+
+# Points and steps.
+def random_float(rng, most=1000.0):
+    """A float of many kinds, below the limit: halves of thousandths, tiny, plain."""
+    return rng.choice((
+        lambda: rng.uniform(-most, most),
+        lambda: rng.randint(-2**12, 2**12) / 16.0,
+        lambda: rng.randint(-2000, 2000) / 2000.0,
+        lambda: float(rng.randint(-9, 9)),
+        lambda: rng.uniform(-1, 1) * 2.0 ** rng.randint(-1070, -8),
+        lambda: rng.choice((0.0, -0.0, 0.0005, -0.0005, 0.0625, -0.0625, 0.9995, 5e-324)),
+    ))()
+
+def edge_float(rng):
+    """A float at the edge of what row 4 allows, on either side."""
+    return rng.choice((BIG, -BIG, BELOW_BIG, -BELOW_BIG, BIG - 1.0, math.inf, -math.inf,
+                       math.nan, 0.0, -0.0, 1.0, 5e-324, -5e-324))
+
+def random_points(v, n, rng):
+    """The floats of v points; seldom some near the limit, so that moves go over it."""
+    points = [random_float(rng) for _ in range(v * n)]
+    if rng.random() < 0.15:
+        points[rng.randrange(v * n)] = rng.choice((BELOW_BIG, -BELOW_BIG, BIG - 1.0, BIG - 2.0))
+    return points
+
+def random_turn(rng):
+    """A turn on the circle, now and then just about at the edge of row 5."""
+    if rng.random() < 0.3:
+        c, s = rng.choice(((1.0, 0.0), (0.0, 1.0), (-1.0, 0.0), (0.0, -1.0), (0.6, 0.8)))
+    else:
+        angle = rng.uniform(-math.pi, math.pi)
+        c, s = math.cos(angle), math.sin(angle)
+    if rng.random() < 0.2:
+        scale = math.sqrt(1.0 + rng.choice((1, -1)) * 2.0**-40)
+        scale += rng.randint(-3, 3) * 2.0**-52
+        c, s = c * scale, s * scale
+    return Turn(c, s, random_float(rng))
+
+def random_step(n, rng):
+    """A step that fits n axes; a turn may stand at the edge of the circle."""
+    kind = rng.choice([k for k, least in ((1, 1), (2, 2), (3, 3)) if n >= least])
+    if kind == 1:
+        return Slide(rng.randrange(n), random_float(rng))
+    if kind == 2:
+        a, b = rng.sample(range(n), 2)
+        return Slant(a, random_float(rng), b, random_float(rng))
+    return random_turn(rng)
+
+# Files.
+def step_bytes(step):
+    """Bytes 13 to 39 of a file."""
+    if isinstance(step, Slide):
+        return struct.pack("<3B3d", 1, step.axis, 0, step.amount, 0.0, 0.0)
+    if isinstance(step, Slant):
+        return struct.pack("<3B3d", 2, step.axis, step.other_axis,
+                           step.amount, step.other_amount, 0.0)
+    return struct.pack("<3B3d", 3, 0, 0, *step)
+
+def file_bytes(d, n, v, h, step, points, cells):
+    """A file of the given solid."""
+    data = b"WNG" + struct.pack("<HBBHHH", 1, d, n, v, len(cells), h) + step_bytes(step)
+    data += struct.pack(f"<{len(points)}d", *points)
+    for sign, vertices in cells:
+        data += struct.pack(f"<B{d + 1}H", 43 if sign == 1 else 45, *vertices)
+    return data
+
+def random_file(rng, d=None):
+    """A file of a random accepted solid, shuffled; most are small, some too big to sweep."""
+    d = rng.randint(0, 6) if d is None else d
+    n = rng.randint(d + 1, 8)
+    v, cells = small_solid(d, rng)
+    h = rng.choice((1, 1, 1, 2, 2, 3, 5))
+    if rng.random() < 0.06:
+        v = rng.choice((60, 200, 700, 1365, 1366, 2048, 2049))
+        cells = random_solid(d, v, rng.choice((5, 50, 150, 400)), rng)
+        n, h = d + 1, rng.choice((1, 2, 8, 63, 64))
+    cells = shuffled(cells, rng, adjust=rng.random() < 0.9)
+    return file_bytes(d, n, v, h, random_step(n, rng), random_points(v, n, rng), cells)
+
+# Damage. Each fault takes a bytearray and returns it changed.
+def file_numbers(data):
+    """d, n, V and S as the header says, and where the cells start."""
+    d, n, v, s = struct.unpack_from("<BBHH", data, 5)
+    return d, n, v, s, 40 + 8 * n * v
+
+def fault_byte(data, rng):
+    """One byte changed, as often in the header as elsewhere."""
+    most = len(data) if rng.random() < 0.5 else min(len(data), 40)
+    if most:
+        data[rng.randrange(most)] = rng.randrange(256)
+    return data
+
+def fault_cut(data, rng):
+    """Cut by a few bytes, or to any length."""
+    keep = rng.choice((len(data) - 1, len(data) - 2, 40, 39, rng.randint(0, len(data))))
+    return data[:max(keep, 0)]
+
+def fault_extended(data, rng):
+    """A few bytes too many."""
+    return data + bytes(rng.randrange(256) for _ in range(rng.choice((1, 1, 2, 3, 8))))
+
+HEADER_EDGES = (
+    (3, "<H", (0, 1, 2, 256, 65535)),
+    (5, "<B", (0, 1, 5, 6, 7, 8, 255)),
+    (6, "<B", (0, 1, 2, 3, 7, 8, 9, 255)),
+    (7, "<H", (0, 1, 2, 2048, 2049, 4096, 4097, 65535)),
+    (9, "<H", (0, 1, 2, 4096, 4097, 65535)),
+    (11, "<H", (0, 1, 2, 63, 64, 65, 65535)),
+    (13, "<B", (0, 1, 2, 3, 4, 255)),
+    (14, "<B", (0, 1, 2, 3, 7, 8, 255)),
+    (15, "<B", (0, 1, 2, 3, 7, 8, 255)),
+)
+
+def refitted(data, rng):
+    """The data cut or filled to the length that its header says, if that is not large."""
+    d, _, _, s, start = file_numbers(data)
+    length = start + s * (1 + 2 * (d + 1))
+    if length > 70000:
+        return data
+    return data[:length] + bytes(rng.choice((0, 0, 43, 45, 1)) for _ in range(length - len(data)))
+
+def fault_header(data, rng):
+    """A number of the header at the edge of its limit, the length made to fit or not."""
+    if len(data) < 40:
+        return data
+    place, form, edges = rng.choice(HEADER_EDGES)
+    struct.pack_into(form, data, place, rng.choice(edges))
+    return refitted(data, rng) if rng.random() < 0.5 else data
+
+def fault_float(data, rng):
+    """A float of the header or a point at its edge."""
+    _, n, v, _, _ = file_numbers(data) if len(data) >= 40 else (0, 0, 0, 0, 0)
+    place = rng.choice((16, 24, 32, 40 + 8 * rng.randrange(max(n * v, 1))))
+    if place + 8 <= len(data):
+        struct.pack_into("<d", data, place, edge_float(rng))
+    return data
+
+def fault_step(data, rng):
+    """Another step, whether or not it fits the axes."""
+    if len(data) >= 40:
+        data[13:40] = step_bytes(rng.choice((
+            Slide(rng.randrange(9), random_float(rng)),
+            Slant(rng.randrange(4), random_float(rng), rng.randrange(4), random_float(rng)),
+            random_turn(rng), Turn(random_float(rng), random_float(rng), random_float(rng)))))
+    return data
+
+def fault_cell(data, rng):
+    """A sign, a vertex or a whole cell changed in one cell."""
+    if len(data) < 40:
+        return data
+    d, _, v, s, start = file_numbers(data)
+    size = 1 + 2 * (d + 1)
+    place = start + size * rng.randrange(max(s, 1))
+    if place + size > len(data):
+        return data
+    what = rng.randrange(5)
+    if what == 0:
+        data[place] = rng.choice((0, 42, 43, 44, 45, 46))
+    elif what == 1:
+        data[place] = 88 - data[place] if data[place] in (43, 45) else 43
+    elif what == 2:
+        other = start + size * rng.randrange(max(s, 1))
+        data[place + 1:place + size] = data[other + 1:other + size]
+    else:
+        old = place + 1 + 2 * rng.randrange(d + 1)
+        twice = struct.unpack_from("<H", data, place + 1 + 2 * rng.randrange(d + 1))[0]
+        new = rng.choice((twice, max(v - 1, 0), v, 65535, rng.randrange(max(v, 1))))
+        struct.pack_into("<H", data, old, new)
+    return data
+
+def fault_added(data, rng):
+    """One or two cells more, both over one face of a cell of the file."""
+    if len(data) < 40:
+        return data
+    d, _, v, s, start = file_numbers(data)
+    size = 1 + 2 * (d + 1)
+    if len(data) != start + s * size or s == 0 or v == 0:
+        return data
+    model = start + size * rng.randrange(s)
+    changed = 1 + 2 * rng.randrange(d + 1)
+    for _ in range(rng.randint(1, 2)):
+        cell = data[model:model + size]
+        cell[0] = rng.choice((43, 45))
+        struct.pack_into("<H", cell, changed, rng.randrange(v))
+        data = data + cell
+        s += 1
+    struct.pack_into("<H", data, 9, s)
+    return data
+
+FAULTS = (fault_byte, fault_cut, fault_extended, fault_header, fault_float, fault_step,
+          fault_cell, fault_cell, fault_added)
+
+def damaged(data, rng):
+    """The file with one or two faults; now and then it stays good all the same."""
+    data = bytearray(data)
+    for _ in range(rng.randint(1, 2)):
+        data = rng.choice(FAULTS)(data, rng)
+    return bytes(data)
+
+def damaged_table(table, d, v, s, rng):
+    """The words of a table with one or two faults, of the same length."""
+    table = list(table)
+    size = 2 * d + 3
+    for _ in range(rng.randint(1, 2)):
+        place = rng.randrange(len(table))
+        at = place % size
+        if at == 0:
+            table[place] = rng.choice((0, 1, 2, 65535))
+        elif at <= d + 1:
+            table[place] = rng.choice((0, v - 1, v, 65535, rng.randrange(v),
+                                       table[place - at + 1 + rng.randrange(d + 1)]))
+        else:
+            table[place] = rng.choice((EMPTY, 0, s - 1, s, place // size, rng.randrange(s)))
+        if rng.random() < 0.1:
+            p, q = rng.randrange(s) * size, rng.randrange(s) * size
+            table[p:p + size] = table[q:q + size]
+    return table

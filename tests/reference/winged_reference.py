@@ -1,0 +1,400 @@
+"""A brute-force reference for winged solids, written from the scope document alone.
+
+A signed cell is a pair (sign, vertices): +1 or -1, and a tuple of ascending vertices.
+Every call returns Refused(number), or an answer with a count and what is written.
+"""
+
+import math
+import struct
+import sys
+from collections import namedtuple
+from fractions import Fraction
+
+EMPTY = 65535
+SIGNS = (1, -1)  # by sign word
+MOST = 4096
+PROGRAM_BYTES = 65536
+
+# Answers: a count of words (wing, sweep), records (faces), floats (move) or bytes (list).
+Refused = namedtuple("Refused", "number")
+Answer = namedtuple("Answer", "count written")
+ReadAnswer = namedtuple("ReadAnswer", "d n v s h step cells points")
+
+# The three kinds of step.
+Slide = namedtuple("Slide", "axis amount")
+Slant = namedtuple("Slant", "axis amount other_axis other_amount")
+Turn = namedtuple("Turn", "c s rise")
+
+# Signed cells and their faces.
+def ascending(sign, vertices):
+    """The signed cell with its vertices in order; an odd reordering turns the sign."""
+    size = len(vertices)
+    crossed = sum(vertices[i] > vertices[j] for i in range(size) for j in range(i + 1, size))
+    return (-sign if crossed % 2 else sign), tuple(sorted(vertices))
+
+def faces_of(cell):
+    """All faces of a cell by position, with their signs; in dimension 0 none."""
+    sign, vertices = cell
+    if len(vertices) == 1:
+        return []
+    return [(sign * (-1) ** i, vertices[:i] + vertices[i + 1:]) for i in range(len(vertices))]
+
+def owners(cells):
+    """For the vertices of every face: the list of (cell number, position, sign)."""
+    found = {}
+    for p, cell in enumerate(cells):
+        for i, (sign, vertices) in enumerate(faces_of(cell)):
+            found.setdefault(vertices, []).append((p, i, sign))
+    return found
+
+def wings_of(cells):
+    """The wings of cells in which no face belongs to more than two."""
+    wings = [[EMPTY] * len(vertices) for _, vertices in cells]
+    for owned in owners(cells).values():
+        if len(owned) == 2:
+            (p, i, _), (q, j, _) = owned
+            wings[p][i] = q
+            wings[q][j] = p
+    return wings
+
+def neighbours_by_definition(cells):
+    """The wings again, by comparing every face with every face of every other cell."""
+    every = [(q, vertices) for q, cell in enumerate(cells) for _, vertices in faces_of(cell)]
+    wings = []
+    for p, cell in enumerate(cells):
+        row = []
+        for _, mine in faces_of(cell):
+            others = [q for q, vertices in every if vertices == mine and q != p]
+            row.append(others[0] if others else EMPTY)
+        wings.append(row or [EMPTY])
+    return wings
+
+# Lists of signed cells.
+def coefficient(cells, row):
+    """Plus cells less minus cells on an ascending row of vertices."""
+    return sum(sign for sign, vertices in cells if vertices == tuple(row))
+
+def own_boundary(cells):
+    """The faces that belong to one cell only, told from the cells alone."""
+    found = owners(cells)
+    return [face for cell in cells for face in faces_of(cell) if len(found[face[1]]) == 1]
+
+def top_copy(cells, v, h):
+    """The cells with hV added to each vertex."""
+    return [(sign, tuple(x + h * v for x in vertices)) for sign, vertices in cells]
+
+def swept_cell(cell, k, i, v):
+    """Cell k of the d+1 that a cell gives at level i."""
+    sign, vertices = cell
+    d = len(vertices) - 1
+    lower = [x + i * v for x in vertices[k:]]
+    upper = [x + (i + 1) * v for x in vertices[:k + 1]]
+    return sign * (-1) ** (k * d), tuple(lower + upper)
+
+def sweep_plain(cells, v, h):
+    """The swept cells without wings, in the order of their numbers."""
+    return [swept_cell(cell, k, i, v)
+            for i in range(h) for cell in cells for k in range(len(cell[1]))]
+
+# Tables.
+def split(words, size):
+    """The list cut into rows of the given size."""
+    return [list(words[i:i + size]) for i in range(0, len(words), size)]
+
+def join_table(cells, wings):
+    """The words of a table."""
+    return [word for (sign, vertices), row in zip(cells, wings)
+            for word in (SIGNS.index(sign), *vertices, *row)]
+
+def table_cells(d, table):
+    """The signed cells of a table."""
+    return [(SIGNS[row[0]], tuple(row[1:d + 2])) for row in split(table, 2 * d + 3)]
+
+def table_wings(d, table):
+    """The wings of a table, a row per cell."""
+    return [row[d + 2:] for row in split(table, 2 * d + 3)]
+
+def row_in_order(row, d, v):
+    """Sign 0 or 1, vertices different, ascending and below V."""
+    vertices = row[1:d + 2]
+    return row[0] in (0, 1) and vertices == sorted(set(vertices)) and max(vertices) < v
+
+def sound(d, v, table):
+    """Soundness of a table whose numbers and length are right already."""
+    if not all(row_in_order(row, d, v) for row in split(table, 2 * d + 3)):
+        return False
+    cells = table_cells(d, table)
+    if len({vertices for _, vertices in cells}) != len(cells):
+        return False
+    for owned in owners(cells).values():
+        if len(owned) > 2 or len(owned) == 2 and owned[0][2] == owned[1][2]:
+            return False
+    return table_wings(d, table) == wings_of(cells)
+
+def table_boundary(d, table):
+    """One signed face per empty wing, by cell and then position; none in dimension 0."""
+    return [face for cell, wings in zip(table_cells(d, table), table_wings(d, table))
+            for face, neighbour in zip(faces_of(cell), wings) if neighbour == EMPTY]
+
+def counts_fit(*counts):
+    """Vertices or cells, each 1 to 4,096."""
+    return all(1 <= count <= MOST for count in counts)
+
+def rows_refusal(rows, signs, v):
+    """Rows 6 to 8 over rows of a sign and vertices, or None."""
+    if any(row[0] not in signs for row in rows):
+        return Refused(6)
+    if any(x >= v for row in rows for x in row[1:]):
+        return Refused(7)
+    if any(len(set(row[1:])) != len(row) - 1 for row in rows):
+        return Refused(8)
+
+def wing(d, v, s, cells, room):
+    """The table of a list of cells."""
+    if not (0 <= d <= 7 and counts_fit(v, s)):
+        return Refused(2)
+    if len(cells) != s * (d + 2):
+        return Refused(3)
+    rows = split(cells, d + 2)
+    if refusal := rows_refusal(rows, (0, 1), v):
+        return refusal
+    ordered = [ascending(SIGNS[row[0]], row[1:]) for row in rows]
+    if len({vertices for _, vertices in ordered}) != s:
+        return Refused(9)
+    shared = list(owners(ordered).values())
+    if any(len(owned) > 2 for owned in shared):
+        return Refused(10)
+    if any(len(owned) == 2 and owned[0][2] == owned[1][2] for owned in shared):
+        return Refused(11)
+    if room < s * (2 * d + 3):
+        return Refused(15)
+    table = join_table(ordered, wings_of(ordered))
+    return Answer(len(table), table)
+
+def side_pairs(d, a):
+    """The side pairs (cell, position) over wing a, first to d-th."""
+    pairs = [(1, d) if a == 0 else (0, a)]
+    while len(pairs) < d:
+        k, j = pairs[-1]
+        pairs.append((k + 2, d) if j == 1 else (k + 1, j - 1))
+    return pairs
+
+def swept_wings(d, s, h, wings):
+    """The wings of the swept table, by the rule of the document."""
+    def number(k, p, i):
+        return k + p * (d + 1) + i * s * (d + 1)
+
+    swept = [[EMPTY] * (d + 2) for _ in range(h * s * (d + 1))]
+    for i in range(h):
+        for p in range(s):
+            for k in range(d):
+                swept[number(k, p, i)][0] = number(k + 1, p, i)
+                swept[number(k + 1, p, i)][d + 1] = number(k, p, i)
+            for a, q in enumerate(wings[p]):
+                if q != EMPTY:
+                    b = wings[q].index(p)
+                    for (k, j), (m, _) in zip(side_pairs(d, a), side_pairs(d, b)):
+                        swept[number(k, p, i)][j] = number(m, q, i)
+            if i + 1 < h:
+                swept[number(d, p, i)][0] = number(0, p, i + 1)
+                swept[number(0, p, i + 1)][d + 1] = number(d, p, i)
+    return swept
+
+def sweep(d, v, s, h, table, room):
+    """The table of the swept solid, one dimension higher."""
+    if not (0 <= d <= 6 and counts_fit(v, s) and 1 <= h <= 64):
+        return Refused(2)
+    if len(table) != s * (2 * d + 3):
+        return Refused(3)
+    if (h + 1) * v > MOST or h * s * (d + 1) > MOST:
+        return Refused(12)
+    if not sound(d, v, table):
+        return Refused(14)
+    if room < h * s * (d + 1) * (2 * d + 5):
+        return Refused(15)
+    cells = sweep_plain(table_cells(d, table), v, h)
+    swept = join_table(cells, swept_wings(d, s, h, table_wings(d, table)))
+    return Answer(len(swept), swept)
+
+def faces(d, v, s, table, room):
+    """The records of the boundary faces, and how many."""
+    if not (0 <= d <= 7 and counts_fit(v, s)):
+        return Refused(2)
+    if len(table) != s * (2 * d + 3):
+        return Refused(3)
+    if not sound(d, v, table):
+        return Refused(14)
+    records = table_boundary(d, table)
+    if room < len(records) * (d + 1):
+        return Refused(15)
+    words = [word for sign, vertices in records for word in (SIGNS.index(sign), *vertices)]
+    return Answer(len(records), words)
+
+# Points.
+def float_fits(x):
+    """Rule 4: finite, and of magnitude below 1,048,576."""
+    return math.isfinite(x) and abs(x) < 1048576
+
+def step_floats(step):
+    """The floats that a step holds: all of a turn, else those after each axis."""
+    return list(step) if isinstance(step, Turn) else list(step[1::2])
+
+def step_fits(step, n):
+    """Rule 5, but for the unused parts of a file."""
+    if isinstance(step, Slide):
+        return step.axis < n
+    if isinstance(step, Slant):
+        return step.axis < n and step.other_axis < n and step.axis != step.other_axis
+    circle = step.c * step.c + step.s * step.s
+    return n >= 3 and 1.0 - 2.0**-40 <= circle <= 1.0 + 2.0**-40
+
+def moved_point(step, point):
+    """The step applied to one point."""
+    moved = list(point)
+    if isinstance(step, Slide):
+        moved[step.axis] = point[step.axis] + step.amount
+    elif isinstance(step, Slant):
+        moved[step.axis] = point[step.axis] + step.amount
+        moved[step.other_axis] = point[step.other_axis] + step.other_amount
+    else:
+        moved[0] = point[0] * step.c - point[1] * step.s
+        moved[1] = point[0] * step.s + point[1] * step.c
+        moved[-1] = point[-1] + step.rise
+    return moved
+
+def move(n, v, h, step, points, room):
+    """The points of levels 0 to h."""
+    if not (1 <= n <= 8 and counts_fit(v) and 1 <= h <= 64):
+        return Refused(2)
+    if len(points) != v * n:
+        return Refused(3)
+    if not all(float_fits(x) for x in step_floats(step) + list(points)):
+        return Refused(4)
+    if not step_fits(step, n):
+        return Refused(5)
+    if (h + 1) * v > MOST:
+        return Refused(12)
+    levels = [split(points, n)]
+    for _ in range(h):
+        levels.append([moved_point(step, point) for point in levels[-1]])
+    written = [x for level in levels for point in level for x in point]
+    if not all(float_fits(x) for x in written):
+        return Refused(13)
+    if room < len(written):
+        return Refused(15)
+    return Answer(len(written), written)
+
+# File and key.
+def read_step(kind, axes, floats, data):
+    """The step of a file's header, and the bytes that it leaves unused."""
+    if kind == 1:
+        return Slide(axes[0], floats[0]), data[15:16] + data[24:40]
+    if kind == 2:
+        return Slant(axes[0], floats[0], axes[1], floats[1]), data[32:40]
+    return Turn(*floats), data[14:16]
+
+def read(data, cells_room, points_room):
+    """The numbers, step, cells and points of a file."""
+    if len(data) < 40 or data[0:3] != b"WNG" or data[3:5] != b"\x01\x00":
+        return Refused(1)
+    d, n, v, s, h, kind, *axes = struct.unpack_from("<BBHHHBBB", data, 5)
+    floats = struct.unpack_from("<3d", data, 16)
+    in_limits = d <= 6 and 1 <= n <= 8 and n >= d + 1 and counts_fit(v, s) and 1 <= h <= 64
+    if not (in_limits and kind in (1, 2, 3)):
+        return Refused(2)
+    cells_start = 40 + 8 * v * n
+    if len(data) != cells_start + s * (1 + 2 * (d + 1)):
+        return Refused(3)
+    points = list(struct.unpack_from(f"<{v * n}d", data, 40))
+    if not all(float_fits(x) for x in [*floats, *points]):
+        return Refused(4)
+    step, unused = read_step(kind, axes, floats, data)
+    if any(unused) or not step_fits(step, n):
+        return Refused(5)
+    rows = list(struct.iter_unpack(f"<B{d + 1}H", data[cells_start:]))
+    if refusal := rows_refusal(rows, (43, 45), v):
+        return refusal
+    if cells_room < s * (d + 2) or points_room < v * n:
+        return Refused(15)
+    cells = [word for row in rows for word in (0 if row[0] == 43 else 1, *row[1:])]
+    return ReadAnswer(d, n, v, s, h, step, cells, points)
+
+def coordinate(x):
+    """Three decimals of the exact float, a half away from zero, no minus on zero."""
+    thousandths = math.floor(abs(Fraction(x)) * 1000 + Fraction(1, 2))
+    minus = "-" if x < 0 and thousandths > 0 else ""
+    return f"{minus}{thousandths // 1000}.{thousandths % 1000:03d}"
+
+def list_key(d, n, v, s, table, points, room):
+    """The text of the key of a table and its points."""
+    if not (0 <= d <= 7 and 1 <= n <= 8 and counts_fit(v, s)):
+        return Refused(2)
+    if len(table) != s * (2 * d + 3) or len(points) != v * n:
+        return Refused(3)
+    if not all(float_fits(x) for x in points):
+        return Refused(4)
+    if not sound(d, v, table):
+        return Refused(14)
+    records = table_boundary(d, table)
+    lines = [["key", d, n, v, len(records)]]
+    for number, point in enumerate(split(points, n)):
+        lines.append(["v", number, *map(coordinate, point)])
+    for sign, vertices in records:
+        lines.append(["+" if sign == 1 else "-", *vertices])
+    text = "".join(" ".join(map(str, line)) + "\n" for line in lines).encode()
+    if room < len(text):
+        return Refused(15)
+    return Answer(len(text), text)
+
+def run_key(data):
+    """The calls of the program in order; the first refusal ends it."""
+    if len(data) > PROGRAM_BYTES:
+        return Refused(3)
+    words, floats = PROGRAM_BYTES // 2, PROGRAM_BYTES // 8
+    f = read(data, words, floats)
+    if isinstance(f, Refused):
+        return f
+    table = wing(f.d, f.v, f.s, f.cells, words)
+    if isinstance(table, Refused):
+        return table
+    swept = sweep(f.d, f.v, f.s, f.h, table.written, words)
+    if isinstance(swept, Refused):
+        return swept
+    points = move(f.n, f.v, f.h, f.step, f.points, floats)
+    if isinstance(points, Refused):
+        return points
+    return list_key(f.d + 1, f.n, (f.h + 1) * f.v, f.h * f.s * (f.d + 1),
+                    swept.written, points.written, PROGRAM_BYTES)
+
+def key(data):
+    """What the program prints for any input."""
+    answer = run_key(data)
+    return b"refused %d\n" % answer.number if isinstance(answer, Refused) else answer.written
+
+# The calls as C has them.
+def words_of(data):
+    """Little-endian words; an odd length gives an empty list, which row 3 refuses."""
+    return list(struct.unpack(f"<{len(data) // 2}H", data)) if len(data) % 2 == 0 else []
+
+def c_result(answer):
+    """The count of words and their bytes, or minus the refusal and no bytes."""
+    if isinstance(answer, Refused):
+        return -answer.number, b""
+    return len(answer.written), struct.pack(f"<{len(answer.written)}H", *answer.written)
+
+def c_wing(d, v, s, cells_bytes, table_len):
+    """Wing over bytes."""
+    return c_result(wing(d, v, s, words_of(cells_bytes), table_len // 2))
+
+def c_sweep(d, v, s, h, table_bytes, swept_len):
+    """Sweep over bytes."""
+    return c_result(sweep(d, v, s, h, words_of(table_bytes), swept_len // 2))
+
+def c_faces(d, v, s, table_bytes, faces_len):
+    """Faces over bytes."""
+    return c_result(faces(d, v, s, words_of(table_bytes), faces_len // 2))
+
+if __name__ == "__main__":
+    if sys.argv[1:] != ["key"]:
+        sys.exit("usage: winged_reference.py key < FILE")
+    sys.stdout.buffer.write(key(sys.stdin.buffer.read()))
