@@ -139,6 +139,14 @@ def check_read_rows():
     check("row 6 byte 42", read_number(patched(good, 112, "B", 42)), 6)
     check("row 7 read", read_number(triangle_file(cells=[(1, (0, 1, 3))])), 7)
     check("row 8 read", read_number(triangle_file(cells=[(1, (0, 1, 1))])), 8)
+    worst = triangle_file(step=Slide(3, 1.0), cells=[(1, (0, 1, 1)), (1, (0, 1, 3)), (1, (0, 1, 2))])
+    worst = patched(patched(worst, 126, "B", 42), 104, "d", BIG)
+    mends = ((104, "d", 0.0), (14, "B", 0), (126, "B", 43), (124, "H", 2), (117, "H", 2))
+    lowest = [read_number(worst, 0, 0)]
+    for mend in mends:
+        worst = patched(worst, *mend)
+        lowest.append(read_number(worst, 0, 0))
+    check("read lowest first", lowest, [4, 5, 6, 7, 8, 15])
     check("row 15 cells", read_number(good, 3, 9), 15)
     check("row 15 points", read_number(good, 4, 8), 15)
     check("row 15 enough", read_number(good, 4, 9), 0)

@@ -1,4 +1,5 @@
--- The marked keys, and further computed examples.
+-- Proofs of the statements in specs/.
 pub mod Computing
-pub mod Shorthand
 pub mod MarkedKeys
+pub mod Figures
+pub mod Refusals

@@ -1,0 +1,70 @@
+-- The marked keys K1 to K10, as one statement about the definitions.
+use mathlib.Core.Path.{_≡_}
+use mathlib.Core.List.{List, [], _∷_, _++_}
+use Prim.Native.Nat.{ℕ}
+use lib.ListN.{getD, replicate}
+use lib.Ieee.{binary64, ofBits}
+use Rattle.words.specs.Text.{ascii}
+use Rattle.rules.specs.Calls.{Outcome, accepted, refused}
+use Rattle.simplex.specs.Order.{ascending}
+use Rattle.complex.specs.Accept.{Listed}
+use Rattle.complex.specs.Wing.{wingOutcome}
+use Rattle.sweep.specs.Sides.{side, sidePair}
+use Rattle.sweep.specs.Sweep.{sweepOutcome, entryAt, wingAt}
+use Rattle.boundary.specs.Faces.{facesOutcome, boundaryCells}
+use Rattle.listing.specs.Decimal.{coordinate}
+use Rattle.winged.specs.Key.{printed}
+use Rattle.theorems.specs.Shorthand.{cellOf, entry, listed, toWing, swept, sweptEntries, facesOfSwept}
+
+-- d 0, n 1, V 1, S 1, h 1, slide on axis 0 by 1.0, point 0.5, cell plus 0
+abbrev pub k1File : List ℕ
+k1File =
+    ascii "WNG"
+    ++ (1 ∷ 0 ∷ 0 ∷ 1 ∷ 1 ∷ 0 ∷ 1 ∷ 0 ∷ 1 ∷ 0 ∷ 1 ∷ 0 ∷ 0 ∷ [])
+    ++ (0 ∷ 0 ∷ 0 ∷ 0 ∷ 0 ∷ 0 ∷ 240 ∷ 63 ∷ [])
+    ++ replicate 16 0
+    ++ (0 ∷ 0 ∷ 0 ∷ 0 ∷ 0 ∷ 0 ∷ 224 ∷ 63 ∷ [])
+    ++ (43 ∷ 0 ∷ 0 ∷ [])
+
+abbrev pub k2Solid : Listed
+k2Solid = listed 2 4 (cellOf "+012" ∷ cellOf "-123" ∷ [])
+
+abbrev pub point : Listed
+point = listed 0 1 (cellOf "+0" ∷ [])
+
+abbrev pub segment : Listed
+segment = listed 1 2 (cellOf "+01" ∷ [])
+
+abbrev pub k8Solid : Listed
+k8Solid = listed 4 6 (cellOf "+01234" ∷ cellOf "-12345" ∷ [])
+
+-- one point among v vertices
+abbrev pub pointAmong : ℕ → Listed
+pointAmong v = listed 0 v (cellOf "+0" ∷ [])
+
+pub record MarkedKeys : Type 0 where
+  pub k1 : printed k1File ≡ ascii "key 1 1 2 2\nv 0 0.500\nv 1 1.500\n+ 1\n- 0\n"
+  pub k2-cells :
+      sweptEntries 1 k2Solid
+      ≡ entry "+0124" "1..." ∷ entry "+1245" "2.30" ∷ entry "+2456" ".4.1" ∷ entry "-1235" "4.1." ∷ entry "-2356" "52.3" ∷ entry "-3567" "...4" ∷ []
+  pub k2-faces :
+      boundaryCells (facesOfSwept 1 k2Solid)
+      ≡ cellOf "-024" ∷ cellOf "+014" ∷ cellOf "-012" ∷ cellOf "-145" ∷ cellOf "+456" ∷ cellOf "+246" ∷ cellOf "+135" ∷ cellOf "+123"
+      ∷ cellOf "-236" ∷ cellOf "-567" ∷ cellOf "+367" ∷ cellOf "-357" ∷ []
+  pub k2-calls :
+      (wingOutcome (toWing k2Solid) ≡ accepted 14) × (sweepOutcome (swept 1 k2Solid) ≡ accepted 54) × (facesOutcome (facesOfSwept 1 k2Solid) ≡ accepted 12)
+  pub k3-cells : sweptEntries 3 point ≡ entry "+01" "1." ∷ entry "+12" "20" ∷ entry "+23" ".1" ∷ []
+  pub k3-faces : boundaryCells (facesOfSwept 3 point) ≡ cellOf "-0" ∷ cellOf "+3" ∷ []
+  pub k4 : ascending (cellOf "+210") ≡ cellOf "-012"
+  pub k5-cells : sweptEntries 1 segment ≡ entry "+012" "1.." ∷ entry "-123" "..0" ∷ []
+  pub k5-faces : boundaryCells (facesOfSwept 1 segment) ≡ cellOf "-02" ∷ cellOf "+01" ∷ cellOf "-23" ∷ cellOf "+13" ∷ []
+  -- 0.0625, -0.0625 and -0.0001 by their bits
+  pub k6 :
+      (coordinate (ofBits binary64 0x3fb0000000000000) ≡ ascii "0.063")
+      × (coordinate (ofBits binary64 0xbfb0000000000000) ≡ ascii "-0.063")
+      × (coordinate (ofBits binary64 0xbf1a36e2eb1c432d) ≡ ascii "0.000")
+  pub k7 : (sidePair 2 0 0 ≡ side 1 2) × (sidePair 2 0 1 ≡ side 2 1)
+  pub k8 :
+      (sweepOutcome (swept 3 k8Solid) ≡ accepted 390) × (wingAt (sweptEntries 3 k8Solid) 4 0 ≡ 10) × (wingAt (sweptEntries 3 k8Solid) 10 5 ≡ 4)
+  pub k9 : (sweepOutcome (swept 1 (pointAmong 2048)) ≡ accepted 5) × (sweepOutcome (swept 2 (pointAmong 1366)) ≡ refused 12)
+  pub k10 : wingOutcome (toWing (listed 2 4 (cellOf "+012" ∷ cellOf "+123" ∷ []))) ≡ refused 11

@@ -1,0 +1,53 @@
+-- Short forms in which the examples are written.
+--   cellOf "+0124"        a sign and a row of vertices below 10
+--   entry "+0124" "1..."  a table entry: a cell and its wings, a point for the empty wing
+--   listed d v cs         a list of cells as wing takes it
+--   swept h l             what sweep takes: the table that wing writes for the list, and h steps
+--   sweptEntries h l      the entries of the swept table
+--   facesOfSwept h l      what faces takes: the swept table
+use mathlib.Core.Bool.{Bool, true, false, cond}
+use mathlib.Core.List.{List, [], _∷_, map}
+use Prim.Native.Nat.{ℕ, suc, _-_}
+use Prim.Native.String.{String}
+use lib.Dec.{eqb}
+use lib.ListN.{length, drop, getD}
+use Rattle.words.specs.Records.{concat}
+use Rattle.words.specs.Text.{ascii}
+use Rattle.rules.specs.Limits.{empty, sweptVertices}
+use Rattle.simplex.specs.Cell.{Cell, Row, cell}
+use Rattle.complex.specs.Layout.{Entry, cellWords, entriesOf}
+use Rattle.complex.specs.Accept.{Listed}
+use Rattle.complex.specs.Table.{tableOfList}
+use Rattle.complex.specs.Wing.{WingInput}
+use Rattle.sweep.specs.Sweep.{SweepInput, sweptWords, sweptCells}
+use Rattle.boundary.specs.Faces.{FacesInput}
+
+-- a digit's value; a point, byte 46, is the empty wing
+abbrev pub shown : ℕ → ℕ
+shown x = cond (eqb x 46) empty (x - 48)
+
+abbrev pub cellOf : String → Cell
+cellOf t = cell (eqb (getD (ascii t) 0 0) 43) (map shown (drop 1 (ascii t)))
+
+abbrev pub entry : String → String → Entry
+entry t ws = record { cell = cellOf t; wings = map shown (ascii ws) }
+
+abbrev pub listed : ℕ → ℕ → List Cell → Listed
+listed d v cs = record { d = d; v = v; s = length cs; words = concat (map cellWords cs) }
+
+-- rooms are ample unless an example says otherwise
+abbrev pub ample : ℕ
+ample = 65536
+
+abbrev pub toWing : Listed → WingInput
+toWing l = record { list = l; room = ample }
+
+abbrev pub swept : ℕ → Listed → SweepInput
+swept h l = record { d = l .d; v = l .v; s = l .s; h = h; table = tableOfList l; room = ample }
+
+abbrev pub sweptEntries : ℕ → Listed → List Entry
+sweptEntries h l = entriesOf (suc (l .d)) (sweptCells (l .d) (l .s) h) (sweptWords (swept h l))
+
+abbrev pub facesOfSwept : ℕ → Listed → FacesInput
+facesOfSwept h l =
+    record { d = suc (l .d); v = sweptVertices (l .v) h; s = sweptCells (l .d) (l .s) h; table = sweptWords (swept h l); room = ample }
