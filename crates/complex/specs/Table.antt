@@ -1,14 +1,17 @@
 -- The table of a solid, and soundness.
 --   tableOf cs            the cells with their wings
+--   entryAt es p          entry p of a table
+--   wingAt es p a         wing a of its cell p
 --   tableOfList l         the table of a list of cells, as words
 --   ownTable d v s ws     the table is that of its own cells, and those are acceptable
 --   sound d v s ws        own table, and its numbers are within the limits
-use mathlib.Core.Bool.{Bool, _&&_}
+use mathlib.Core.Bool.{Bool, true, _&&_}
 use mathlib.Core.List.{List, [], _∷_}
 use Prim.Native.Nat.{ℕ, suc}
-use Rattle.rules.specs.Limits.{maxDimension}
+use lib.ListN.{getD}
+use Rattle.rules.specs.Limits.{empty, maxDimension}
 use Rattle.rules.specs.Shapes.{shapeOk}
-use Rattle.simplex.specs.Cell.{Cell, sameRow}
+use Rattle.simplex.specs.Cell.{Cell, cell, sameRow}
 use Rattle.complex.specs.Layout.{Entry, tableWords, ownList}
 use Rattle.complex.specs.Accept.{Listed, solidOf, acceptable}
 use Rattle.complex.specs.Wings.{wingsOf}
@@ -20,6 +23,12 @@ entriesFrom all p (c ∷ cs) = record { cell = c; wings = wingsOf all p c } ∷ 
 
 abbrev pub tableOf : List Cell → List Entry
 tableOf cs = entriesFrom cs 0 cs
+
+abbrev pub entryAt : List Entry → ℕ → Entry
+entryAt es p = getD es p (record { cell = cell true []; wings = [] })
+
+abbrev pub wingAt : List Entry → ℕ → ℕ → ℕ
+wingAt es p a = getD (entryAt es p .wings) a empty
 
 unfoldable pub tableOfList : Listed → List ℕ
 tableOfList l = tableWords (tableOf (solidOf l))

@@ -1,4 +1,5 @@
 -- The key's text, and the call list.
 pub mod Decimal
+pub mod Reading
 pub mod Lines
 pub mod Listing

@@ -15,9 +15,13 @@ abbrev pub countOn : Sign → Row → List Cell → ℕ
 countOn s w [] = 0
 countOn s w (c ∷ cs) = one (times (c .sign) s && sameRow (c .row) w) + countOn s w cs
 
+-- the sum of a number over the rows of a list
+abbrev pub sumRows : (Row → ℕ) → List Cell → ℕ
+sumRows g [] = 0
+sumRows g (c ∷ cs) = g (c .row) + sumRows g cs
+
 abbrev pub total : Row → List Cell → ℕ
-total w [] = 0
-total w (c ∷ cs) = one (sameRow (c .row) w) + total w cs
+total w cs = sumRows (λ y. one (sameRow y w)) cs
 
 abbrev pub Same : List Cell → List Cell → Type 0
 Same xs ys = (s : Sign) (w : Row) → countOn s w xs ≡ countOn s w ys

@@ -3,3 +3,4 @@ pub mod Cell
 pub mod Order
 pub mod Faces
 pub mod Chain
+pub mod Sort

@@ -1,5 +1,6 @@
 -- The sweep: swept cells, their numbers and wings, and the call sweep.
 pub mod Cells
 pub mod Sides
+pub mod SideTable
 pub mod Wings
 pub mod Sweep

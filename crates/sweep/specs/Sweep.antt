@@ -1,28 +1,20 @@
 -- The call sweep: it takes a table and writes the table of its sweep in h steps.
 --   sweptTable d v s h es     the entries over level i, cell p and cell k, in this order
 --   sweepRules, sweepOutcome, sweepBuffer
-use mathlib.Core.Bool.{true, not, _&&_, _||_}
+use mathlib.Core.Bool.{not, _&&_, _||_}
 use mathlib.Core.List.{List, [], _∷_}
 use Prim.Native.Nat.{ℕ, suc, _*_}
 use lib.Dec.{eqb, ltb}
-use lib.ListN.{length, getD}
+use lib.ListN.{length}
 use Rattle.words.specs.Records.{tabulate, concat}
-use Rattle.rules.specs.Limits.{empty, maxSource, maxVertices, maxCells, stepsOk, sweptVertices}
+use Rattle.rules.specs.Limits.{maxSource, maxVertices, maxCells, stepsOk, sweptVertices}
 use Rattle.rules.specs.Shapes.{shapeOk}
 use Rattle.rules.specs.Calls.{Rule, refuse, Outcome, decide, after}
-use Rattle.simplex.specs.Cell.{Cell, cell}
 use Rattle.complex.specs.Layout.{Entry, entriesOf, tableWords}
-use Rattle.complex.specs.Table.{sound}
+use Rattle.complex.specs.Table.{entryAt, wingAt, sound}
 use Rattle.complex.specs.Wing.{tableLength}
 use Rattle.sweep.specs.Cells.{prismCell}
 use Rattle.sweep.specs.Wings.{sweptWing}
-
--- entry p of a table, and its wing a
-abbrev pub entryAt : List Entry → ℕ → Entry
-entryAt es p = getD es p (record { cell = cell true []; wings = [] })
-
-abbrev pub wingAt : List Entry → ℕ → ℕ → ℕ
-wingAt es p a = getD (entryAt es p .wings) a empty
 
 abbrev pub sweptEntry : ℕ → ℕ → ℕ → ℕ → List Entry → ℕ → ℕ → ℕ → Entry
 sweptEntry d v s h es i p k =

@@ -1,1 +1,2 @@
-// The sweep. Definitions only so far: see specs/.
+// The sweep.
+pub mod sides;

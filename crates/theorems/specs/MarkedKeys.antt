@@ -8,9 +8,10 @@ use Rattle.words.specs.Text.{ascii}
 use Rattle.rules.specs.Calls.{Outcome, accepted, refused}
 use Rattle.simplex.specs.Order.{ascending}
 use Rattle.complex.specs.Accept.{Listed}
+use Rattle.complex.specs.Table.{wingAt}
 use Rattle.complex.specs.Wing.{wingOutcome}
 use Rattle.sweep.specs.Sides.{side, sidePair}
-use Rattle.sweep.specs.Sweep.{sweepOutcome, entryAt, wingAt}
+use Rattle.sweep.specs.Sweep.{sweepOutcome}
 use Rattle.boundary.specs.Faces.{facesOutcome, boundaryCells}
 use Rattle.listing.specs.Decimal.{coordinate}
 use Rattle.winged.specs.Key.{printed}

@@ -1,0 +1,3 @@
+-- Laws of boundaries.
+pub mod EmptyWings
+pub mod Lone

@@ -1,0 +1,30 @@
+-- What an accepted list of cells is.
+--   Solid nv cs       on nv vertices: rows ascend, none stands twice, and a face belongs to at most two cells, then with opposite signs
+--   rowAt cs p        the row of cell p
+use mathlib.Core.Bool.{true}
+use mathlib.Core.List.{List, [], _∷_}
+use Prim.Native.Nat.{ℕ, zero, suc, _≤_, _<_}
+use native.Mathlib.Nat.{le-of-suc-le-suc, not-suc-le-zero}
+use lib.ListN.{length, getD}
+use Rattle.simplex.specs.Cell.{Cell, Row, cell}
+use Rattle.simplex.specs.Chain.{total}
+use Rattle.simplex.specs.Faces.{facets}
+use Rattle.simplex.specs.Sort.{Asc}
+use Rattle.simplex.proofs.Cancel.{Paired}
+use Rattle.simplex.proofs.Counts.{All}
+use Rattle.simplex.proofs.Rows.{Good}
+
+pub record Solid (nv : ℕ) (cs : List Cell) : Type 0 where
+  pub rows : All (Good nv) cs
+  pub asc : All Asc cs
+  pub distinct : (r : Row) → total r cs ≤ 1
+  pub meet : (r : Row) → total r (facets cs) ≤ 2
+  pub paired : Paired (facets cs)
+
+abbrev pub rowAt : List Cell → ℕ → Row
+rowAt cs n = (getD cs n (cell true [])) .row
+
+pub all-at : (R : Row → Type 0) (cs : List Cell) → All R cs → (p : ℕ) → p < length cs → R (rowAt cs p)
+all-at R [] a p h = absurd (not-suc-le-zero h)
+all-at R (c ∷ cs) a zero h = a .0
+all-at R (c ∷ cs) a (suc p) h = all-at R cs (a .1) p (le-of-suc-le-suc h)

@@ -1,0 +1,4 @@
+-- Laws of the numbers in print.
+pub mod Rounding
+pub mod Digits
+pub mod Coordinate

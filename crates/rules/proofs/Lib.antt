@@ -1,0 +1,3 @@
+-- Laws of tests, and of what calls answer.
+pub mod Tests
+pub mod Answers

@@ -1,0 +1,129 @@
+-- How often a row is a face of another, and faces that have a vertex.
+use mathlib.Core.Path.{_≡_, refl, sym, ap, ap₂, _∙_}
+use mathlib.Core.Bool.{Bool, true, false, not, cond, _&&_}
+use mathlib.Core.List.{List, [], _∷_, _++_, map}
+use Prim.Native.Nat.{ℕ, zero, suc, _+_, _≤_, _<_}
+use native.Mathlib.Omega.{arith}
+use native.Mathlib.Nat.{le-of-suc-le-suc, not-suc-le-zero}
+use lib.Dec.{eqb}
+use lib.ListN.{length}
+use borrow.Author.Tests.{eqb-true}
+use Rattle.simplex.specs.Cell.{Cell, Row, filled, one, sameRow, times}
+use Rattle.simplex.specs.Chain.{total}
+use Rattle.simplex.specs.Faces.{allFaces, faces, facets, keep, prefixed, without}
+use Rattle.simplex.specs.Sort.{Asc}
+use Rattle.simplex.proofs.Cancel.{total-keep}
+use Rattle.simplex.proofs.Counts.{All, countFaces, sumChain-sumRows, sumFaces-countFaces}
+use Rattle.simplex.proofs.Rows.{hits, sameRow-refl}
+use Rattle.simplex.proofs.Sums.{sumChain-faces}
+
+pub total-faces : (w : Row) (s : Bool) (v : Row) → total w (faces s v) ≡ countFaces (hits w) v
+total-faces w s v = sym (sumChain-sumRows (hits w) true (faces s v)) ∙ sumChain-faces (λ c y. hits w y) s true v ∙ sumFaces-countFaces (hits w) (times s true) v
+
+pub countFaces-face : (g : Row → ℕ) (j : ℕ) (v : Row) → j < length v → g (without j v) ≤ countFaces g v
+countFaces-face g j [] h = absurd (not-suc-le-zero h)
+countFaces-face g zero (x ∷ v) h = omega arith
+countFaces-face g (suc j) (x ∷ v) h = omega (arith, countFaces-face (λ y. g (x ∷ y)) j v (le-of-suc-le-suc h))
+
+pub without-filled : (j : ℕ) (v : Row) → j < length v → 2 ≤ length v → filled (without j v) ≡ true
+without-filled j [] h l = absurd (not-suc-le-zero h)
+without-filled j (x ∷ []) h l = absurd (omega arith)
+without-filled zero (x ∷ y ∷ v) h l = refl
+without-filled (suc j) (x ∷ y ∷ v) h l = refl
+
+-- the position of a face
+pub countFaces-find : (q : Row → Bool) (v : Row) → 1 ≤ countFaces (λ y. one (q y)) v → (b : ℕ) × (b < length v) × (q (without b v) ≡ true)
+countFaces-find q [] h = absurd (not-suc-le-zero h)
+countFaces-find q (x ∷ v) h = go (q v) refl h (countFaces-find (λ y. q (x ∷ y)) v)
+  where
+    go : (t : Bool) → q v ≡ t → 1 ≤ one t + countFaces (λ y. one (q (x ∷ y))) v → (1 ≤ countFaces (λ y. one (q (x ∷ y))) v → (b : ℕ) × (b < length v) × (q (x ∷ without b v) ≡ true)) →
+        (b : ℕ) × (b < suc (length v)) × (q (without b (x ∷ v)) ≡ true)
+    go true e h k = (0, omega arith, e)
+    go false e h k = let r = k (omega arith) in (suc (r .0), omega (arith, r .1), r .2)
+
+-- an ascending row has a face once
+countFaces-none : (q : Row → Bool) (v : Row) → ((y : Row) → q y ≡ false) → countFaces (λ y. one (q y)) v ≡ 0
+countFaces-none q [] h = refl
+countFaces-none q (x ∷ v) h = omega (arith, ap one (h v), countFaces-none (λ y. q (x ∷ y)) v (λ y. h (x ∷ y)))
+
+pub countFaces-once : (w v : Row) → Asc v → countFaces (hits w) v ≤ 1
+countFaces-once w [] s = omega arith
+countFaces-once [] (x ∷ v) s = omega (arith, countFaces-none (λ y. false) v (λ y. refl), one-le (sameRow v []))
+  where
+    one-le : (t : Bool) → one t ≤ 1
+    one-le true = omega arith
+    one-le false = omega arith
+countFaces-once (y ∷ w) (x ∷ []) s = omega arith
+countFaces-once (y ∷ w) (x ∷ z ∷ v) s = go (eqb z y) refl (eqb x y) refl (countFaces-once w (z ∷ v) (s .1))
+  where
+    one-le : (t : Bool) → one t ≤ 1
+    one-le true = omega arith
+    one-le false = omega arith
+    go : (a : Bool) → eqb z y ≡ a → (b : Bool) → eqb x y ≡ b → countFaces (hits w) (z ∷ v) ≤ 1 → one (a && sameRow v w) + countFaces (λ r. one (b && sameRow r w)) (z ∷ v) ≤ 1
+    go true e true f k = absurd (omega (arith, eqb-true z y e, eqb-true x y f))
+    go true e false f k = omega (arith, countFaces-none (λ r. false) (z ∷ v) (λ r. refl), one-le (sameRow v w))
+    go false e true f k = omega arith
+    go false e false f k = omega (arith, countFaces-none (λ r. false) (z ∷ v) (λ r. refl))
+
+pub facets-le : (w : Row) (cs : List Cell) → total w (facets cs) ≤ total w (allFaces cs)
+facets-le w cs = omega (arith, total-keep filled w (allFaces cs), go (filled w) (total w (allFaces cs)))
+  where
+    go : (t : Bool) (n : ℕ) → cond t n 0 ≤ n
+    go true n = omega arith
+    go false n = omega arith
+
+-- rows of two vertices or more: every face has a vertex
+pub keep-all : (q : Row → Bool) (L : List Cell) → All (λ w. q w ≡ true) L → keep (λ c. q (c .row)) L ≡ L
+keep-all q [] a = refl
+keep-all q (c ∷ L) a = rw (a .0) (ap {B = List Cell} (λ r. c ∷ r) (keep-all q L (a .1)))
+
+front-filled : (x : ℕ) (L : List Cell) → All (λ w. filled w ≡ true) (map (prefixed x) L)
+front-filled x [] = tt
+front-filled x (c ∷ L) = (refl, front-filled x L)
+
+pub faces-filled : (s : Bool) (v : Row) → 2 ≤ length v → All (λ w. filled w ≡ true) (faces s v)
+faces-filled s [] l = tt
+faces-filled s (x ∷ []) l = absurd (omega arith)
+faces-filled s (x ∷ y ∷ v) l = (refl, front-filled x (faces (not s) (y ∷ v)))
+
+pub facets-same : (cs : List Cell) → All (λ v. 2 ≤ length v) cs → facets cs ≡ allFaces cs
+facets-same cs a = keep-all filled (allFaces cs) (go cs a)
+  where
+    app : (xs ys : List Cell) → All (λ w. filled w ≡ true) xs → All (λ w. filled w ≡ true) ys → All (λ w. filled w ≡ true) (xs ++ ys)
+    app [] ys a b = b
+    app (c ∷ xs) ys a b = (a .0, app xs ys (a .1) b)
+    go : (cs : List Cell) → All (λ v. 2 ≤ length v) cs → All (λ w. filled w ≡ true) (allFaces cs)
+    go [] a = tt
+    go (c ∷ cs) a = app (faces (c .sign) (c .row)) (allFaces cs) (faces-filled (c .sign) (c .row) (a .0)) (go cs (a .1))
+
+pub keep-append : (q : Cell → Bool) (xs ys : List Cell) → keep q (xs ++ ys) ≡ keep q xs ++ keep q ys
+keep-append q [] ys = refl
+keep-append q (c ∷ xs) ys = ap (λ r. cond (q c) (c ∷ r) r) (keep-append q xs ys) ∙ go (q c)
+  where
+    go : (t : Bool) → cond t (c ∷ (keep q xs ++ keep q ys)) (keep q xs ++ keep q ys) ≡ cond t (c ∷ keep q xs) (keep q xs) ++ keep q ys
+    go true = refl
+    go false = refl
+
+pub keep-ext : (R : Row → Type 0) (q r : Row → Bool) (L : List Cell) → All R L → ((w : Row) → R w → q w ≡ r w) → keep (λ c. q (c .row)) L ≡ keep (λ c. r (c .row)) L
+keep-ext R q r [] a h = refl
+keep-ext R q r (c ∷ L) a h = ap₂ {C = List Cell} (λ t l. cond t (c ∷ l) l) (h (c .row) (a .0)) (keep-ext R q r L (a .1) h)
+
+pub All-map : (R Q : Row → Type 0) (L : List Cell) → ((w : Row) → R w → Q w) → All R L → All Q L
+All-map R Q [] h a = tt
+All-map R Q (c ∷ L) h a = (h (c .row) (a .0), All-map R Q L h (a .1))
+
+pub all-in : (L : List Cell) → All (λ w. 0 < total w L) L
+all-in [] = tt
+all-in (c ∷ L) = (omega (arith, ap one (sameRow-refl (c .row))), All-map (λ w. 0 < total w L) (λ w. 0 < total w (c ∷ L)) L (λ w h. omega arith) (all-in L))
+
+pub All-both : (R Q : Row → Type 0) (L : List Cell) → All R L → All Q L → All (λ w. R w × Q w) L
+All-both R Q [] a b = tt
+All-both R Q (c ∷ L) a b = ((a .0, b .0), All-both R Q L (a .1) (b .1))
+
+pub All-keep : (R : Row → Type 0) (q : Cell → Bool) (L : List Cell) → All R L → All R (keep q L)
+All-keep R q [] a = tt
+All-keep R q (c ∷ L) a = go (q c) (All-keep R q L (a .1))
+  where
+    go : (t : Bool) → All R (keep q L) → All R (cond t (c ∷ keep q L) (keep q L))
+    go true r = (a .0, r)
+    go false r = r

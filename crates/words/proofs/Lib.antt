@@ -1,0 +1,2 @@
+-- Laws of records and bytes.
+pub mod Records
