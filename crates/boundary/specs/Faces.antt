@@ -12,9 +12,8 @@ use Rattle.rules.specs.Limits.{maxDimension}
 use Rattle.rules.specs.Shapes.{shapeOk}
 use Rattle.rules.specs.Calls.{Rule, refuse, Outcome, decide, after}
 use Rattle.simplex.specs.Cell.{Cell}
-use Rattle.complex.specs.Layout.{entriesOf, cellWords}
+use Rattle.complex.specs.Layout.{entriesOf, cellWords, tableLength}
 use Rattle.complex.specs.Table.{sound}
-use Rattle.complex.specs.Wing.{tableLength}
 use Rattle.boundary.specs.Boundary.{boundaryOf}
 
 pub record FacesInput : Type 0 where

@@ -4,6 +4,7 @@ use Prim.Native.Nat.{_*_, suc, ℕ}
 use mathlib.Core.List.{List, map}
 use lib.ListN.{length}
 use mathlib.Core.Bool.{true}
+use borrow.Author.Tests.{eq-eqb}
 use Rattle.words.specs.Records.{concat}
 use Rattle.rules.specs.Limits.{maxDimension}
 use Rattle.rules.specs.Shapes.{shapeOk}
@@ -11,9 +12,8 @@ use Rattle.simplex.specs.Cell.{Cell, Row, sameRow}
 use Rattle.simplex.proofs.Counts.{All}
 use Rattle.simplex.proofs.Rows.{Long, sameRow-refl}
 use Rattle.complex.specs.Accept.{acceptable, solidOf}
-use Rattle.complex.specs.Layout.{cellWords, entriesOf, ownList, recordSize, tableWords}
+use Rattle.complex.specs.Layout.{cellWords, entriesOf, ownList, recordSize, tableLength, tableWords}
 use Rattle.complex.specs.Table.{listed, ownTable, sound, tableOf, tableOfList}
-use Rattle.complex.specs.Wing.{tableLength}
 use Rattle.complex.proofs.Accepted.{listOf, solid-accepted, solid-back}
 use Rattle.complex.proofs.Codec.{Sized, entries-back, own-list, table-length, table-sized}
 use Rattle.complex.proofs.Solid.{Solid}
@@ -43,13 +43,13 @@ module _ (d v : ℕ) (cs : List Cell) (solid : Solid v cs) (long : All (Long (su
       rw (ap acceptable own-cells ∙ solid-accepted d v cs solid long)
       (same-words (tableWords (tableOf cs)) (tableOfList (listed d v (length cs) (tableWords (tableOf cs)))) (sym own-words))
 
+  pub words-length : length (tableWords (tableOf cs)) ≡ tableLength d (length cs)
+  words-length = table-length d (tableOf cs) sized ∙ ap (λ n. n * recordSize d) (entries-length cs 0 cs)
+
   pub table-sound : shapeOk maxDimension d v (length cs) ≡ true → sound d v (length cs) (tableWords (tableOf cs)) ≡ true
   unfolding sound
-  table-sound e = rw e own-table
+  table-sound e = rw (e, eq-eqb (length (tableWords (tableOf cs))) (tableLength d (length cs)) words-length) own-table
 
   -- reading the table's words gives its entries
   pub entries-of-words : entriesOf d (length cs) (tableWords (tableOf cs)) ≡ tableOf cs
   entries-of-words = ap (λ n. entriesOf d n (tableWords (tableOf cs))) (sym (entries-length cs 0 cs)) ∙ entries-back d (tableOf cs) sized
-
-  pub words-length : length (tableWords (tableOf cs)) ≡ tableLength d (length cs)
-  words-length = table-length d (tableOf cs) sized ∙ ap (λ n. n * recordSize d) (entries-length cs 0 cs)

@@ -7,7 +7,7 @@
 --   ownList d s ws    a table without its wings: the list of its cells
 --   tableWords es     the words of a table
 use mathlib.Core.List.{List, [], _∷_, _++_, map}
-use Prim.Native.Nat.{ℕ, zero, suc, _+_}
+use Prim.Native.Nat.{ℕ, _+_, _*_}
 use lib.Dec.{eqb}
 use lib.ListN.{take, drop, getD}
 use mathlib.Core.Bool.{true, false}
@@ -20,6 +20,10 @@ listSize d = d + 2
 
 abbrev pub recordSize : ℕ → ℕ
 recordSize d = d + d + 3
+
+-- words of a table of s cells
+abbrev pub tableLength : ℕ → ℕ → ℕ
+tableLength d s = s * recordSize d
 
 abbrev pub signOf : ℕ → Sign
 signOf x = eqb x 0

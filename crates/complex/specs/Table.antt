@@ -4,15 +4,16 @@
 --   wingAt es p a         wing a of its cell p
 --   tableOfList l         the table of a list of cells, as words
 --   ownTable d v s ws     the table is that of its own cells, and those are acceptable
---   sound d v s ws        own table, and its numbers are within the limits
+--   sound d v s ws        its numbers are within the limits, its length is what they say, and it is its own table
 use mathlib.Core.Bool.{Bool, true, _&&_}
 use mathlib.Core.List.{List, [], _∷_}
 use Prim.Native.Nat.{ℕ, suc}
-use lib.ListN.{getD}
+use lib.Dec.{eqb}
+use lib.ListN.{length, getD}
 use Rattle.rules.specs.Limits.{empty, maxDimension}
 use Rattle.rules.specs.Shapes.{shapeOk}
 use Rattle.simplex.specs.Cell.{Cell, cell, sameRow}
-use Rattle.complex.specs.Layout.{Entry, tableWords, ownList}
+use Rattle.complex.specs.Layout.{Entry, tableLength, tableWords, ownList}
 use Rattle.complex.specs.Accept.{Listed, solidOf, acceptable}
 use Rattle.complex.specs.Wings.{wingsOf}
 
@@ -41,4 +42,4 @@ unfoldable pub ownTable : ℕ → ℕ → ℕ → List ℕ → Bool
 ownTable d v s ws = let l = listed d v s ws in acceptable l && sameRow ws (tableOfList l)
 
 unfoldable pub sound : ℕ → ℕ → ℕ → List ℕ → Bool
-sound d v s ws = shapeOk maxDimension d v s && ownTable d v s ws
+sound d v s ws = shapeOk maxDimension d v s && (eqb (length ws) (tableLength d s) && ownTable d v s ws)

@@ -11,16 +11,13 @@ use lib.ListN.{length}
 use Rattle.rules.specs.Limits.{maxDimension}
 use Rattle.rules.specs.Shapes.{shapeOk}
 use Rattle.rules.specs.Calls.{Rule, refuse, onPart, Outcome, decide, after}
-use Rattle.complex.specs.Layout.{listSize, recordSize}
+use Rattle.complex.specs.Layout.{listSize, tableLength}
 use Rattle.complex.specs.Accept.{Listed, solidRules}
 use Rattle.complex.specs.Table.{tableOfList}
 
 pub record WingInput : Type 0 where
   pub list : Listed
   pub room : ℕ
-
-abbrev pub tableLength : ℕ → ℕ → ℕ
-tableLength d s = s * recordSize d
 
 unfoldable pub wingRules : List (Rule WingInput)
 wingRules =

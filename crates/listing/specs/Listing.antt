@@ -10,9 +10,8 @@ use Rattle.words.specs.Records.{allOf}
 use Rattle.rules.specs.Limits.{maxDimension, axesOk}
 use Rattle.rules.specs.Shapes.{shapeOk}
 use Rattle.rules.specs.Calls.{Rule, refuse, Outcome, decide, after}
-use Rattle.complex.specs.Layout.{entriesOf}
+use Rattle.complex.specs.Layout.{entriesOf, tableLength}
 use Rattle.complex.specs.Table.{sound}
-use Rattle.complex.specs.Wing.{tableLength}
 use Rattle.boundary.specs.Boundary.{boundaryOf}
 use Rattle.points.specs.Step.{inRange}
 use Rattle.listing.specs.Lines.{keyText}

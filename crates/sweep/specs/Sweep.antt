@@ -10,9 +10,8 @@ use Rattle.words.specs.Records.{tabulate, concat}
 use Rattle.rules.specs.Limits.{maxSource, maxVertices, maxCells, stepsOk, sweptVertices}
 use Rattle.rules.specs.Shapes.{shapeOk}
 use Rattle.rules.specs.Calls.{Rule, refuse, Outcome, decide, after}
-use Rattle.complex.specs.Layout.{Entry, entriesOf, tableWords}
+use Rattle.complex.specs.Layout.{Entry, entriesOf, tableWords, tableLength}
 use Rattle.complex.specs.Table.{entryAt, wingAt, sound}
-use Rattle.complex.specs.Wing.{tableLength}
 use Rattle.sweep.specs.Cells.{prismCell}
 use Rattle.sweep.specs.Wings.{sweptWing}
 
