@@ -18,12 +18,13 @@ use Rattle.simplex.specs.Chain.{total}
 use Rattle.simplex.specs.Faces.{facets}
 use Rattle.simplex.specs.Order.{ascending, itself, sorted}
 use Rattle.simplex.specs.Sort.{Asc}
+use Rattle.simplex.proofs.Ascending.{ascending-of-asc}
 use Rattle.simplex.proofs.Cancel.{loneIn, plus-minus}
 use Rattle.simplex.proofs.Counts.{All}
 use Rattle.simplex.proofs.FaceCounts.{All-both, All-map}
 use Rattle.simplex.proofs.Insert.{Each, sortBy-all}
 use Rattle.simplex.proofs.Rows.{Below, Filled, Good, Long}
-use Rattle.simplex.proofs.Sorting.{ascending-of-asc, sorted-ascends, sorted-length}
+use Rattle.simplex.proofs.Sorting.{sorted-ascends, sorted-length}
 use Rattle.simplex.proofs.Sums.{plusOn, sumChain}
 use Rattle.complex.specs.Accept.{Listed, acceptable, badSign, cellTwice, crowdedFace, equalSigns, listedCells, repeats, solidOf, solidRules, vertexBeyond, vertexTwice}
 use Rattle.complex.specs.Layout.{cellOf, cellWords, cellsOf, listSize, signWord}

@@ -1,14 +1,27 @@
 -- Laws of signed simplices.
+--   Signs Rows Without                  products of signs; rows; rows less a vertex
+--   Up Insert Sorting Swaps Ascending   rows that ascend, sorting, exchanges of neighbours, orientation
+--   Places Faces                        where each vertex of the sorted row stood; the faces by position
+--   Sums Counts Cancel FaceCounts       sums over signed cells and over faces; faces that cancel
+--   Pairs Sunk Sinking                  one entry sinks to its place
+--   Front Eight Ordered                 the first entries of a row of eight put in order
+pub mod Signs
+pub mod Rows
+pub mod Without
 pub mod Up
 pub mod Insert
 pub mod Sorting
 pub mod Swaps
+pub mod Ascending
 pub mod Places
 pub mod Faces
-pub mod Signs
-pub mod Rows
-pub mod Without
 pub mod Sums
 pub mod Counts
 pub mod Cancel
 pub mod FaceCounts
+pub mod Pairs
+pub mod Sunk
+pub mod Sinking
+pub mod Front
+pub mod Eight
+pub mod Ordered

@@ -30,7 +30,16 @@ times-swap true false b = refl
 times-swap false true b = refl
 times-swap false false b = not-not b
 
-times-comm : (s t b : Bool) → times s (times t b) ≡ times t (times s b)
+pub times-comm : (s t b : Bool) → times s (times t b) ≡ times t (times s b)
 times-comm true t b = refl
 times-comm false true b = refl
 times-comm false false b = refl
+
+pub times-true : (s : Bool) → times s true ≡ s
+times-true true = refl
+times-true false = refl
+
+pub times-not-not : (s t : Bool) → times (not s) (not t) ≡ times s t
+times-not-not true true = refl
+times-not-not true false = refl
+times-not-not false t = refl

@@ -1,1 +1,2 @@
-// Signed simplices. Definitions only so far: see specs/.
+// Signed simplices: a row of vertices in ascending order, and the sign of the reordering.
+pub mod sort;

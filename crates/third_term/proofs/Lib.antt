@@ -1,0 +1,4 @@
+-- The proof of the third term.
+pub mod BoundarySum
+pub mod Decides
+pub mod Coefficients
