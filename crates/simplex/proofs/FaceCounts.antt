@@ -13,8 +13,8 @@ use Rattle.simplex.specs.Chain.{total}
 use Rattle.simplex.specs.Faces.{allFaces, faces, facets, keep, prefixed, without}
 use Rattle.simplex.specs.Sort.{Asc}
 use Rattle.simplex.proofs.Cancel.{total-keep}
-use Rattle.simplex.proofs.Counts.{All, countFaces, sumChain-sumRows, sumFaces-countFaces}
-use Rattle.simplex.proofs.Rows.{hits, sameRow-refl}
+use Rattle.simplex.proofs.Counts.{All, All-append, countFaces, sumChain-sumRows, sumFaces-countFaces}
+use Rattle.simplex.proofs.Rows.{Long, hits, sameRow-refl}
 use Rattle.simplex.proofs.Sums.{sumChain-faces}
 
 pub total-faces : (w : Row) (s : Bool) (v : Row) → total w (faces s v) ≡ countFaces (hits w) v
@@ -127,3 +127,18 @@ All-keep R q (c ∷ L) a = go (q c) (All-keep R q L (a .1))
     go : (t : Bool) → All R (keep q L) → All R (cond t (c ∷ keep q L) (keep q L))
     go true r = (a .0, r)
     go false r = r
+
+-- faces have one vertex less
+front-long : (n x : ℕ) (L : List Cell) → All (Long n) L → All (Long (suc n)) (map (prefixed x) L)
+front-long n x [] a = tt
+front-long n x (c ∷ L) a = (ap suc (a .0), front-long n x L (a .1))
+
+pub faces-long : (n : ℕ) (s : Bool) (w : Row) → length w ≡ suc n → All (Long n) (faces s w)
+faces-long n s [] e = absurd (omega arith)
+faces-long zero s (x ∷ []) e = (refl, tt)
+faces-long zero s (x ∷ (y ∷ w)) e = absurd (omega arith)
+faces-long (suc n) s (x ∷ w) e = (omega arith, front-long n x (faces (not s) w) (faces-long n (not s) w (omega arith)))
+
+pub allFaces-long : (n : ℕ) (cs : List Cell) → All (Long (suc n)) cs → All (Long n) (allFaces cs)
+allFaces-long n [] a = tt
+allFaces-long n (c ∷ cs) a = All-append (Long n) (faces (c .sign) (c .row)) (allFaces cs) (faces-long n (c .sign) (c .row) (a .0)) (allFaces-long n cs (a .1))

@@ -18,7 +18,7 @@ use Rattle.sweep.proofs.SweptSolid.{swept-facets}
 use Rattle.sweep.proofs.SweptSums.{sumChain-level, sweep-id, sweptParts}
 use Rattle.boundary.specs.Boundary.{ownBoundary}
 
-abbrev overSweep : Functional → ℕ → ℕ → Functional
+abbrev pub overSweep : Functional → ℕ → ℕ → Functional
 overSweep f nv zero c y = 0
 overSweep f nv (suc h) c y = overSweep f nv h c y + overPrism f (h * nv) (suc h * nv) c y
 
@@ -43,9 +43,9 @@ module _ (nv : ℕ) (cs : List Cell) (s : Solid nv cs) where
   bd-is h f =
       omega (arith, sweep-id f nv h cs, sumChain-allFaces f true (sweepOf nv h cs), sumChain-allFaces f false (sweepOf nv h cs), lone-cancel (allFaces (sweepOf nv h cs)) (swept-paired nv cs s h) f, ap (sumChain f true) (bd-eq h), ap (sumChain f false) (bd-eq h))
 
-  pub boundary : (h : ℕ) (f : Functional) →
+  pub boundary-sum : (h : ℕ) (f : Functional) →
       sumChain f true (sweptBoundary nv h cs) + (sumChain (atHeight f (h * nv)) false cs + sumChain (atHeight f (zero * nv)) true cs + sumChain f false (sweepOf nv h (ownBoundary cs)))
       ≡ (sumChain (atHeight f (h * nv)) true cs + sumChain (atHeight f (zero * nv)) false cs + sumChain f true (sweepOf nv h (ownBoundary cs))) + sumChain f false (sweptBoundary nv h cs)
-  boundary h f =
+  boundary-sum h f =
       omega (arith, bd-is h f, lone-cancel (facets cs) (s .paired) (overSweep f nv h), sumChain-facets (overSweep f nv h) true cs (λ c. overSweep-nil f nv h c), sumChain-facets (overSweep f nv h) false cs (λ c. overSweep-nil f nv h c)
       , sumChain-sweep f nv h true (ownBoundary cs), sumChain-sweep f nv h false (ownBoundary cs), sumChain-sweep f nv h true (allFaces cs), sumChain-sweep f nv h false (allFaces cs))

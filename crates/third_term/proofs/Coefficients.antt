@@ -6,10 +6,9 @@ use Prim.Native.Nat.{ℕ, zero, suc, _+_, _*_, _-_, _≤_, _<_}
 use native.Mathlib.Omega.{arith}
 use native.Mathlib.Nat.{add-zero, sub-zero}
 use lib.Dec.{ltb}
-use lib.IntN.{pos, negsuc, subℕ, _+ℤ_, _-ℤ_, negℤ, negℤ-negℤ, negℤ-+ℤ, +ℤ-assoc, +ℤ-comm, pos-+ℤ-pos}
+use lib.IntN.{ℤ, pos, negsuc, subℕ, _+ℤ_, _-ℤ_, negℤ, negℤ-negℤ, negℤ-+ℤ, +ℤ-assoc, +ℤ-comm, pos-+ℤ-pos}
 use borrow.Author.Tests.{ltb-true, ltb-false, lt-ltb, le-ltb}
-use Rattle.simplex.specs.Cell.{Cell, Row, alternating, times}
-use Rattle.simplex.specs.Chain.{coefficient}
+use Rattle.simplex.specs.Cell.{Cell, Row, alternating, cell, times}
 use Rattle.simplex.proofs.Counts.{All}
 use Rattle.simplex.proofs.Rows.{Long}
 use Rattle.simplex.proofs.Signs.{not-not, times-comm}
@@ -19,9 +18,16 @@ use Rattle.sweep.specs.Cells.{sweepOf, topCopy}
 use Rattle.sweep.proofs.Level.{atHeight, raised}
 use Rattle.sweep.proofs.Prism.{top}
 use Rattle.boundary.specs.Boundary.{ownBoundary}
-use Rattle.third_term.specs.ThirdTerm.{signed}
-use Rattle.third_term.proofs.BoundarySum.{sweptBoundary}
+use Rattle.third_term.proofs.BoundarySum.{boundary-sum, sweptBoundary}
 use Rattle.third_term.proofs.Decides.{raised-zero}
+
+-- the coefficient of a list at a row, by sums
+abbrev pub value : Row → List Cell → ℤ
+value w cs = pos (sumChain (plusOn w) true cs) -ℤ pos (sumChain (plusOn w) false cs)
+
+-- (-1)^d z
+abbrev pub times-ℤ : ℕ → ℤ → ℤ
+times-ℤ d z = cond (alternating d) z (negℤ z)
 
 diff-sub : (a b : ℕ) → pos a -ℤ pos b ≡ subℕ a b
 diff-sub a zero = rw (le-ltb a zero (omega arith), sub-zero a) (ap pos (add-zero a))
@@ -55,10 +61,10 @@ sumChain-copy f nv i d b (c ∷ cs) a =
 
 copy-zero : (nv : ℕ) (cs : List Cell) → topCopy nv 0 cs ≡ cs
 copy-zero nv [] = refl
-copy-zero nv (c ∷ cs) = ap₂ {C = List Cell} (λ v r. (c .sign, v) ∷ r) (raised-zero nv (c .row)) (copy-zero nv cs)
+copy-zero nv (c ∷ cs) = ap₂ {C = List Cell} (λ v r. cell (c .sign) v ∷ r) (raised-zero nv (c .row)) (copy-zero nv cs)
 
 pub coefficients : (nv d h : ℕ) (cs : List Cell) → Solid nv cs → All (Long (suc d)) cs → (w : Row) →
-    coefficient w (sweptBoundary nv h cs) ≡ signed d (coefficient w (topCopy nv h cs) -ℤ coefficient w cs) +ℤ coefficient w (sweepOf nv h (ownBoundary cs))
+    value w (sweptBoundary nv h cs) ≡ times-ℤ d (value w (topCopy nv h cs) -ℤ value w cs) +ℤ value w (sweepOf nv h (ownBoundary cs))
 coefficients nv d h cs s ln w = go (alternating d) (sumChain-copy (plusOn w) nv h d) (λ b. sumChain-copy (plusOn w) nv 0 d b cs ln ∙ ap (sumChain (plusOn w) (times (alternating d) b)) (copy-zero nv cs))
   where
     B⁺ : ℕ
@@ -77,8 +83,8 @@ coefficients nv d h cs s ln w = go (alternating d) (sumChain-copy (plusOn w) nv 
         ((b : Bool) → sumChain (atHeight (plusOn w) (0 * nv)) b cs ≡ sumChain (plusOn w) (times e b) cs) →
         pos B⁺ -ℤ pos B⁻ ≡ cond e ((pos (t true) -ℤ pos (t false)) -ℤ (pos (a true) -ℤ pos (a false))) (negℤ ((pos (t true) -ℤ pos (t false)) -ℤ (pos (a true) -ℤ pos (a false)))) +ℤ (pos R⁺ -ℤ pos R⁻)
     go true top bot =
-        diff-eq B⁺ B⁻ (t true + a false + R⁺) (t false + a true + R⁻) (omega (arith, boundary nv cs s h (plusOn w), top true cs ln, top false cs ln, bot true, bot false))
+        diff-eq B⁺ B⁻ (t true + a false + R⁺) (t false + a true + R⁻) (omega (arith, boundary-sum nv cs s h (plusOn w), top true cs ln, top false cs ln, bot true, bot false))
         ∙ sym (ap (λ z. z +ℤ (pos R⁺ -ℤ pos R⁻)) (ap (λ z. (pos (t true) -ℤ pos (t false)) +ℤ z) (diff-neg (a true) (a false)) ∙ diff-add (t true) (t false) (a false) (a true)) ∙ diff-add (t true + a false) (t false + a true) R⁺ R⁻)
     go false top bot =
-        diff-eq B⁺ B⁻ (t false + a true + R⁺) (t true + a false + R⁻) (omega (arith, boundary nv cs s h (plusOn w), top true cs ln, top false cs ln, bot true, bot false))
+        diff-eq B⁺ B⁻ (t false + a true + R⁺) (t true + a false + R⁻) (omega (arith, boundary-sum nv cs s h (plusOn w), top true cs ln, top false cs ln, bot true, bot false))
         ∙ sym (ap (λ z. z +ℤ (pos R⁺ -ℤ pos R⁻)) (ap negℤ (ap (λ z. (pos (t true) -ℤ pos (t false)) +ℤ z) (diff-neg (a true) (a false)) ∙ diff-add (t true) (t false) (a false) (a true)) ∙ diff-neg (t true + a false) (t false + a true)) ∙ diff-add (t false + a true) (t true + a false) R⁺ R⁻)

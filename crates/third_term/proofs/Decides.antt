@@ -7,7 +7,6 @@ use mathlib.Core.List.{List, [], _∷_, _++_}
 use Prim.Native.Nat.{ℕ, zero, _+_, _*_, _/_, _≤_, _<_}
 use native.Mathlib.Omega.{arith}
 use native.Mathlib.Nat.{zero-mul, add-zero, div-eq-of-lt}
-use lib.IntN.{pos}
 use lib.ListN.{length}
 use borrow.Author.Tests.{eq-eqb}
 use Rattle.simplex.specs.Cell.{Cell, Row, cell, one, sameRow, times}
@@ -25,7 +24,7 @@ use Rattle.sweep.proofs.FaceKinds.{sideCount}
 use Rattle.sweep.proofs.Level.{atHeight, dimensionSign, raised}
 use Rattle.sweep.proofs.Pairs.{no-side, off-level}
 use Rattle.boundary.proofs.Lone.{lone-once}
-use Rattle.third_term.proofs.BoundarySum.{bd-is, sumChain-sweep, sweptBoundary}
+use Rattle.third_term.proofs.BoundarySum.{bd-is, overSweep, sumChain-sweep, sweptBoundary}
 
 -- (3a)
 neg : List Cell → List Cell
@@ -103,8 +102,8 @@ seen nv w (c ∷ cs) a = go (sameRow (c .row) w) (sameRow-true (c .row) w) (seen
     go false h (inr g) = inr g
 
 module _ (nv h : ℕ) (xa xb : List Cell) (sa : Solid nv xa) (sb : Solid nv xb) where
-  pub backFrom : 0 < h → SameSums (sweptBoundary nv h xa) (sweptBoundary nv h xb) → SameSums xa xb
-  backFrom pos e w = go (seen nv w xa (sa .rows)) (seen nv w xb (sb .rows))
+  pub back : 0 < h → SameSums (sweptBoundary nv h xa) (sweptBoundary nv h xb) → SameSums xa xb
+  back some e w = go (seen nv w xa (sa .rows)) (seen nv w xb (sb .rows))
     where
       goal : Type 0
       goal = (sumChain (plusOn w) true xa ≡ sumChain (plusOn w) true xb) × (sumChain (plusOn w) false xa ≡ sumChain (plusOn w) false xb)

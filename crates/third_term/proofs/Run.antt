@@ -1,0 +1,151 @@
+-- One sitting: what wing and sweep write, and the boundary of the swept table.
+use mathlib.Core.Path.{_≡_, ap, ap₂, refl, sym, _∙_}
+use Prim.Native.Nat.{_*_, _<_, suc, ℕ, _≤_}
+use mathlib.Core.List.{List}
+use native.Mathlib.Omega.{arith}
+use lib.ListN.{drop, length, length-map, take}
+use borrow.Author.Tests.{eq-eqb, le-leb, le-ltb, leb-true}
+use lib.Dec.{leb}
+use native.Mathlib.Nat.{mul-pos, suc-mul}
+use lib.Seq.{take-at}
+use mathlib.Core.Bool.{true}
+use Rattle.words.specs.Records.{part}
+use Rattle.words.proofs.Records.{tabulate-length}
+use Rattle.rules.specs.Calls.{accepted, written}
+use Rattle.rules.specs.Limits.{empty, maxCells, maxDimension, maxSource, maxSteps, maxVertices, sizesOk, sweptVertices, verticesOk, within}
+use Rattle.rules.specs.Shapes.{shapeOk}
+use Rattle.rules.proofs.Tests.{and-parts}
+use Rattle.simplex.specs.Cell.{Cell}
+use Rattle.simplex.specs.Order.{ascending}
+use Rattle.simplex.proofs.Counts.{All}
+use Rattle.simplex.proofs.Rows.{Long}
+use Rattle.complex.specs.Accept.{listedCells}
+use Rattle.complex.specs.Layout.{Entry, cellOf, entriesOf, listSize, tableLength, tableWords}
+use Rattle.complex.specs.Table.{sound, tableOf, tableOfList}
+use Rattle.complex.specs.Wing.{wingBuffer}
+use Rattle.complex.proofs.Accepted.{accepted-solid}
+use Rattle.complex.proofs.OwnTable.{entries-of-words, table-sound, words-length}
+use Rattle.complex.proofs.Solid.{Solid}
+use Rattle.sweep.specs.Cells.{sweepOf}
+use Rattle.sweep.specs.Sweep.{sweepBuffer, sweptCells, sweptLength, sweptTable, sweptWords}
+use Rattle.sweep.proofs.SweptRows.{len-sweep}
+use Rattle.sweep.proofs.SweptSolid.{swept-long, swept-solid}
+use Rattle.sweep.proofs.SweptTable.{swept-table}
+use Rattle.boundary.specs.Boundary.{boundaryOf, ownBoundary}
+use Rattle.boundary.specs.Faces.{boundaryCells, faceSize, facesBuffer, facesOutcome, facesRules}
+use Rattle.boundary.proofs.EmptyWings.{boundary-own}
+use Rattle.third_term.specs.ThirdTerm.{Sitting, Unrefused, boundary, boundaryWords, list, solid, sweptWritten, tableWritten, toFaces, toSweep, toWing}
+use Rattle.third_term.proofs.Acceptance.{Swept, Winged, swept-is, winged-is}
+
+-- the front of a buffer that was written to
+front-written : (xs buf : List ℕ) (n : ℕ) → length xs ≡ n → take n (written xs buf) ≡ xs
+front-written xs buf n e = take-at xs (drop (length xs) buf) n e
+
+module _ (d v h : ℕ) (x : Sitting) (u : Unrefused d v h x) where
+  abbrev cs : List Cell
+  cs = solid d v h x
+
+  abbrev T : List Cell
+  T = sweepOf v h cs
+
+  wing-facts : Winged (toWing d v h x)
+  wing-facts = winged-is (toWing d v h x) (tableLength d (x .s)) (u .winged)
+
+  sweep-facts : Swept (toSweep d v h x)
+  sweep-facts = swept-is (toSweep d v h x) (sweptLength (toSweep d v h x)) (u .swept)
+
+  pub is-solid : Solid v cs
+  is-solid = accepted-solid (list d v h x) (wing-facts .size) (wing-facts .cells) .0
+
+  pub is-long : All (Long (suc d)) cs
+  is-long = accepted-solid (list d v h x) (wing-facts .size) (wing-facts .cells) .1
+
+  count : length cs ≡ x .s
+  count = length-map (listedCells (list d v h x)) ascending ∙ tabulate-length (x .s) (λ p. cellOf (part (listSize d) p (x .cells)))
+
+  -- wing writes the table of the solid
+  table-is : tableWritten d v h x ≡ tableWords (tableOf cs)
+  unfolding wingBuffer tableOfList
+  table-is =
+      rw (u .winged)
+      (front-written (tableWords (tableOf cs)) (x .tableBuffer) (tableLength d (x .s)) (words-length d v cs is-solid is-long ∙ ap (tableLength d) count))
+
+  entries-are : entriesOf d (x .s) (tableWritten d v h x) ≡ tableOf cs
+  entries-are = ap₂ {C = List Entry} (λ n ws. entriesOf d n ws) (sym count) table-is ∙ entries-of-words d v cs is-solid is-long
+
+  numbers : (1 ≤ v) × (1 ≤ x .s) × (x .s ≤ maxCells) × (d ≤ maxSource) × (1 ≤ h)
+  numbers =
+      let s1 = and-parts (leb d maxSource) (sizesOk v (x .s)) (sweep-facts .shape) in
+      let s2 = and-parts (verticesOk v) (within 1 maxCells (x .s)) (s1 .1) in
+      let vs = and-parts (leb 1 v) (leb v maxVertices) (s2 .0) in
+      let ss = and-parts (leb 1 (x .s)) (leb (x .s) maxCells) (s2 .1) in
+      let hs = and-parts (leb 1 h) (leb h maxSteps) (sweep-facts .steps) in
+      (leb-true 1 v (vs .0), leb-true 1 (x .s) (ss .0), leb-true (x .s) maxCells (ss .1), leb-true d maxSource (s1 .0), leb-true 1 h (hs .0))
+
+  pub some-steps : 0 < h
+  some-steps = numbers .4
+
+  small : length cs ≤ empty
+  small = omega (arith, count, numbers .2)
+
+  swept-count : length T ≡ sweptCells d (x .s) h
+  swept-count = len-sweep v (suc d) h cs is-long ∙ ap (λ n. h * (n * suc d)) count
+
+  swept-small : length T ≤ empty
+  swept-small = omega (arith, swept-count, sweep-facts .cells)
+
+  -- the sweep of an accepted solid is a solid
+  pub swept-is-solid : Solid (sweptVertices v h) T
+  swept-is-solid = swept-solid v h cs is-solid
+
+  pub swept-is-long : All (Long (suc (suc d))) T
+  swept-is-long = swept-long v h (suc d) cs is-long
+
+  -- sweep writes the table of the swept cells: the wings that the rule gives are their neighbours
+  swept-words : sweptWords (toSweep d v h x) ≡ tableWords (tableOf T)
+  unfolding sweptWords
+  swept-words =
+      ap (λ es. tableWords (sweptTable d v (x .s) h es)) entries-are
+      ∙ ap (λ n. tableWords (sweptTable d v n h (tableOf cs))) (sym count)
+      ∙ ap tableWords (swept-table v d h cs is-solid is-long small)
+
+  pub swept-table-is : sweptWritten d v h x ≡ tableWords (tableOf T)
+  unfolding sweepBuffer
+  swept-table-is =
+      rw (u .swept)
+      (front-written (sweptWords (toSweep d v h x)) (x .sweptBuffer) (sweptLength (toSweep d v h x))
+      (ap length swept-words ∙ words-length (suc d) (sweptVertices v h) T swept-is-solid swept-is-long ∙ ap (tableLength (suc d)) swept-count)
+      ∙ swept-words)
+
+  -- the boundary off its empty wings is the swept cells' own
+  pub boundary-is : boundary d v h x ≡ ownBoundary T
+  boundary-is =
+      ap boundaryOf
+      (ap₂ {C = List Entry} (λ n ws. entriesOf (suc d) n ws) (sym swept-count) swept-table-is ∙ entries-of-words (suc d) (sweptVertices v h) T swept-is-solid swept-is-long)
+      ∙ boundary-own (sweptVertices v h) (suc d) T swept-is-solid swept-is-long swept-small
+
+  swept-shape : shapeOk maxDimension (suc d) (sweptVertices v h) (sweptCells d (x .s) h) ≡ true
+  swept-shape =
+      let cells-some : 0 < h * (x .s * suc d) = mul-pos (numbers .4) (mul-pos (numbers .1) (omega arith)) in
+      rw (le-leb (suc d) maxDimension (omega (arith, numbers .3)), le-leb 1 (sweptVertices v h) (omega (arith, numbers .0, suc-mul h v)), le-leb (sweptVertices v h) maxVertices (sweep-facts .vertices)
+      , le-leb 1 (sweptCells d (x .s) h) cells-some, le-leb (sweptCells d (x .s) h) maxCells (sweep-facts .cells)) refl
+
+  swept-length-is : length (sweptWritten d v h x) ≡ tableLength (suc d) (sweptCells d (x .s) h)
+  swept-length-is = ap length swept-table-is ∙ words-length (suc d) (sweptVertices v h) T swept-is-solid swept-is-long ∙ ap (tableLength (suc d)) swept-count
+
+  -- the swept table is sound
+  pub swept-sound : sound (suc d) (sweptVertices v h) (sweptCells d (x .s) h) (sweptWritten d v h x) ≡ true
+  swept-sound =
+      ap₂ (λ n ws. sound (suc d) (sweptVertices v h) n ws) (sym swept-count) swept-table-is
+      ∙ table-sound (suc d) (sweptVertices v h) T swept-is-solid swept-is-long (ap (shapeOk maxDimension (suc d) (sweptVertices v h)) swept-count ∙ swept-shape)
+
+  -- so faces does not refuse it
+  pub faces-accepts : (out : List ℕ) → length (boundary d v h x) * faceSize (suc d) ≤ length out → facesOutcome (toFaces d v h x out) ≡ accepted (length (boundary d v h x))
+  unfolding facesOutcome facesRules boundaryCells
+  faces-accepts out room =
+      rw (swept-shape, eq-eqb (length (sweptWritten d v h x)) (tableLength (suc d) (sweptCells d (x .s) h)) swept-length-is, swept-sound
+      , le-ltb (length out) (length (boundary d v h x) * faceSize (suc d)) room) refl
+
+  pub faces-writes : (out : List ℕ) → length (boundary d v h x) * faceSize (suc d) ≤ length out → facesBuffer (toFaces d v h x out) out ≡ written (boundaryWords d v h x) out
+  unfolding facesBuffer boundaryCells
+  faces-writes out room = rw (faces-accepts out room) refl
