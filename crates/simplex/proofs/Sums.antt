@@ -16,12 +16,10 @@ use Rattle.simplex.proofs.Signs.{times-not, times-not-r}
 abbrev pub Functional : Type 0
 Functional = Bool → Row → ℕ
 
--- sum of f over the signed faces of a row: column b
 abbrev pub sumFaces : Functional → Bool → Row → ℕ
 sumFaces f b [] = 0
 sumFaces f b (x ∷ w) = f b w + sumFaces (λ c y. f c (x ∷ y)) (not b) w
 
--- the sum of a functional over a chain: column b
 abbrev pub sumChain : Functional → Bool → List Cell → ℕ
 sumChain f b [] = 0
 sumChain f b (c ∷ cs) = f (times (c .sign) b) (c .row) + sumChain f b cs
@@ -51,7 +49,6 @@ pub sumChain-not : (f : Functional) (b : Bool) (cs : List Cell) → sumChain (λ
 sumChain-not f b [] = refl
 sumChain-not f b (c ∷ cs) = rw (times-not-r (c .sign) b) (omega (arith, sumChain-not f b cs))
 
--- plus and minus count at a row: S (ind w) true, S (ind w) false
 abbrev pub plusOn : Row → Functional
 plusOn w c y = one (c && sameRow y w)
 

@@ -34,7 +34,6 @@ overSweep-nil f nv (suc h) c = omega (arith, overSweep-nil f nv h c)
 abbrev pub sweptBoundary : ℕ → ℕ → List Cell → List Cell
 sweptBoundary nv h cs = ownBoundary (sweepOf nv h cs)
 
--- (3c), for any functional and in columns
 module _ (nv : ℕ) (cs : List Cell) (s : Solid nv cs) where
   bd-eq : (h : ℕ) → sweptBoundary nv h cs ≡ keep (λ c. loneIn (allFaces (sweepOf nv h cs)) (c .row)) (allFaces (sweepOf nv h cs))
   bd-eq h = ap (λ F. keep (λ c. loneIn F (c .row)) F) (swept-facets nv h cs s)

@@ -26,7 +26,7 @@ use Rattle.sweep.proofs.Pairs.{no-side, off-level}
 use Rattle.boundary.proofs.Lone.{lone-once}
 use Rattle.third_term.proofs.BoundarySum.{bd-is, overSweep, sumChain-sweep, sweptBoundary}
 
--- (3a)
+-- the list with every sign turned over
 neg : List Cell → List Cell
 neg [] = []
 neg (c ∷ cs) = cell (not (c .sign)) (c .row) ∷ neg cs
