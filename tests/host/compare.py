@@ -1,0 +1,182 @@
+"""Compares wing, sweep and faces, called from C, with the unrelated reference.
+
+usage: compare.py DRIVER [SEED]
+
+DRIVER is tests/host/driver.c linked with the library. Random solids and tables of dimension 0 to 7, damaged ones,
+both sides of every limit, and two faults at once. Every buffer is compared byte for byte, also after a refusal.
+Last line: 'N passed, M failed'.
+"""
+
+import collections
+import os
+import random
+import struct
+import subprocess
+import sys
+
+sys.path.insert(0, os.path.join(os.path.dirname(os.path.abspath(__file__)), "..", "reference"))
+import solids  # noqa: E402
+import winged_reference as reference  # noqa: E402
+
+FRESH = b"\xa5"
+WING, SWEEP, FACES = 1, 2, 3
+NAMES = {WING: "wing", SWEEP: "sweep", FACES: "faces"}
+ROWS = {WING: {2, 3, 6, 7, 8, 9, 10, 11, 15}, SWEEP: {2, 3, 12, 14, 15}, FACES: {2, 3, 14, 15}}
+
+Request = collections.namedtuple("Request", "call d v s h data room")
+
+
+def as_bytes(words):
+    return struct.pack(f"<{len(words)}H", *words)
+
+
+def expected(r):
+    """The reference's result, and the output buffer after the call."""
+    if r.call == WING:
+        result, written = reference.c_wing(r.d, r.v, r.s, r.data, r.room)
+    elif r.call == SWEEP:
+        result, written = reference.c_sweep(r.d, r.v, r.s, r.h, r.data, r.room)
+    else:
+        result, written = reference.c_faces(r.d, r.v, r.s, r.data, r.room)
+    return result, written + FRESH * (r.room - len(written))
+
+
+def damaged_list(words, d, v, s, rng):
+    """A list of cells with one or two faults, of the same length."""
+    words, size = list(words), d + 2
+    for _ in range(rng.randint(1, 2)):
+        place = rng.randrange(len(words))
+        if place % size == 0:
+            words[place] = rng.choice((0, 1, 2, 43, 65535))
+        else:
+            words[place] = rng.choice((0, v - 1, v, 65535, rng.randrange(v), words[place - 1]))
+        if rng.random() < 0.2:
+            p, q = rng.randrange(s) * size, rng.randrange(s) * size
+            words[p:p + size] = words[q:q + size]
+    return words
+
+
+def with_numbers(r, rng):
+    """The request with one number at the edge of its limits."""
+    field, values = rng.choice((
+        ("d", (7, 8, 6, 255, 2**32 - 1)), ("v", (0, 1, 4096, 4097, 65536, 2**32 - 1)),
+        ("s", (0, 1, 4096, 4097, 65536, 2**32 - 1)), ("h", (0, 64, 65, 2**32 - 1))))
+    return r._replace(**{field: rng.choice(values)})
+
+
+def with_length(r, rng):
+    """The request with an input of another length."""
+    return r._replace(data=rng.choice((r.data[:-2], r.data[:-1], r.data + b"\0", r.data + b"\0\0", b"")))
+
+
+def with_room(r, rng):
+    """The request with the room that its answer needs, a little more or a little less."""
+    result, _ = expected(r._replace(room=1 << 18))
+    need = 2 * result if result > 0 else 64
+    return r._replace(room=max(0, need + rng.choice((0, 0, 1, 2, 7, -1, -2, -need))))
+
+
+def faulty(r, rng):
+    """The request with no, one or two faults of its frame."""
+    for change in rng.choice(((), (), (with_numbers,), (with_length,), (with_numbers, with_length), (with_length, with_room))):
+        r = change(r, rng)
+    return r
+
+
+def requests_for(d, v, cells, rng):
+    """Wing, sweep and faces of one solid, good and damaged."""
+    s = len(cells)
+    words = solids.cell_words(solids.shuffled(cells, rng, rng.random() < 0.9))
+    if rng.random() < 0.4:
+        words = damaged_list(words, d, v, s, rng)
+    yield with_room(Request(WING, d, v, s, 1, as_bytes(words), 0), rng)
+    yield faulty(with_room(Request(WING, d, v, s, 1, as_bytes(words), 0), rng), rng)
+    answer = reference.wing(d, v, s, solids.cell_words(cells), 1 << 17)
+    if isinstance(answer, reference.Refused):
+        return
+    table = answer.written
+    bad = solids.damaged_table(table, d, v, s, rng)
+    h = rng.choice((1, 1, 2, 3, 5, 64))
+    for t in (table, bad):
+        yield faulty(with_room(Request(SWEEP, d, v, s, h, as_bytes(t), 0), rng), rng)
+        yield faulty(with_room(Request(FACES, d, v, s, h, as_bytes(t), 0), rng), rng)
+
+
+def edge_requests(rng):
+    """Requests at the limits: as many vertices and cells as there may be."""
+    for d in range(8):
+        v = 4096
+        cells = [(1, tuple(range(p, p + d + 1))) for p in range(0, 4096 - d, max(1, 2 * d))]
+        words = solids.cell_words(cells)
+        request = Request(WING, d, v, len(cells), 1, as_bytes(words), 2 * len(cells) * (2 * d + 3))
+        yield request
+        table = reference.wing(d, v, len(cells), words, 1 << 17).written
+        yield Request(FACES, d, v, len(cells), 1, as_bytes(table), 1 << 19)
+        yield Request(SWEEP, d, v, len(cells), 1, as_bytes(table), 1 << 19)
+    points = [(1, (p,)) for p in range(4096)]
+    yield Request(WING, 0, 4096, 4096, 1, as_bytes(solids.cell_words(points)), 1 << 19)
+    for v, h in ((2048, 1), (2049, 1), (1366, 2), (1365, 2), (63, 64), (64, 64)):
+        table = reference.wing(0, v, 1, [0, 0], 1 << 17).written
+        yield Request(SWEEP, 0, v, 1, h, as_bytes(table), 1 << 19)
+    for d in range(1, 8):
+        v, strip = 4096, [((-1) ** (p * d), tuple(range(p, p + d + 1))) for p in range(4096 - d)]
+        words = solids.cell_words(strip)
+        yield Request(WING, d, v, len(strip), 1, as_bytes(words), 1 << 19)
+
+
+def all_requests(rng):
+    yield from edge_requests(rng)
+    for _ in range(1500):
+        d = rng.choice((0, 1, 1, 2, 2, 3, 3, 4, 5, 6, 7))
+        v, cells = solids.small_solid(d, rng)
+        yield from requests_for(d, v, cells, rng)
+
+
+def ask(driver, requests):
+    """The driver's answers: (result, output buffer) for each request."""
+    sent = b"".join(
+        struct.pack("<7I", r.call, r.d, r.v, r.s, r.h, len(r.data), r.room) + r.data for r in requests)
+    done = subprocess.run([driver], input=sent, stdout=subprocess.PIPE, check=False)
+    if done.returncode != 0:
+        print(f"driver: exit status {done.returncode}")
+        return None
+    answers, at = [], 0
+    for r in requests:
+        (result,) = struct.unpack_from("<q", done.stdout, at)
+        answers.append((result, done.stdout[at + 8:at + 8 + r.room]))
+        at += 8 + r.room
+    return answers
+
+
+def main():
+    rng = random.Random(int(sys.argv[2]) if len(sys.argv) > 2 else 20260)
+    requests = list(all_requests(rng))
+    answers = ask(sys.argv[1], requests)
+    if answers is None:
+        print("0 passed, 1 failed")
+        return 1
+    passed = failed = 0
+    hit = {call: collections.Counter() for call in NAMES}
+    for r, got in zip(requests, answers):
+        want = expected(r)
+        hit[r.call][-want[0] if want[0] < 0 else 0] += 1
+        if got == want:
+            passed += 1
+        else:
+            failed += 1
+            if failed <= 10:
+                print(f"{NAMES[r.call]} d {r.d} v {r.v} s {r.s} h {r.h} input {len(r.data)} room {r.room}: "
+                      f"got {got[0]}, want {want[0]}{'' if got[0] != want[0] else ', other bytes'}")
+    for call, rows in ROWS.items():
+        missing = (rows | {0}) - set(hit[call])
+        passed += not missing
+        failed += bool(missing)
+        print(f"{NAMES[call]}: " + ", ".join(f"{'accepted' if n == 0 else 'refused %d' % n} {c}" for n, c in sorted(hit[call].items())))
+        if missing:
+            print(f"{NAMES[call]}: no request for {sorted(missing)}")
+    print(f"{passed} passed, {failed} failed")
+    return 1 if failed else 0
+
+
+if __name__ == "__main__":
+    sys.exit(main())

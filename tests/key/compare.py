@@ -1,0 +1,73 @@
+"""Compares the program key with the unrelated reference.
+
+usage: compare.py PROGRAM [SEED]
+
+Thousands of random files, good and damaged, and files at the limits. Last line: 'N passed, M failed'.
+"""
+
+import collections
+import os
+import random
+import subprocess
+import sys
+
+sys.path.insert(0, os.path.join(os.path.dirname(os.path.abspath(__file__)), "..", "reference"))
+import solids  # noqa: E402
+import winged_reference as reference  # noqa: E402
+
+FILES = 3000
+# row 14 cannot come out of the program: it lists only tables that it made
+OUTCOMES = {"key"} | {f"refused {n}" for n in range(1, 16) if n != 14}
+
+
+def edge_files(rng):
+    """Inputs at the program's limits: empty, 65,536 bytes and one more, and long ones."""
+    yield b""
+    good = solids.random_file(rng, 2)
+    for length in (39, 40, 65535, 65536, 65537, 200000):
+        yield good[:length] + b"\0" * (length - len(good))
+    # a good file of just under 65,536 bytes: 4,096 vertices of one axis, many points
+    v, n = 1000, 8
+    cells = [(1, (p,)) for p in range(300)]
+    points = [rng.uniform(-9, 9) for _ in range(v * n)]
+    yield solids.file_bytes(0, n, v, 1, reference.Slide(7, 1.0), points, cells)
+
+
+def files(rng):
+    yield from edge_files(rng)
+    for _ in range(FILES):
+        data = solids.random_file(rng)
+        yield solids.damaged(data, rng) if rng.random() < 0.6 else data
+
+
+def outcome(text):
+    return text.decode().strip() if text.startswith(b"refused") else "key"
+
+
+def main():
+    program = sys.argv[1]
+    rng = random.Random(int(sys.argv[2]) if len(sys.argv) > 2 else 20261)
+    passed = failed = 0
+    seen = collections.Counter()
+    for number, data in enumerate(files(rng)):
+        want = reference.key(data)
+        got = subprocess.run([program], input=data, stdout=subprocess.PIPE, check=False).stdout
+        seen[outcome(want)] += 1
+        if got == want:
+            passed += 1
+        else:
+            failed += 1
+            if failed <= 10:
+                print(f"file {number} of {len(data)} bytes: got {got[:60]!r}, want {want[:60]!r}")
+    missing = OUTCOMES - set(seen)
+    passed += not missing
+    failed += bool(missing)
+    print(", ".join(f"{name} {count}" for name, count in sorted(seen.items())))
+    if missing:
+        print(f"no file for: {sorted(missing)}")
+    print(f"{passed} passed, {failed} failed")
+    return 1 if failed else 0
+
+
+if __name__ == "__main__":
+    sys.exit(main())

@@ -1,0 +1,228 @@
+#!/usr/bin/env python3
+"""Solids written by hand: text to file and back, refusals explained, random solids.
+
+usage: solid.py pack [TEXT [FILE]]     text to file (default: standard input and output)
+       solid.py unpack [FILE [TEXT]]   file to text
+       solid.py explain N              what refusal N means
+       solid.py random D V S SEED      a random accepted solid as text: dimension, vertices, cells, seed
+       solid.py --help
+
+The text, with anything after # a comment:
+
+    steps 2
+    slide 2 1.0              # axis and amount; or: slant 0 0.5 2 1.0; or: turn COSINE SINE RISE
+    v 0 0 0                  # one line a vertex, numbered from 0: its coordinates
+    v 1 0 0
+    v 0 1 0
+    + 0 1 2                  # one line a cell: its sign and its vertices
+
+Exit status: 0 done; 1 bad text or file, with its line; 2 wrong usage.
+"""
+
+import random
+import struct
+import sys
+
+REASONS = {
+    1: "the file is under 40 bytes, or its mark WNG or its version is wrong",
+    2: "a number is outside its limits, or the kind of step is not 1, 2 or 3",
+    3: "a length is not what the numbers say",
+    4: "a float is not finite, or its magnitude is 1,048,576 or more",
+    5: "the step does not fit: an axis beyond the space, slant axes equal, a turn with under 3 axes or off the "
+       "unit circle, or an unused part that is not zero",
+    6: "a sign is not one of the two",
+    7: "a vertex number is not below the count of vertices",
+    8: "a vertex stands twice in a cell",
+    9: "two cells are on the same vertices",
+    10: "a face is in three or more cells",
+    11: "two cells share a face with equal signs",
+    12: "the sweep has over 4,096 vertices or cells",
+    13: "a moved coordinate is not finite, or its magnitude is 1,048,576 or more",
+    14: "the table is not sound: it is not the table of its own cells",
+    15: "a lent buffer is shorter than the answer",
+}
+KINDS = {"slide": 1, "slant": 2, "turn": 3}
+NUMBERS = {"slide": "an axis and an amount", "slant": "an axis and an amount, twice", "turn": "cosine, sine and rise"}
+
+
+class Bad(Exception):
+    """Bad text or file: a message, and the line where it is."""
+
+    def __init__(self, message, line=None):
+        super().__init__(message if line is None else f"line {line}: {message}")
+
+
+def whole(word, line, most=65535):
+    if not word.isdecimal() or int(word) > most:
+        raise Bad(f"{word!r} is no whole number from 0 to {most}", line)
+    return int(word)
+
+
+def decimal(word, line):
+    try:
+        return float.fromhex(word) if "0x" in word.lower() else float(word)
+    except ValueError:
+        raise Bad(f"{word!r} is no number", line) from None
+
+
+def parse_step(words, line):
+    """The step's kind, its two axis bytes and its three floats."""
+    kind, rest = words[0], words[1:]
+    wanted = {"slide": 2, "slant": 4, "turn": 3}[kind]
+    if len(rest) != wanted:
+        raise Bad(f"{kind} takes {NUMBERS[kind]}", line)
+    if kind == "turn":
+        return 3, (0, 0), tuple(decimal(w, line) for w in rest)
+    axes = tuple(whole(w, line, 255) for w in rest[::2])
+    amounts = tuple(decimal(w, line) for w in rest[1::2])
+    return KINDS[kind], axes + (0,) * (2 - len(axes)), amounts + (0.0,) * (3 - len(amounts))
+
+
+def parse(text):
+    """Steps, step, points and cells of a text."""
+    steps = step = None
+    points, cells = [], []
+    for line, content in enumerate(text.splitlines(), 1):
+        words = content.split("#")[0].split()
+        if not words:
+            continue
+        head = words[0]
+        if head == "steps":
+            if steps is not None or len(words) != 2:
+                raise Bad("one line 'steps COUNT' is wanted", line)
+            steps = whole(words[1], line)
+        elif head in KINDS:
+            if step is not None:
+                raise Bad("a second step", line)
+            step = parse_step(words, line)
+        elif head == "v":
+            points.append([decimal(w, line) for w in words[1:]])
+            if not points[-1] or len(points[-1]) != len(points[0]):
+                raise Bad(f"a vertex takes as many coordinates as the first, {len(points[0])}", line)
+        elif head in "+-" and len(head) == 1:
+            cells.append((head, [whole(w, line) for w in words[1:]]))
+            if not cells[-1][1] or len(cells[-1][1]) != len(cells[0][1]):
+                raise Bad(f"a cell takes as many vertices as the first, {len(cells[0][1])}", line)
+        else:
+            raise Bad(f"{head!r} begins no line: steps, slide, slant, turn, v, + or -", line)
+    for name, part in (("steps", steps), ("step (slide, slant or turn)", step), ("vertex", points), ("cell", cells)):
+        if part is None or part == []:
+            raise Bad(f"no {name} in the text")
+    return steps, step, points, cells
+
+
+def pack(text):
+    """The file of a text. What the text says is kept, also where the program will refuse it."""
+    steps, (kind, axes, floats), points, cells = parse(text)
+    d, n = len(cells[0][1]) - 1, len(points[0])
+    if d > 255 or n > 255 or len(points) > 65535 or len(cells) > 65535:
+        raise Bad("too many vertices, cells or coordinates for a file")
+    data = b"WNG" + struct.pack("<HBBHHHBBB3d", 1, d, n, len(points), len(cells), steps, kind, *axes, *floats)
+    data += b"".join(struct.pack(f"<{n}d", *p) for p in points)
+    return data + b"".join(sign.encode() + struct.pack(f"<{d + 1}H", *vertices) for sign, vertices in cells)
+
+
+def unpack(data):
+    """The text of a file."""
+    if len(data) < 40 or data[:3] != b"WNG":
+        raise Bad("no file of a solid: it does not begin with WNG, or is under 40 bytes")
+    version, d, n, v, s, h, kind, a, b, x, y, z = struct.unpack_from("<HBBHHHBBB3d", data, 3)
+    size = 2 * d + 3
+    if version != 1 or kind not in (1, 2, 3) or len(data) != 40 + 8 * v * n + s * size:
+        raise Bad("the version, the kind of step or the length is wrong")
+    step = {1: f"slide {a} {x!r}", 2: f"slant {a} {x!r} {b} {y!r}", 3: f"turn {x!r} {y!r} {z!r}"}[kind]
+    lines = [f"steps {h}", step]
+    for p in range(v):
+        lines.append("v " + " ".join(repr(c) for c in struct.unpack_from(f"<{n}d", data, 40 + 8 * n * p)))
+    for p in range(s):
+        at = 40 + 8 * v * n + p * size
+        sign = chr(data[at])
+        if sign not in "+-":
+            raise Bad(f"cell {p}: the sign is byte {data[at]}")
+        lines.append(sign + " " + " ".join(map(str, struct.unpack_from(f"<{d + 1}H", data, at + 1))))
+    return "\n".join(lines) + "\n"
+
+
+def faces(sign, row):
+    """The signed faces of an ascending cell; none in dimension 0."""
+    return [((-1) ** i * sign, row[:i] + row[i + 1:]) for i in range(len(row))] if len(row) > 1 else []
+
+
+def random_cells(d, v, s, rng):
+    """Up to s cells of dimension d, grown face by face so that wing accepts them."""
+    cells, taken, open_faces = [], set(), {}
+    for _ in range(60 * s):
+        if len(cells) == s:
+            break
+        row = sorted(rng.sample(range(v), d + 1))
+        if cells and d and rng.random() < 0.8:
+            _, near = rng.choice(cells)
+            row = sorted(set(near[:-1]) | {rng.randrange(v)}) if rng.random() < 0.5 else sorted(set(near[1:]) | {rng.randrange(v)})
+        row = tuple(row)
+        if len(row) != d + 1 or row in taken:
+            continue
+        for sign in rng.sample((1, -1), 2):
+            found = faces(sign, row)
+            if all(open_faces.get(f, -t) == -t for t, f in found):
+                cells.append((sign, row))
+                taken.add(row)
+                for t, f in found:
+                    open_faces[f] = "full" if f in open_faces else t
+                break
+    return cells
+
+
+def random_text(d, v, s, seed):
+    if not (0 <= d <= 6 and d < v <= 4096 and 1 <= s <= 4096):
+        raise Bad("wanted: dimension 0 to 6, vertices above it and up to 4,096, cells 1 to 4,096")
+    rng = random.Random(seed)
+    n = min(8, d + 1)
+    lines = [f"# dimension {d}, {v} vertices, up to {s} cells, seed {seed}", "steps 1", f"slide {n - 1} 1.0"]
+    lines += ["v " + " ".join(str(rng.randrange(-999, 1000) / 8) for _ in range(n)) for _ in range(v)]
+    lines += [("+" if sign > 0 else "-") + " " + " ".join(map(str, row)) for sign, row in random_cells(d, v, s, rng)]
+    return "\n".join(lines) + "\n"
+
+
+def load(path):
+    if path is None or path == "-":
+        return sys.stdin.buffer.read()
+    with open(path, "rb") as file:
+        return file.read()
+
+
+def save(path, data):
+    if path is None or path == "-":
+        sys.stdout.buffer.write(data)
+    else:
+        with open(path, "wb") as file:
+            file.write(data)
+
+
+def main(words):
+    path = lambda k: words[k] if len(words) > k else None
+    if words == ["--help"]:
+        print(__doc__.strip())
+    elif words[:1] == ["pack"] and len(words) <= 3:
+        try:
+            text = load(path(1)).decode()
+        except UnicodeDecodeError:
+            raise Bad("the text is not UTF-8") from None
+        save(path(2), pack(text))
+    elif words[:1] == ["unpack"] and len(words) <= 3:
+        save(path(2), unpack(load(path(1))).encode())
+    elif words[:1] == ["explain"] and len(words) == 2 and words[1].isdecimal() and int(words[1]) in REASONS:
+        print(f"refused {words[1]}: {REASONS[int(words[1])]}")
+    elif words[:1] == ["random"] and len(words) == 5 and all(w.isdecimal() for w in words[1:]):
+        save(None, random_text(*map(int, words[1:])).encode())
+    else:
+        print("solid.py: wrong usage; try solid.py --help", file=sys.stderr)
+        return 2
+    return 0
+
+
+if __name__ == "__main__":
+    try:
+        sys.exit(main(sys.argv[1:]))
+    except (Bad, OSError) as fault:
+        print(f"solid.py: {fault}", file=sys.stderr)
+        sys.exit(1)
