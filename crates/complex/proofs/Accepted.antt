@@ -18,12 +18,12 @@ use Rattle.simplex.specs.Chain.{total}
 use Rattle.simplex.specs.Faces.{facets}
 use Rattle.simplex.specs.Order.{ascending, itself, sorted}
 use Rattle.simplex.specs.Sort.{Asc}
-use Rattle.simplex.proofs.Ascending.{ascending-of-asc}
 use Rattle.simplex.proofs.Cancel.{loneIn, plus-minus}
 use Rattle.simplex.proofs.Counts.{All}
 use Rattle.simplex.proofs.FaceCounts.{All-both, All-map}
 use Rattle.simplex.proofs.Insert.{Each, sortBy-all}
 use Rattle.simplex.proofs.Rows.{Below, Filled, Good, Long}
+use Rattle.simplex.proofs.Ascending.{ascending-of-asc}
 use Rattle.simplex.proofs.Sorting.{sorted-ascends, sorted-length}
 use Rattle.simplex.proofs.Sums.{plusOn, sumChain}
 use Rattle.complex.specs.Accept.{Listed, acceptable, badSign, cellTwice, crowdedFace, equalSigns, listedCells, repeats, solidOf, solidRules, vertexBeyond, vertexTwice}
@@ -62,7 +62,7 @@ unfolding acceptable solidRules
 passes l p = rw (p .sign, p .vertex, p .twice, p .cell, p .crowded, p .equal) refl
 
 -- rows of records
-part-length : (n p s : ℕ) (ws : List ℕ) → p < s → length ws ≡ s * n → length (part n p ws) ≡ n
+pub part-length : (n p s : ℕ) (ws : List ℕ) → p < s → length ws ≡ s * n → length (part n p ws) ≡ n
 part-length n p s ws h e =
     length-take-le n (drop (p * n) ws) (rw (length-drop (p * n) ws) (omega (arith, suc-mul p n, mul-le-mul-right {m = suc p} {n = s} n h)))
 

@@ -61,7 +61,7 @@ without-length a [] h = absurd (not-suc-le-zero h)
 without-length zero (x ∷ w) h = refl
 without-length (suc a) (x ∷ w) h = ap suc (without-length a w (le-of-suc-le-suc h))
 
-without-none : (a : ℕ) (w : Row) → length w ≤ a → without a w ≡ w
+pub without-none : (a : ℕ) (w : Row) → length w ≤ a → without a w ≡ w
 without-none a [] h = refl
 without-none zero (x ∷ w) h = absurd (not-suc-le-zero h)
 without-none (suc a) (x ∷ w) h = ap {B = Row} (λ r. x ∷ r) (without-none a w (le-of-suc-le-suc h))
@@ -78,7 +78,7 @@ neighbour-long n p w cs long h = go (eqb (neighbour p w cs) empty) refl
     go true e = eqb-true (neighbour p w cs) empty e
     go false e = absurd (not-one (neighbour-is p 0 w cs (eqb-false (neighbour p w cs) empty e)))
 
-neighbour-of-nothing : (p n : ℕ) (cs : List Cell) → neighbourFrom p n [] cs ≡ empty
+pub neighbour-of-nothing : (p n : ℕ) (cs : List Cell) → neighbourFrom p n [] cs ≡ empty
 neighbour-of-nothing p n [] = refl
 neighbour-of-nothing p n (c ∷ cs) = rw (and-false (not (eqb p n))) (neighbour-of-nothing p (suc n) cs)
 

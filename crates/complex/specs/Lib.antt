@@ -4,3 +4,8 @@ pub mod Accept
 pub mod Wings
 pub mod Table
 pub mod Wing
+pub mod Matching
+pub mod Scan
+pub mod Pairing
+pub mod Held
+pub mod Buckets

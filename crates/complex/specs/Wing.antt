@@ -1,5 +1,6 @@
 -- The call wing: it takes a list of cells and writes its table.
 --   WingInput         the list, and the room of the lent buffer in words
+--   wingInput         the input of these numbers, these words and this room
 --   wingRules         its refusals, in order
 --   wingOutcome       the count of words written, or the refusal
 --   wingBuffer        the lent buffer after the call
@@ -18,6 +19,9 @@ use Rattle.complex.specs.Table.{tableOfList}
 pub record WingInput : Type 0 where
   pub list : Listed
   pub room : ℕ
+
+abbrev pub wingInput : ℕ → ℕ → ℕ → List ℕ → ℕ → WingInput
+wingInput d v s cells room = record { list = record { d = d; v = v; s = s; words = cells }; room = room }
 
 unfoldable pub wingRules : List (Rule WingInput)
 wingRules =

@@ -1,1 +1,8 @@
-// Solids and their tables. Definitions only so far: see specs/.
+// Solids and their tables.
+mod adjacency;
+mod gather;
+mod matching;
+pub mod sound;
+mod table;
+mod take;
+pub mod wing;

@@ -1,0 +1,118 @@
+-- The cases of the call wing, as its code finds them.
+--   input             the call's input
+use mathlib.Core.Path.{_≡_, refl, sym, ap, _∙_}
+use mathlib.Core.Bool.{Bool, true, false, cond}
+use mathlib.Core.List.{List, [], _∷_, map, _++_}
+use Prim.Native.Nat.{ℕ, suc, _*_, _≤_, _<_, zero}
+use native.Mathlib.Omega.{arith}
+use lib.Dec.{leb, ltb}
+use lib.ListN.{length, drop}
+use borrow.Author.Tests.{eq-eqb, ne-eqb, lt-ltb, le-ltb, leb-true}
+use Rattle.words.specs.Records.{tabulate}
+use Rattle.words.proofs.Records.{tabulate-length}
+use Rattle.rules.specs.Calls.{accepted, firstRefusal, onPart, refuse, refused, written}
+use Rattle.rules.specs.Limits.{maxCells, maxDimension, sizesOk, verticesOk, within}
+use Rattle.rules.specs.Shapes.{shapeOk}
+use Rattle.rules.proofs.Answers.{allNumbered, firstRefusal-onPart, firstRefusal-passed, firstRefusal-refused}
+use Rattle.rules.proofs.Tests.{and-parts}
+use Rattle.simplex.specs.Cell.{Sign}
+use Rattle.simplex.specs.Faces.{facets}
+use Rattle.complex.specs.Accept.{Listed, badSign, cellTwice, crowdedFace, equalSigns, listedCells, solidOf, solidRules, vertexBeyond, vertexTwice}
+use Rattle.complex.specs.Held.{Taken, recordList, tableWord}
+use Rattle.complex.specs.Layout.{listSize, tableLength, tableWords}
+use Rattle.complex.specs.Table.{tableOf, tableOfList}
+use Rattle.complex.specs.Wing.{WingInput, wingBuffer, wingInput, wingOutcome, wingRules}
+use Rattle.complex.proofs.Filling.{parts-of}
+use Rattle.complex.proofs.TableWords.{table-words}
+
+-- what the limits say
+pub limits-of : (d v s : ℕ) → shapeOk maxDimension d v s ≡ true → (d ≤ 7) × (1 ≤ s) × (s ≤ 4096)
+limits-of d v s e =
+    let a = and-parts (leb d 7) (sizesOk v s) e in
+    let b = and-parts (verticesOk v) (within 1 maxCells s) (a .1) in
+    let c = and-parts (leb 1 s) (leb s maxCells) (b .1) in
+    (leb-true d 7 (a .0), leb-true 1 s (c .0), leb-true s 4096 (c .1))
+
+six-range : (a b c d e f : Bool) (k : ℕ) → k ≡ cond a 6 (cond b 7 (cond c 8 (cond d 9 (cond e 10 (cond f 11 0))))) → (k ≡ 0 → ⊥) → (6 ≤ k) × (k ≤ 11)
+six-range true b c d e f k h n = omega arith
+six-range false true c d e f k h n = omega arith
+six-range false false true d e f k h n = omega arith
+six-range false false false true e f k h n = omega arith
+six-range false false false false true f k h n = omega arith
+six-range false false false false false true k h n = omega arith
+six-range false false false false false false k h n = absurd (n h)
+
+pub solid-range : (l : Listed) (k : ℕ) → k ≡ firstRefusal solidRules l → (k ≡ 0 → ⊥) → (6 ≤ k) × (k ≤ 11)
+unfolding solidRules
+solid-range l k e n =
+    six-range (badSign l) (vertexBeyond (l .v) (listedCells l)) (vertexTwice (listedCells l)) (cellTwice (solidOf l)) (crowdedFace (facets (solidOf l))) (equalSigns (facets (solidOf l))) k e n
+
+-- a list of words is the list of its records
+pub whole-list : (d v s : ℕ) (ws : List ℕ) → length ws ≡ s * listSize d → recordList (listSize d) d v s ws ≡ record { d = d; v = v; s = s; words = ws }
+whole-list d v s ws e = ap (λ (xs : List ℕ). record { d = d; v = v; s = s; words = xs }) (parts-of (listSize d) s ws e)
+
+module _ (d v s : ℕ) (cells : List ℕ) (room : ℕ) where
+  abbrev input : WingInput
+  input = wingInput d v s cells room
+
+  pub outcome-refused : (k : ℕ) (out : List ℕ) → 0 < k → firstRefusal wingRules (wingInput d v s cells room) ≡ k →
+      (refused k ≡ wingOutcome (wingInput d v s cells room)) × (out ≡ wingBuffer (wingInput d v s cells room) out)
+  unfolding wingOutcome wingBuffer
+  outcome-refused zero out h e = absurd (omega arith)
+  outcome-refused (suc k) out h e = (rw e refl, rw e refl)
+
+  pub outcome-accepted : (out : List ℕ) → firstRefusal wingRules (wingInput d v s cells room) ≡ 0 →
+      (accepted (tableLength d s) ≡ wingOutcome (wingInput d v s cells room)) × (written (tableOfList (wingInput d v s cells room .list)) out ≡ wingBuffer (wingInput d v s cells room) out)
+  unfolding wingOutcome wingBuffer
+  outcome-accepted out e = (rw e refl, rw e refl)
+
+  pub outside : shapeOk maxDimension d v s ≡ false → firstRefusal wingRules (wingInput d v s cells room) ≡ 2
+  unfolding wingRules
+  outside e = rw e refl
+
+  module _ (ok : shapeOk maxDimension d v s ≡ true) where
+    pub wrong-length : (length cells ≡ s * listSize d → ⊥) → firstRefusal wingRules (wingInput d v s cells room) ≡ 3
+    unfolding wingRules
+    wrong-length n = rw (ok, ne-eqb (length cells) (s * listSize d) n) refl
+
+    module _ (len : length cells ≡ s * listSize d) (k : ℕ) (found : k ≡ firstRefusal solidRules (recordList (listSize d) d v s cells)) where
+      rest : firstRefusal (map (onPart (λ (i : WingInput). i .list)) solidRules) (wingInput d v s cells room) ≡ k
+      rest = firstRefusal-onPart (λ (i : WingInput). i .list) solidRules input ∙ ap (firstRefusal solidRules) (sym (whole-list d v s cells len)) ∙ sym found
+
+      numbered : allNumbered (map (onPart (λ (i : WingInput). i .list)) solidRules) ≡ true
+      unfolding solidRules
+      numbered = refl
+
+      pub solid-refused : (k ≡ 0 → ⊥) → firstRefusal wingRules (wingInput d v s cells room) ≡ k
+      unfolding wingRules
+      solid-refused n =
+          rw (ok, eq-eqb (length cells) (s * listSize d) len)
+          (firstRefusal-refused (map (onPart (λ (i : WingInput). i .list)) solidRules) (refuse 15 (λ i. ltb (i .room) (tableLength (i .list .d) (i .list .s))) ∷ []) input numbered (omega (arith, rest)) ∙ rest)
+
+      pub no-room : k ≡ 0 → room < tableLength d s → firstRefusal wingRules (wingInput d v s cells room) ≡ 15
+      unfolding wingRules
+      no-room z l =
+          rw (ok, eq-eqb (length cells) (s * listSize d) len)
+          (firstRefusal-passed (map (onPart (λ (i : WingInput). i .list)) solidRules) (refuse 15 (λ i. ltb (i .room) (tableLength (i .list .d) (i .list .s))) ∷ []) input numbered (rest ∙ z)
+          ∙ rw (lt-ltb room (tableLength d s) l) refl)
+
+      pub none-refuses : k ≡ 0 → tableLength d s ≤ room → firstRefusal wingRules (wingInput d v s cells room) ≡ 0
+      unfolding wingRules
+      none-refuses z l =
+          rw (ok, eq-eqb (length cells) (s * listSize d) len)
+          (firstRefusal-passed (map (onPart (λ (i : WingInput). i .list)) solidRules) (refuse 15 (λ i. ltb (i .room) (tableLength (i .list .d) (i .list .s))) ∷ []) input numbered (rest ∙ z)
+          ∙ rw (le-ltb room (tableLength d s) l) refl)
+
+-- the table of what was taken
+pub taken-table : (l : Listed) (rows : List ℕ) (signs : List Sign) (wings : List ℕ) → l .d ≤ 7 → l .s ≤ 4096 → Taken l rows signs wings →
+    tableOfList l ≡ tabulate (tableLength (l .d) (l .s)) (tableWord (l .d) rows signs wings)
+unfolding tableOfList
+taken-table l rows signs wings hd hs t = ap (λ cs. tableWords (tableOf cs)) (t .cells) ∙ table-words (l .d) (l .s) rows signs wings hd hs (t .wide) (t .winged)
+
+-- what is written of it is what wing writes
+pub taken-written : (d v s : ℕ) (cells rows : List ℕ) (signs : List Sign) (wings out : List ℕ) → d ≤ 7 → s ≤ 4096 → length cells ≡ s * listSize d →
+    Taken (recordList (listSize d) d v s cells) rows signs wings →
+    tabulate (tableLength d s) (tableWord d rows signs wings) ++ drop (tableLength d s) out ≡ written (tableOfList (record { d = d; v = v; s = s; words = cells })) out
+taken-written d v s cells rows signs wings out hd hs len t =
+    ap (λ n. tabulate (tableLength d s) (tableWord d rows signs wings) ++ drop n out) (sym (tabulate-length (tableLength d s) (tableWord d rows signs wings)))
+    ∙ ap (λ (xs : List ℕ). xs ++ drop (length xs) out) (sym (taken-table (recordList (listSize d) d v s cells) rows signs wings hd hs t) ∙ ap tableOfList (whole-list d v s cells len))

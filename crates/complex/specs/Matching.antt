@@ -1,0 +1,35 @@
+-- Keys that are equal. A key is the row of a cell less one vertex, or the whole row.
+--   Keyed rows k w first      rows has 4096 cells of 8 words, and the numbers k, w and first are in range
+--   cellRow rows k p          the row of cell p: the first k of its 8 words
+--   keyRow rows k w first g   key g, of w keys a cell: the row of cell g / w less position first + g % w
+--   lastBelow q m             the last index below m at which the test q passes, or 65535
+--   earlier rows k w first g  the last key before g with the row of g, or 65535
+use mathlib.Core.Bool.{Bool, cond}
+use mathlib.Core.List.{List}
+use mathlib.Core.Path.{_≡_}
+use Prim.Native.Nat.{ℕ, zero, suc, _+_, _/_, _%_, _<_, _≤_}
+use lib.ListN.{length, take}
+use Rattle.words.specs.Records.{part}
+use Rattle.rules.specs.Limits.{empty}
+use Rattle.simplex.specs.Cell.{Row, sameRow}
+use Rattle.simplex.specs.Faces.{without}
+
+pub record Keyed (rows : List ℕ) (k w first : ℕ) : Type 0 where
+  pub long : length rows ≡ 32768
+  pub vertices : k ≤ 8
+  pub some : 0 < w
+  pub most : w ≤ 8
+  pub start : first ≤ 8
+
+abbrev pub cellRow : List ℕ → ℕ → ℕ → Row
+cellRow rows k p = take k (part 8 p rows)
+
+abbrev pub keyRow : List ℕ → ℕ → ℕ → ℕ → ℕ → Row
+keyRow rows k w first g = without (first + g % w) (cellRow rows k (g / w))
+
+abbrev pub lastBelow : (ℕ → Bool) → ℕ → ℕ
+lastBelow q zero = empty
+lastBelow q (suc m) = cond (q m) m (lastBelow q m)
+
+unfoldable pub earlier : List ℕ → ℕ → ℕ → ℕ → ℕ → ℕ
+earlier rows k w first g = lastBelow (λ f. sameRow (keyRow rows k w first f) (keyRow rows k w first g)) g
