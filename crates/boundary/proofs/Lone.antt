@@ -12,6 +12,7 @@ use Rattle.simplex.specs.Faces.{keep}
 use Rattle.simplex.proofs.Cancel.{count-keep, loneIn, plus-minus}
 use Rattle.simplex.proofs.Sums.{plusOn, sumChain}
 
+-- (3b)
 pub lone-once : (F : List Cell) (w : Row) → total w (keep (λ c. loneIn F (c .row)) F) ≤ 1
 lone-once F w =
     omega (arith, plus-minus w (keep (λ c. loneIn F (c .row)) F), plus-minus w F, count-keep (loneIn F) w true F, count-keep (loneIn F) w false F, go (loneIn F w) refl)

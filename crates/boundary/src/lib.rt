@@ -1,1 +1,39 @@
-// Boundary faces. Definitions only so far: see specs/.
+// Boundary faces: from a solid's table to the faces at its empty wings.
+ghost use mathlib.Core.Path.{_≡_};
+ghost use lib.ListN.{length};
+ghost use Rattle.rules.specs.Numbers.{outcomeOf};
+ghost use Rattle.boundary.specs.Faces.{facesOutcome, facesBuffer};
+ghost use Rattle.boundary.specs.Written.{facesInput};
+use complex::sound::is_sound;
+use complex::wing::within_limits;
+use rules::refusal::Answer;
+use rules::refusal::Refusal;
+use crate::length::table_words;
+use crate::writing::count_faces;
+use crate::writing::write_faces;
+
+mod faces_of;
+mod length;
+mod writing;
+
+// Writes the faces from the start of out, a sign word and d vertices each, and answers their count, or says why not.
+pub fn faces(d: usize, v: usize, s: usize, table: &[u16], out: &mut [u16]) -> Answer
+    ensures answer { λ r. ⌜ outcomeOf r ≡ facesOutcome (facesInput d v s (now (table .entry)) (length (now (out .entry)))) ⌝ }
+    ensures buffer { λ r. ⌜ now (out .exit) ≡ facesBuffer (facesInput d v s (now (table .entry)) (length (now (out .entry)))) (now (out .entry)) ⌝ }
+{
+    if !within_limits(d, v, s) {
+        return Answer::Refused(Refusal::OutsideLimits);
+    }
+    if table.len() != table_words(d, s) {
+        return Answer::Refused(Refusal::WrongLength);
+    }
+    if !is_sound(d, v, s, table) {
+        return Answer::Refused(Refusal::Unsound);
+    }
+    let n = count_faces(d, s, table);
+    if out.len() < n * (d + 1) {
+        return Answer::Refused(Refusal::NoRoom);
+    }
+    write_faces(d, s, table, out);
+    Answer::Written(n)
+}

@@ -14,3 +14,12 @@ pub mod Meeting
 pub mod SweptSolid
 pub mod SweptWings
 pub mod SweptTable
+pub mod Placed
+pub mod TableWords
+pub mod Bounds
+pub mod WingWords
+pub mod RecordLaws
+pub mod SweptWords
+pub mod SoundTable
+pub mod Outcomes
+pub mod InLimits

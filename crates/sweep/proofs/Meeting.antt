@@ -11,7 +11,7 @@ use lib.Dec.{ltb}
 use lib.ListN.{length, take, drop, length-append, length-map, length-drop}
 use lib.Seq.{length-take-le}
 use borrow.Author.Tests.{eq-eqb, ltb-true, ltb-false}
-use Rattle.simplex.specs.Cell.{Cell, Row, one}
+use Rattle.simplex.specs.Cell.{Cell, Row, filled, one}
 use Rattle.simplex.specs.Chain.{sumRows, total}
 use Rattle.simplex.specs.Faces.{allFaces, facets, without}
 use Rattle.simplex.proofs.Counts.{All, countFaces, sumRows-countFaces-zero, sumRows-zero}
@@ -115,9 +115,9 @@ module _ (nv d h : ℕ) (cs : List Cell) (s : Solid nv cs) (ln : All (Long (suc 
 
   -- two cells with one face are each other's wings at it
   wing-at : (c q : ℕ) (w : Row) → c < length T → q < length T → (c ≡ q → ⊥) → hasFace w (rowAt T c) ≡ true → hasFace w (rowAt T q) ≡ true → neighbourFrom c 0 w T ≡ q
-  wing-at c q w hc hq apart ec eq =
+  wing-at c q w hc hq filled ec eq =
       neighbour-one c 0 q w T (omega (arith, swept-meet nv cs s h w, faceIn-total w T, othersWith-pick c 0 w T hc, ap one ec, ap (λ m. othersWith m 0 w T) (zero-add c)))
-      hq (λ e. apart (omega arith)) eq
+      hq (λ e. filled (omega arith)) eq
       ∙ zero-add q
 
   wing-none : (c : ℕ) (w : Row) → c < length T → hasFace w (rowAt T c) ≡ true → total w (allFaces T) ≤ 1 → neighbourFrom c 0 w T ≡ 65535
@@ -136,12 +136,12 @@ module _ (nv d h : ℕ) (cs : List Cell) (s : Solid nv cs) (ln : All (Long (suc 
   meet : (i p k j i′ p′ k′ j′ : ℕ) → i < h → p < S → k < suc d → j < suc (suc d) → i′ < h → p′ < S → k′ < suc d → j′ < suc (suc d) → (nu i p k ≡ nu i′ p′ k′ → ⊥) →
       without j (prismRow (i * nv) (suc i * nv) k (rowAt cs p)) ≡ without j′ (prismRow (i′ * nv) (suc i′ * nv) k′ (rowAt cs p′)) →
       neighbourFrom (nu i p k) 0 (without j (rowAt T (nu i p k))) T ≡ nu i′ p′ k′
-  meet i p k j i′ p′ k′ j′ hi hp hk hj hi′ hp′ hk′ hj′ apart e =
+  meet i p k j i′ p′ k′ j′ hi hp hk hj upperIn hp′ hk′ hj′ filled e =
       let w : Row = without j (rowAt T (nu i p k)) in
-      let f : without j′ (rowAt T (nu i′ p′ k′)) ≡ w = ap (without j′) (row-at i′ p′ k′ hi′ hp′ hk′) ∙ sym e ∙ sym (ap (without j) (row-at i p k hi hp hk)) in
-      wing-at (nu i p k) (nu i′ p′ k′) w (lt-T i p k hi hp hk) (lt-T i′ p′ k′ hi′ hp′ hk′) apart
+      let f : without j′ (rowAt T (nu i′ p′ k′)) ≡ w = ap (without j′) (row-at i′ p′ k′ upperIn hp′ hk′) ∙ sym e ∙ sym (ap (without j) (row-at i p k hi hp hk)) in
+      wing-at (nu i p k) (nu i′ p′ k′) w (lt-T i p k hi hp hk) (lt-T i′ p′ k′ upperIn hp′ hk′) filled
       (has-face j (rowAt T (nu i p k)) (omega (arith, len-at i p k hi hp hk)) (omega (arith, len-at i p k hi hp hk)))
-      (subst (λ w. hasFace w (rowAt T (nu i′ p′ k′)) ≡ true) f (has-face j′ (rowAt T (nu i′ p′ k′)) (omega (arith, len-at i′ p′ k′ hi′ hp′ hk′)) (omega (arith, len-at i′ p′ k′ hi′ hp′ hk′))))
+      (subst (λ w. hasFace w (rowAt T (nu i′ p′ k′)) ≡ true) f (has-face j′ (rowAt T (nu i′ p′ k′)) (omega (arith, len-at i′ p′ k′ upperIn hp′ hk′)) (omega (arith, len-at i′ p′ k′ upperIn hp′ hk′))))
 
   v-len : (p : ℕ) → p < S → length (rowAt cs p) ≡ suc d
   v-len p hp = all-at (Long (suc d)) cs ln p hp
@@ -186,7 +186,7 @@ module _ (nv d h : ℕ) (cs : List Cell) (s : Solid nv cs) (ln : All (Long (suc 
 
   pub side-meet : (i p q a b l : ℕ) → i < h → p < S → q < S → (p ≡ q → ⊥) → a ≤ d → b ≤ d → l < d → without a (rowAt cs p) ≡ without b (rowAt cs q) →
       neighbourFrom (nu i p (sideCell a l)) 0 (without (sidePosition d a l) (rowAt T (nu i p (sideCell a l)))) T ≡ nu i q (sideCell b l)
-  side-meet i p q a b l hi hp hq away ha hb hl e =
+  side-meet i p q a b l hi hp hq filled ha hb hl e =
       let pa = pair-lt d a l ha hl in
       let pb = pair-lt d b l hb hl in
       meet i p (sideCell a l) (sidePosition d a l) i q (sideCell b l) (sidePosition d b l) hi hp (pa .0) (pa .1) hi hq (pb .0) (pb .1) (go (decLt p q))

@@ -15,6 +15,7 @@ use Rattle.simplex.proofs.Sums.{Functional, sumFaces}
 abbrev pub OnPairs : Type 0
 OnPairs = Bool → Row → Row → ℕ
 
+-- sum of f over the prism cells of a row (lower part, upper part), sign e^k: column b
 abbrev pub sumPrism : OnPairs → Bool → Bool → Row → ℕ
 sumPrism f e b [] = 0
 sumPrism f e b (x ∷ w) = f b (x ∷ w) (x ∷ []) + sumPrism (λ c l u. f c l (x ∷ u)) e (times e b) w
@@ -41,6 +42,7 @@ abbrev pub top : Bool → Row → Bool → Bool
 top e [] b = times e b
 top e (x ∷ w) b = top e w (times e b)
 
+-- columns of the two sides
 abbrev pub prismFaces : OnPairs → Bool → Bool → Row → ℕ
 prismFaces f e b v = sumPrism (sumLower f) e b v + sumPrism (sumUpper f) (not e) (times e (not b)) v
 

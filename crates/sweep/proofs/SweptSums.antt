@@ -56,10 +56,10 @@ sumChain-prisms f e s b lo hi u (x ∷ w) =
     (sumChain-prisms f e (times e s) b lo hi (u ++ (x + hi) ∷ []) w ∙ simp (append-snoc, times-times))
 
 -- two functionals of one value have sums of one value
-sumChain-eq : (F G : Functional) → ((b : Bool) (v : Row) → F b v + G (not b) v ≡ G b v + F (not b) v) →
-    (b : Bool) (cs : List Cell) → sumChain F b cs + sumChain G (not b) cs ≡ sumChain G b cs + sumChain F (not b) cs
-sumChain-eq F G h b [] = refl
-sumChain-eq F G h b (c ∷ cs) = rw (times-not-r (c .sign) b) (omega (arith, sumChain-eq F G h b cs, h (times (c .sign) b) (c .row)))
+sumChain-eq : (F levelParts : Functional) → ((b : Bool) (v : Row) → F b v + levelParts (not b) v ≡ levelParts b v + F (not b) v) →
+    (b : Bool) (cs : List Cell) → sumChain F b cs + sumChain levelParts (not b) cs ≡ sumChain levelParts b cs + sumChain F (not b) cs
+sumChain-eq F levelParts h b [] = refl
+sumChain-eq F levelParts h b (c ∷ cs) = rw (times-not-r (c .sign) b) (omega (arith, sumChain-eq F levelParts h b cs, h (times (c .sign) b) (c .row)))
 
 pub sumChain-level : (f : Functional) (nv i : ℕ) (b : Bool) (cs : List Cell) → sumChain f b (level nv i cs) ≡ sumChain (overPrism f (i * nv) (suc i * nv)) b cs
 sumChain-level f nv i b [] = refl

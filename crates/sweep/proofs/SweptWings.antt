@@ -22,7 +22,7 @@ use Rattle.sweep.specs.Wings.{backFrom, backTo, cellNumber, sweptWing, w
 use Rattle.sweep.proofs.Meeting.{bottom-none, inner-next, inner-prev, level-next, level-prev, side-meet, side-none, sideCell, sidePosition, top-none}
 use Rattle.sweep.proofs.SideLaws.{side-closed}
 
-back-is : (W : ℕ → ℕ → ℕ) (p q n b c : ℕ) → W q c ≡ p → b ≤ c → c < b + n → ((m : ℕ) → m < c → W q m ≡ p → ⊥) → backFrom W p q b n ≡ c
+pub back-is : (W : ℕ → ℕ → ℕ) (p q n b c : ℕ) → W q c ≡ p → b ≤ c → c < b + n → ((m : ℕ) → m < c → W q m ≡ p → ⊥) → backFrom W p q b n ≡ c
 back-is W p q zero b c e l h u = absurd (omega arith)
 back-is W p q (suc n) b c e l h u = go (ℕ-discrete b c) (λ k. back-is W p q n (suc b) c e k (omega arith) u)
   where

@@ -4,3 +4,6 @@ pub mod Sides
 pub mod SideTable
 pub mod Wings
 pub mod Sweep
+pub mod Placed
+pub mod Written
+pub mod RecordWords

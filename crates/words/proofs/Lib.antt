@@ -1,2 +1,4 @@
--- Laws of records and bytes.
+-- Laws of records, bytes, and loops over lists.
 pub mod Records
+pub mod Loops
+pub mod Bytes

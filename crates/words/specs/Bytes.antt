@@ -5,6 +5,7 @@
 --   bytes16 w         a 16-bit number as two bytes
 --   words16 b         all 16-bit numbers of a list of bytes; a last odd byte is left out
 --   bytesOf ws        the bytes of a list of 16-bit numbers
+--   wordsFrom b at m  the m 16-bit numbers that stand one after the other from `at`
 use mathlib.Core.List.{List, [], _∷_}
 use Prim.Native.Nat.{ℕ, zero, suc, _+_, _*_, _/_, _%_}
 use lib.ListN.{getD}
@@ -35,3 +36,7 @@ words16 (x ∷ (y ∷ b)) = (x + y * 256) ∷ words16 b
 abbrev pub bytesOf : List ℕ → List ℕ
 bytesOf [] = []
 bytesOf (w ∷ ws) = (w % 256) ∷ (w / 256 % 256) ∷ bytesOf ws
+
+abbrev pub wordsFrom : List ℕ → ℕ → ℕ → List ℕ
+wordsFrom b at zero = []
+wordsFrom b at (suc m) = word16 b at ∷ wordsFrom b (at + 2) m

@@ -1,1 +1,3 @@
-// Numbers and floats in bytes. Definitions only: see specs/.
+// Numbers and floats in bytes, little-endian.
+pub mod copy;
+pub mod little;

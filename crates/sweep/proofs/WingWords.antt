@@ -1,0 +1,62 @@
+-- Steps of the search for the position back, and the wing over a full side.
+--   back-here, back-next, back-end    the search at position b: found there, or go on, or past the last
+--   pair-cell                         the cell of a side pair that is in the table
+--   aside-full                        the wing of a side over a full wing
+--   even-plus, odd-minus              (-1)^n by the rest of n
+-- Assumes nothing.
+use mathlib.Core.Path.{_≡_, refl, sym, ap, ap₂, _∙_}
+use mathlib.Core.Bool.{true, false}
+use Prim.Native.Nat.{ℕ, suc, _+_, _-_, _%_, _≤_, _<_}
+use native.Mathlib.Numerals.{add-one}
+use native.Mathlib.Omega.{arith}
+use borrow.Author.Tests.{eq-eqb, ne-eqb, le-leb, lt-ltb}
+use Rattle.rules.specs.Limits.{empty, maxSource}
+use Rattle.simplex.specs.Cell.{alternating}
+use Rattle.complex.proofs.Seeing.{alternating-even}
+use Rattle.sweep.specs.Sides.{sidePair}
+use Rattle.sweep.specs.SideTable.{sidePairOf}
+use Rattle.sweep.specs.Wings.{cellNumber, backFrom, backTo, wingAside}
+use Rattle.sweep.proofs.SideLaws.{side-bounds}
+
+module _ (wing : ℕ → ℕ → ℕ) (p q d b : ℕ) where
+  left-is : b ≤ d → d + 1 - b ≡ suc (d - b)
+  left-is h = omega arith
+
+  pub back-here : b ≤ d → wing q b ≡ p → backFrom wing p q b (d + 1 - b) ≡ b
+  back-here h e = ap (backFrom wing p q b) (left-is h) ∙ rw (eq-eqb (wing q b) p e) refl
+
+  pub back-next : b ≤ d → (wing q b ≡ p → ⊥) → backFrom wing p q b (d + 1 - b) ≡ backFrom wing p q (b + 1) (d + 1 - (b + 1))
+  back-next h n =
+      let less : d - b ≡ d + 1 - (b + 1) = omega arith in
+      ap (backFrom wing p q b) (left-is h) ∙ rw (ne-eqb (wing q b) p n) (ap₂ (backFrom wing p q) (sym (add-one b)) less)
+
+  pub back-end : d < b → backFrom wing p q b (d + 1 - b) ≡ b
+  back-end h = let none : d + 1 - b ≡ 0 = omega arith in ap (backFrom wing p q b) none
+
+pub back-start : (wing : ℕ → ℕ → ℕ) (p q d : ℕ) → backTo wing p q d ≡ backFrom wing p q 0 (d + 1 - 0)
+back-start wing p q d = let all : suc d ≡ d + 1 - 0 = omega arith in ap (backFrom wing p q 0) all
+
+pub pair-cell : (d b l : ℕ) → d ≤ maxSource → b ≤ d → l < d → sidePairOf d b l .cell ≡ sidePair d b l .cell
+unfolding sidePairOf
+pair-cell d b l hd hb hl = rw (le-leb d maxSource hd, le-leb b d hb, lt-ltb l d hl) refl
+
+module _ (d s h i p a l : ℕ) (wing : ℕ → ℕ → ℕ) (hd : d ≤ maxSource) (hl : l < d) (hb : backTo wing p (wing p a) d ≤ d) where
+  -- q is across, b the position back and k the cell of the pair there
+  module _ (q b k : ℕ) (q-is : q ≡ wing p a) (b-is : b ≡ backTo wing p q d) (k-is : k ≡ sidePairOf d b l .cell) where
+    back-is : b ≡ backTo wing p (wing p a) d
+    back-is = b-is ∙ ap (λ n. backTo wing p n d) q-is
+
+    cell-is : k ≡ sidePair d (backTo wing p (wing p a) d) l .cell
+    cell-is = k-is ∙ pair-cell d b l hd (omega (arith, back-is)) hl ∙ ap (λ n. sidePair d n l .cell) back-is
+
+    pub cell-small : k ≤ d
+    cell-small = omega (arith, cell-is, side-bounds d (backTo wing p (wing p a) d) l hb hl .cell)
+
+    pub aside-full : (wing p a ≡ empty → ⊥) → cellNumber d s i q k ≡ wingAside d s h wing i p a l
+    aside-full full = rw (ne-eqb (wing p a) empty full) (ap₂ (cellNumber d s i) q-is cell-is)
+
+pub even-plus : (n : ℕ) → n % 2 ≡ 0 → alternating n ≡ true
+even-plus n e = alternating-even n ∙ eq-eqb (n % 2) 0 e
+
+pub odd-minus : (n : ℕ) → (n % 2 ≡ 0 → ⊥) → alternating n ≡ false
+odd-minus n e = alternating-even n ∙ ne-eqb (n % 2) 0 e
