@@ -1,4 +1,5 @@
 -- Points, the step that moves them, and the call move.
 pub mod Step
 pub mod Levels
+pub mod Stay
 pub mod Move

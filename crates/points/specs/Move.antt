@@ -1,4 +1,5 @@
 -- The call move (move_points in code, since move is a keyword): it takes points and writes levels 0 to h.
+--   moveInput                  what the call is told: numbers, step, lent points, room in the lent buffer
 --   moveRules, moveOutcome (the count of floats), moveBuffer
 use mathlib.Core.Bool.{not, _&&_}
 use mathlib.Core.List.{List, [], _∷_}
@@ -20,6 +21,9 @@ pub record MoveInput : Type 0 where
   pub step : Step
   pub points : List Float
   pub room : ℕ
+
+abbrev pub moveInput : ℕ → ℕ → ℕ → Step → List Float → ℕ → MoveInput
+moveInput n v h step ps room = record { n = n; v = v; h = h; step = step; points = ps; room = room }
 
 unfoldable pub movedLevels : MoveInput → List Float
 movedLevels i = levels (i .step) (i .n) (i .v) (i .h) (i .points)

@@ -1,0 +1,8 @@
+-- Laws of tests on lists, of copies, of moved points and of their levels.
+pub mod AllOf
+pub mod Copies
+pub mod Moved
+pub mod LevelLaws
+pub mod Writing
+pub mod Staying
+pub mod MoveRules
