@@ -23,7 +23,7 @@ use Rattle.simplex.proofs.Faces.{faces-length, face-at}
 use Rattle.complex.specs.Layout.{Entry, entriesOf, recordSize, listSize, tableLength, cellWords}
 use Rattle.boundary.specs.Boundary.{atEmpty, boundaryOf}
 use Rattle.boundary.proofs.EntryWords.{row-long, face-long, part-long}
-use Rattle.boundary.proofs.Placed.{words-concat}
+use Rattle.words.proofs.Placed.{words-concat}
 use Rattle.boundary.specs.Written.{onBoundary, facesAt, cellFaces, faceWords, cellWordsOf, entryIn, allFaces, allWords}
 
 pub counted : (e : Entry) (a : ℕ) → onBoundary e a ≡ true → length (facesAt e a) ≡ 1

@@ -7,7 +7,7 @@ use mathlib.Core.Path.{_≡_, refl, ap, ap₂, _∙_}
 use mathlib.Core.Bool.{Bool, false, _&&_, and-false, and-true}
 use mathlib.Core.List.{List, [], _∷_}
 use Prim.Native.Nat.{ℕ, zero, suc, _+_, _-_, _*_, _≤_, _<_}
-use native.Mathlib.Nat.{le-of-suc-le-suc, not-suc-le-zero}
+use native.Mathlib.Nat.{le-of-suc-le-suc, not-suc-le-zero, suc-mul, mul-le-mul-right}
 use native.Mathlib.Omega.{arith}
 use lib.Dec.{eqb}
 use lib.ListN.{length, getD, take, drop, length-drop}
@@ -18,14 +18,13 @@ use Rattle.simplex.specs.Cell.{Cell, Row, filled, times, alternating}
 use Rattle.simplex.specs.Faces.{face, without}
 use Rattle.simplex.proofs.FaceCounts.{without-filled}
 use Rattle.complex.specs.Layout.{recordSize, listSize, entryOf, cellWords, signOf, signWord}
-use Rattle.complex.proofs.Adjacent.{part-length}
-use Rattle.complex.proofs.Kept.{without-length}
 use Rattle.boundary.specs.FaceWords.{turnedSign}
 use Rattle.boundary.specs.Written.{onBoundary}
 
 -- record p of s records of n words
 pub part-long : (n p s : ℕ) (ws : List ℕ) → p < s → length ws ≡ s * n → length (part n p ws) ≡ n
-part-long n p s ws h e = part-length n p s ws h (omega (arith, e))
+part-long n p s ws h e =
+    length-take-le n (drop (p * n) ws) (rw (length-drop (p * n) ws) (omega (arith, suc-mul p n, mul-le-mul-right {m = suc p} {n = s} n h)))
 
 -- as it is lent
 pub lent-is : (n p : ℕ) (ws : List ℕ) → take (p * n + n - p * n) (drop (p * n) ws) ≡ part n p ws
@@ -35,6 +34,11 @@ default-free : (xs : List ℕ) (i a b : ℕ) → i < length xs → getD xs i a �
 default-free [] i a b h = absurd (not-suc-le-zero h)
 default-free (x ∷ xs) zero a b h = refl
 default-free (x ∷ xs) (suc i) a b h = default-free xs i a b (le-of-suc-le-suc h)
+
+without-long : (a : ℕ) (w : Row) → a < length w → suc (length (without a w)) ≡ length w
+without-long a [] h = absurd (not-suc-le-zero h)
+without-long zero (x ∷ w) h = refl
+without-long (suc a) (x ∷ w) h = ap suc (without-long a w (le-of-suc-le-suc h))
 
 without-before : (a j : ℕ) (w : Row) → j < a → getD (without a w) j 0 ≡ getD w j 0
 without-before a j [] h = refl
@@ -84,7 +88,7 @@ module _ (d : ℕ) (P : List ℕ) (long : length P ≡ recordSize d) where
         ∙ and-true (eqb (getD P (d + 2 + a) 0) empty)
 
     pub face-long : length (cellWords (face a here)) ≡ d + 1
-    face-long = omega (arith, without-length a (here .row) (omega (arith, row-long)), row-long)
+    face-long = omega (arith, without-long a (here .row) (omega (arith, row-long)), row-long)
 
     pub face-sign : getD (cellWords (face a here)) 0 0 ≡ turnedSign (getD P 0 0) a
     face-sign = ap (λ x. signWord (times (alternating a) (signOf x))) (getD-take (listSize d) P 0 0 (omega arith))

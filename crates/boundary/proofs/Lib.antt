@@ -1,7 +1,6 @@
 -- Laws of boundaries.
 pub mod EmptyWings
 pub mod Lone
-pub mod Placed
 pub mod EntryWords
 pub mod Turning
 pub mod Counting

@@ -1,6 +1,5 @@
 -- Boundaries: of a table, of a solid, and the call faces.
 pub mod Boundary
 pub mod Faces
-pub mod Placed
 pub mod Written
 pub mod FaceWords

@@ -55,11 +55,7 @@ fn count_at(d: usize, entry: &[u16], a: usize) -> usize
     requires { ⌜ (length (now entry) ≡ recordSize d) × (a ≤ d) ⌝ }
     ensures { λ r. ⌜ r ≡ length (facesAt (entryOf d (now (entry .entry))) a) ⌝ }
 {
-    let counts = on_boundary(d, entry, a);
-    if counts {
-        return 1;
-    }
-    0
+    if on_boundary(d, entry, a) { 1 } else { 0 }
 }
 
 // How many faces of the cell are on the boundary.

@@ -5,15 +5,15 @@ ghost use Rattle.rules.specs.Numbers.{outcomeOf};
 ghost use Rattle.boundary.specs.Faces.{facesOutcome, facesBuffer};
 ghost use Rattle.boundary.specs.Written.{facesInput};
 use complex::sound::is_sound;
-use complex::wing::within_limits;
 use rules::refusal::Answer;
 use rules::refusal::Refusal;
-use crate::length::table_words;
+use crate::limits::in_limits;
+use crate::limits::table_words;
 use crate::writing::count_faces;
 use crate::writing::write_faces;
 
 mod faces_of;
-mod length;
+mod limits;
 mod writing;
 
 // Writes the faces from the start of out, a sign word and d vertices each, and answers their count, or says why not.
@@ -21,7 +21,7 @@ pub fn faces(d: usize, v: usize, s: usize, table: &[u16], out: &mut [u16]) -> An
     ensures answer { λ r. ⌜ outcomeOf r ≡ facesOutcome (facesInput d v s (now (table .entry)) (length (now (out .entry)))) ⌝ }
     ensures buffer { λ r. ⌜ now (out .exit) ≡ facesBuffer (facesInput d v s (now (table .entry)) (length (now (out .entry)))) (now (out .entry)) ⌝ }
 {
-    if !within_limits(d, v, s) {
+    if !in_limits(d, v, s) {
         return Answer::Refused(Refusal::OutsideLimits);
     }
     if table.len() != table_words(d, s) {

@@ -4,7 +4,7 @@ ghost use Prim.Native.Nat.{_+_, _*_, _<_, _≤_};
 ghost use lib.ListN.{length};
 ghost use Rattle.simplex.specs.Faces.{face};
 ghost use Rattle.complex.specs.Layout.{recordSize, tableLength, entryOf, cellWords};
-ghost use Rattle.boundary.specs.Placed.{placed};
+ghost use Rattle.words.specs.Placed.{placed};
 ghost use Rattle.boundary.specs.Written.{faceWords, cellWordsOf, allFaces, allWords};
 use crate::faces_of::count_cell;
 use crate::faces_of::face_word;

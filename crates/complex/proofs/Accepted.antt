@@ -5,11 +5,9 @@ use Prim.Native.Nat.{_*_, _<_, suc, zero, ℕ, _≤_}
 use mathlib.Core.Bool.{Bool, cond, false, false≢true, not, true}
 use mathlib.Core.List.{List, [], map, _∷_}
 use native.Mathlib.Omega.{arith}
-use lib.ListN.{drop, getD, length, length-drop}
+use lib.ListN.{getD, length, length-drop}
 use lib.Dec.{eqb, leb}
 use borrow.Author.Tests.{eqb-false, eqb-true}
-use lib.Seq.{length-take-le}
-use native.Mathlib.Nat.{mul-le-mul-right, suc-mul}
 use mathlib.Core.Logic.{_≢_}
 use Rattle.words.specs.Records.{anyOf, concat, part, tabulate}
 use Rattle.words.proofs.Records.{tabulate-ext}
@@ -28,7 +26,7 @@ use Rattle.simplex.proofs.Sorting.{sorted-ascends, sorted-length}
 use Rattle.simplex.proofs.Sums.{plusOn, sumChain}
 use Rattle.complex.specs.Accept.{Listed, acceptable, badSign, cellTwice, crowdedFace, equalSigns, listedCells, repeats, solidOf, solidRules, vertexBeyond, vertexTwice}
 use Rattle.complex.specs.Layout.{cellOf, cellWords, cellsOf, listSize, signWord}
-use Rattle.complex.proofs.Codec.{cells-back, list-record}
+use Rattle.complex.proofs.Codec.{cells-back, list-record, part-length}
 use Rattle.complex.proofs.Solid.{Solid}
 use Rattle.complex.proofs.Tables.{cellAt}
 use Rattle.complex.proofs.Tests.{all-below, asc-once, below-all, each-row, few-of, none-of, of-few, of-none, once-each, once-signs, row-each, signs-once}
@@ -62,12 +60,8 @@ unfolding acceptable solidRules
 passes l p = rw (p .sign, p .vertex, p .twice, p .cell, p .crowded, p .equal) refl
 
 -- rows of records
-pub part-length : (n p s : ℕ) (ws : List ℕ) → p < s → length ws ≡ s * n → length (part n p ws) ≡ n
-part-length n p s ws h e =
-    length-take-le n (drop (p * n) ws) (rw (length-drop (p * n) ws) (omega (arith, suc-mul p n, mul-le-mul-right {m = suc p} {n = s} n h)))
-
 listed-long : (d s : ℕ) (ws : List ℕ) → length ws ≡ s * listSize d → All (Long (suc d)) (cellsOf d s ws)
-listed-long d s ws e = go s (λ p. cellOf (part (listSize d) p ws)) (λ p h. rw (length-drop 1 (part (listSize d) p ws), part-length (listSize d) p s ws h e) (omega arith))
+listed-long d s ws e = go s (λ p. cellOf (part (listSize d) p ws)) (λ p h. rw (length-drop 1 (part (listSize d) p ws), part-length (listSize d) p s ws h (omega arith)) (omega arith))
   where
     go : (n : ℕ) (f : ℕ → Cell) → ((p : ℕ) → p < n → length (f p .row) ≡ suc d) → All (Long (suc d)) (tabulate n f)
     go zero f h = tt

@@ -5,10 +5,10 @@ use mathlib.Core.List.{List, []}
 use Prim.Native.Nat.{ℕ, zero, suc, _*_, _/_, _%_, _≤_, _<_, _+_}
 use native.Mathlib.Omega.{arith}
 use native.Mathlib.Numerals.{add-one}
-use native.Mathlib.Nat.{suc-mul, mul-le-mul, mul-le-mul-right}
-use lib.ListN.{length, getD, take, drop, length-drop}
+use native.Mathlib.Nat.{mul-le-mul}
+use lib.ListN.{length, getD, take}
 use lib.Dec.{leb}
-use lib.Seq.{length-take-le, getD-take, getD-drop}
+use lib.Seq.{length-take-le}
 use Rattle.words.specs.Records.{part, tabulate}
 use Rattle.words.proofs.Records.{tabulate-at, tabulate-length}
 use Rattle.simplex.specs.Cell.{Cell, Row, Sign, alternating, cell, times}
@@ -23,16 +23,14 @@ use Rattle.complex.specs.Matching.{earlier}
 use Rattle.complex.specs.Pairing.{faceCount, keySign, paired}
 use Rattle.complex.specs.Scan.{anyBelow, seenAt, seenLike, seenTwice}
 use Rattle.complex.proofs.Below.{below-ext, below-not}
+use Rattle.complex.proofs.Codec.{part-length}
 use Rattle.complex.proofs.FaceKeys.{Holds, earlier-prev, facet-cell, facets-length, key-cell, key-face}
+use Rattle.complex.proofs.Kept.{cell-at}
 use Rattle.complex.proofs.Repeats.{Prev, crowded-seen, equal-seen, twice-seen}
 use Rattle.complex.proofs.SortedTests.{falls-not, fallsIn}
 use Rattle.complex.proofs.Tables.{cellAt}
 use Rattle.complex.proofs.Tests.{few-of}
 use Rattle.complex.proofs.Winged.{facets-few, paired-winged}
-
-pub part-length : (n p s : ℕ) (ws : List ℕ) → p < s → s * n ≤ length ws → length (part n p ws) ≡ n
-part-length n p s ws h e =
-    length-take-le n (drop (p * n) ws) (rw (length-drop (p * n) ws) (omega (arith, suc-mul p n, mul-le-mul-right {m = suc p} {n = s} n h)))
 
 all-tabulated : (R : Row → Type 0) (n : ℕ) (f : ℕ → Cell) → ((p : ℕ) → p < n → R (f p .row)) → All R (tabulate n f)
 all-tabulated R zero f h = tt
@@ -48,7 +46,7 @@ module _ (d s : ℕ) (rows : List ℕ) (signs : List Sign) (hd : d ≤ 7) (hs : 
   pub held-at : (p : ℕ) → p < s → cellAt (heldCells d s rows signs) p ≡ cellHeld d rows signs p
   held-at p h = tabulate-at s (λ p. cellHeld d rows signs p) p (cell true []) h
 
-  pub row-long : (p : ℕ) → p < s → length (take (suc d) (part 8 p rows)) ≡ suc d
+  row-long : (p : ℕ) → p < s → length (take (suc d) (part 8 p rows)) ≡ suc d
   row-long p h = length-take-le (suc d) (part 8 p rows) (omega (arith, part-length 8 p s rows h (omega arith)))
 
   pub held-long : All (Long (suc d)) (heldCells d s rows signs)
@@ -59,7 +57,7 @@ module _ (d s : ℕ) (rows : List ℕ) (signs : List Sign) (hd : d ≤ 7) (hs : 
 
   -- a vertex of cell p
   pub held-vertex : (p j : ℕ) → j < suc d → getD rows (p * 8 + j) 0 ≡ getD (take (suc d) (part 8 p rows)) j 0
-  held-vertex p j l = sym (getD-take (suc d) (part 8 p rows) j 0 l ∙ getD-take 8 (drop (p * 8) rows) j 0 (omega arith) ∙ getD-drop (p * 8) rows j 0)
+  held-vertex p j l = sym (cell-at rows (suc d) p j (omega arith) l)
 
   pub held-falls : (p : ℕ) → falls d rows p ≡ fallsIn d (take (suc d) (part 8 p rows))
   held-falls p =

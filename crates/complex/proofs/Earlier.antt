@@ -1,4 +1,4 @@
--- The last earlier key with the same row, found along the links of a bucket; key f is the row key f.
+-- The last earlier key with the same row, found along the links of a bucket. key f is the row of key f.
 --   from q x          `lastBelow q`, told from the last index x at which a weaker test passes
 --   Walk key g f      the links from key g have been followed to f, and the answer lies at f or before
 --   rank f            falls along the links

@@ -5,7 +5,7 @@ use mathlib.Core.Bool.{true}
 use mathlib.Core.List.{List, [], _∷_, _++_}
 use Prim.Native.Nat.{ℕ, zero, suc, _+_, _*_, _/_, _%_, _≤_, _<_}
 use native.Mathlib.Omega.{arith}
-use native.Mathlib.Nat.{zero-mul, zero-add, suc-mul, div-one, mod-one, div-add-mod', mod-lt, div-lt-iff-lt-mul, le-of-suc-le-suc, not-suc-le-zero, mul-add-div-right, mul-add-mod-self-right, div-eq-of-lt, mod-eq-of-lt, mul-le-mul-right, add-zero}
+use native.Mathlib.Nat.{zero-mul, zero-add, suc-mul, div-add-mod', mod-lt, div-lt-iff-lt-mul, le-of-suc-le-suc, not-suc-le-zero, mul-le-mul-right}
 use lib.ListN.{length, take, length-append, List·getD-append}
 use lib.Seq.{getD-append-add}
 use Rattle.words.specs.Records.{part}
@@ -18,9 +18,10 @@ use Rattle.simplex.proofs.Rows.{Long}
 use Rattle.complex.specs.Matching.{earlier, keyRow}
 use Rattle.complex.specs.Pairing.{faceCount}
 use Rattle.complex.proofs.LastBelow.{last-ext}
+use Rattle.complex.proofs.Links.{whole-key}
 use Rattle.complex.proofs.Repeats.{prevIn}
-use Rattle.complex.proofs.Solid.{all-at, rowAt}
-use Rattle.complex.proofs.Tables.{cellAt, without-none}
+use Rattle.complex.proofs.Solid.{rowAt}
+use Rattle.complex.proofs.Tables.{cellAt}
 
 abbrev pub Holds : ℕ → List ℕ → List Cell → Type 0
 Holds d rows cs = (p : ℕ) → p < length cs → take (suc d) (part 8 p rows) ≡ rowAt cs p
@@ -45,15 +46,8 @@ face-cell n (c ∷ cs) long (suc p) a hp ha =
     go : length (faces (c .sign) (c .row)) ≡ n → suc p * n + a ≡ length (faces (c .sign) (c .row)) + (p * n + a)
     go e = omega (arith, suc-mul p n)
 
--- where key p n + a belongs
-pub key-div : (n p a : ℕ) → a < n → (p * n + a) / n ≡ p
-key-div n p a h = mul-add-div-right (omega arith) p a ∙ rw (div-eq-of-lt h) (add-zero p)
-
-pub key-mod : (n p a : ℕ) → a < n → (p * n + a) % n ≡ a
-key-mod n p a h = mul-add-mod-self-right p n a ∙ mod-eq-of-lt h
-
-pub key-below : (n s p a : ℕ) → p < s → a < n → p * n + a < s * n
-key-below n s p a h l = omega (arith, suc-mul p n, mul-le-mul-right {m = suc p} {n = s} n h)
+pub key-inside : (n s p a : ℕ) → p < s → a < n → p * n + a < s * n
+key-inside n s p a h l = omega (arith, suc-mul p n, mul-le-mul-right {m = suc p} {n = s} n h)
 
 no-facets : (cs : List Cell) → All (Long 1) cs → facets cs ≡ []
 no-facets [] long = refl
@@ -77,11 +71,12 @@ facet-cell zero cs long g h = absurd (not-suc-le-zero (subst (λ L. g < length L
 facet-cell (suc d) cs long g h =
     let n = suc (suc d) in
     let l : g < length cs * n = subst (λ m. g < m) (facets-length (suc d) cs long) h in
-    let hp : g / n < length cs = div-lt-iff-lt-mul {k = n} {x = g} {y = length cs} (omega arith) .1 l in
-    (hp,
-    ap (λ L. cellAt L g) (facets-same cs (two-long d cs long))
-    ∙ ap (λ i. cellAt (allFaces cs) i) (sym (div-add-mod' g n))
-    ∙ face-cell n cs long (g / n) (g % n) hp (mod-lt g {m = n} (omega arith)))
+    let hp : g / n < length cs = div-lt-iff-lt-mul {k = n} {x = g} {y = length cs} (omega arith) .1 l in (
+      hp,
+      ap (λ L. cellAt L g) (facets-same cs (two-long d cs long))
+          ∙ ap (λ i. cellAt (allFaces cs) i) (sym (div-add-mod' g n))
+          ∙ face-cell n cs long (g / n) (g % n) hp (mod-lt g {m = n} (omega arith)),
+    )
 
 module _ (d : ℕ) (rows : List ℕ) (cs : List Cell) (long : All (Long (suc d)) cs) (holds : Holds d rows cs) where
   pub key-face : (g : ℕ) → g < length (facets cs) → keyRow rows (suc d) (suc d) 0 g ≡ rowAt (facets cs) g
@@ -90,9 +85,7 @@ module _ (d : ℕ) (rows : List ℕ) (cs : List Cell) (long : All (Long (suc d))
       rw (zero-add (g % suc d)) (ap (without (g % suc d)) (holds (g / suc d) (r .0)) ∙ sym (ap (λ (c : Cell). c .row) (r .1)))
 
   pub key-cell : (p : ℕ) → p < length cs → keyRow rows (suc d) 1 (suc d) p ≡ rowAt cs p
-  key-cell p h =
-      rw (div-one p, mod-one p)
-      (without-none (suc d + 0) (take (suc d) (part 8 p rows)) (omega (arith, ap length (holds p h), all-at (Long (suc d)) cs long p h)) ∙ holds p h)
+  key-cell p h = whole-key rows (suc d) p ∙ holds p h
 
 -- equal keys are equal rows
 pub earlier-prev : (rows : List ℕ) (k w first : ℕ) (L : List Cell) → ((g : ℕ) → g < length L → keyRow rows k w first g ≡ rowAt L g) →

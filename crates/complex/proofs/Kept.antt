@@ -80,15 +80,15 @@ module _ (rows : List ℕ) (k p : ℕ) (long : length rows ≡ 32768) (l : k ≤
       less : a ≤ j → j + 1 < k
       less n = by-ltb (λ t. j < cond t (k - 1) k → j + 1 < k) a k (λ y b. omega arith) (λ z b. omega arith) b
 
+pub kept-below : (k a j : ℕ) → k ≤ 8 → j < cond (ltb a k) (k - 1) k → j < 8
+kept-below k a j l b = by-ltb (λ t. j < cond t (k - 1) k → j < 8) a k (λ y b. omega arith) (λ n b. omega arith) b
+
 -- where vertex j stands is in the record
 pub stands-below : (k a j : ℕ) → k ≤ 8 → j < cond (ltb a k) (k - 1) k → cond (ltb j a) j (j + 1) < 8
 stands-below k a j l b =
     by-ltb (λ t. cond t j (j + 1) < 8) j a
-    (λ y. by-ltb (λ t. j < cond t (k - 1) k → j < 8) a k (λ y b. omega arith) (λ n b. omega arith) b)
+    (λ y. kept-below k a j l b)
     (λ n. by-ltb (λ t. j < cond t (k - 1) k → j + 1 < 8) a k (λ y b. omega arith) (λ z b. omega arith) b)
-
-pub kept-below : (k a j : ℕ) → k ≤ 8 → j < cond (ltb a k) (k - 1) k → j < 8
-kept-below k a j l b = by-ltb (λ t. j < cond t (k - 1) k → j < 8) a k (λ y b. omega arith) (λ n b. omega arith) b
 
 pub same-false : (v w : Row) → (v ≡ w → ⊥) → sameRow v w ≡ false
 same-false v w differ = go (sameRow v w) refl

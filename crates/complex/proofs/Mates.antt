@@ -75,6 +75,7 @@ module _ (L : List Cell) (P : List ℕ) (small : length L ≤ 32768) (prev : Pre
             let hg : g < m = omega (arith, r .1) in
             let jm : j ≡ m → ⊥ = λ z. b (sym (only-seen g m hg hm (sym (r .3) ∙ ap (rowAt L) z))) in
             (omega (arith, r .0), hg, r .2, r .3)
+
         third : g ≡ f → j ≡ m
         third z = other (ℕ-discrete j m)
           where
@@ -84,6 +85,7 @@ module _ (L : List Cell) (P : List ℕ) (small : length L ≤ 32768) (prev : Pre
                 let hj : j < m = omega (arith, r .0) in
                 let same : getD P m 0 ≡ j = only-seen j m hj hm (r .3 ∙ ap (rowAt L) z ∙ is .1) in
                 absurd (r .2 (sym same ∙ sym z))
+
         go : Dec (g ≡ m) → Dec (g ≡ f) → getD next g 0 ≡ j / k
         go (yes z) s =
             let hj : j < m = omega (arith, r .0, r .2, z) in
@@ -111,6 +113,7 @@ module _ (L : List Cell) (P : List ℕ) (small : length L ≤ 32768) (prev : Pre
       where
         not-seen : (i : ℕ) → i < m → rowAt L i ≡ rowAt L m → ⊥
         not-seen i l q = true≢false (cc (is-seen L P small prev i m l hm q .0))
+
         go : Dec (j ≡ m) → Dec (g ≡ m) → getD (after m) g 0 ≡ j / k
         go (yes a) b = absurd (not-seen g (omega (arith, r .1, r .2, a)) (sym (r .3) ∙ ap (rowAt L) a))
         go (no a) (yes b) = absurd (not-seen j (omega (arith, r .0, r .2, b)) (r .3 ∙ ap (rowAt L) b))

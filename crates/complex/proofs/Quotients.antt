@@ -5,7 +5,7 @@ use native.Mathlib.Nat.{mul-add, add-mul, mul-assoc, mul-comm, suc-mul, one-mul,
 use native.Mathlib.Omega.{arith}
 use lib.Dec.{lit<}
 
--- n cut into w parts of q, with r left: the product by q + 1 lies in part c where that by 1 / w does
+-- n is cut into w parts of q, with r left; of a number below q, the product with q + 1 by n is the quotient by w
 module _ (n q r c a w : ℕ) (cut : q * w + r ≡ n) (rest : r < w) (at : a < w) (few : c * w + a < q) where
   product : (c * w + a) * (q + 1) ≡ c * (q * w) + a * q + (c * w + a)
   product =

@@ -20,8 +20,9 @@ use Rattle.complex.specs.Accept.{Listed, badSign, listedCells, repeats, 
 use Rattle.complex.specs.Held.{badAt, beyondAt, cellHeld, cellRead, falls, faults, heldCells, recordList}
 use Rattle.complex.specs.Layout.{cellOf, listSize}
 use Rattle.complex.specs.Scan.{anyBelow}
-use Rattle.complex.proofs.Adjacent.{held-falls, held-vertex, part-length}
+use Rattle.complex.proofs.Adjacent.{held-falls, held-vertex}
 use Rattle.complex.proofs.Below.{below-not, some-below, true-unless}
+use Rattle.complex.proofs.Codec.{part-length}
 use Rattle.complex.proofs.SortedTests.{beyond-last, fallsIn, twice-falls}
 use Rattle.complex.proofs.Tests.{of-none, or-false}
 

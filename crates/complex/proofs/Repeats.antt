@@ -20,7 +20,8 @@ use Rattle.complex.specs.Accept.{crowdedFace, equalSigns}
 use Rattle.complex.specs.Matching.{lastBelow}
 use Rattle.complex.specs.Scan.{anyBelow, seenAt, seenLike, seenTwice}
 use Rattle.complex.proofs.Below.{below-false, some-below, true-unless}
-use Rattle.complex.proofs.LastBelow.{found-last, last-above}
+use Rattle.complex.proofs.Earlier.{last-bounds}
+use Rattle.complex.proofs.LastBelow.{last-is}
 use Rattle.complex.proofs.Solid.{rowAt}
 use Rattle.complex.proofs.Spots.{count-three, count-two, onRow, onSigned, spots, sum-counts, three, total-counts}
 use Rattle.complex.proofs.Tables.{cellAt}
@@ -52,14 +53,14 @@ module _ (L : List Cell) (P : List ℕ) (small : length L ≤ 32768) (prev : Pre
   pub seen-is : (g : ℕ) → g < length L → seenAt (length L) P g ≡ true → (getD P g 0 < g) × (rowAt L (getD P g 0) ≡ rowAt L g)
   seen-is g h e =
       let l : getD P g 0 < length L = ltb-true (getD P g 0) (length L) e in
-      let r = found-last (λ f. sameRow (rowAt L f) (rowAt L g)) g (λ z. omega (arith, prev g h)) in
+      let r = last-is (λ f. sameRow (rowAt L f) (rowAt L g)) g (λ z. omega (arith, prev g h)) in
       rw (prev g h) (r .0, sameRow-true (rowAt L (prevIn L g)) (rowAt L g) (r .1))
 
   -- a cell with the same row before g was seen
   pub is-seen : (f g : ℕ) → f < g → g < length L → rowAt L f ≡ rowAt L g → (seenAt (length L) P g ≡ true) × (f ≤ getD P g 0)
   is-seen f g l h e =
-      let r = last-above (λ f. sameRow (rowAt L f) (rowAt L g)) g f l (same-rows (rowAt L f) (rowAt L g) e) in
-      (lt-ltb (getD P g 0) (length L) (omega (arith, prev g h, r .1)), omega (arith, prev g h, r .0))
+      let r = last-bounds (λ f. sameRow (rowAt L f) (rowAt L g)) g f l (same-rows (rowAt L f) (rowAt L g) e) in
+      (lt-ltb (getD P g 0) (length L) (omega (arith, prev g h, r .0)), omega (arith, prev g h, r .1))
 
   module _ (w : Row) where
     two-rows : (f g : ℕ) → f < g → g < length L → rowAt L f ≡ w → rowAt L g ≡ w → 2 ≤ total w L
@@ -80,11 +81,13 @@ module _ (L : List Cell) (P : List ℕ) (small : length L ≤ 32768) (prev : Pre
       found r e =
           let k = seen-is (r .0) (r .1) (r .2) in
           omega (arith, two-rows (rowAt L (r .0)) (getD P (r .0) 0) (r .0) (k .0) (r .1) (k .1) refl, few-of 1 L e (rowAt L (r .0)))
+
       once : anyBelow (length L) (seenAt (length L) P) ≡ false → (w : Row) → Dec (1 < total w L) → total w L ≤ 1
       once e w (yes l) =
           let r = spots (onRow w) L (omega (arith, total-counts w L)) in
           absurd (below-false (seenAt (length L) P) (length L) e (r .1) (r .3) (is-seen (r .0) (r .1) (r .2) (r .3) (is-row w (r .0) (r .4) ∙ sym (is-row w (r .1) (r .5))) .0))
       once e w (no l) = omega arith
+
       go : (t : Bool) → anyBelow (length L) (seenAt (length L) P) ≡ t → anyOf (λ c. ltb 1 (total (c .row) L)) L ≡ t
       go true e = true-unless _ (found (some-below (seenAt (length L) P) (length L) e))
       go false e = of-few 1 L (λ w. once e w (decLt 1 (total w L))) L
@@ -102,18 +105,21 @@ module _ (L : List Cell) (P : List ℕ) (small : length L ≤ 32768) (prev : Pre
           let hf : f < length L = omega (arith, r .1, k .0) in
           let j = seen-is f hf (both .1) in
           omega (arith, three-rows (rowAt L g) (getD P f 0) f g (j .0) (k .0) (r .1) (j .1 ∙ k .1) (k .1) refl, few-of 2 L e (rowAt L g))
+
       twice : (w : Row) (f g h : ℕ) → f < g → g < h → h < length L → rowAt L f ≡ w → rowAt L g ≡ w → rowAt L h ≡ w → seenTwice (length L) P h ≡ true
       twice w f g h l m n a b c =
           let r = is-seen g h m n (b ∙ sym c) in
           let k = seen-is h n (r .0) in
           let s = is-seen f (getD P h 0) (omega (arith, l, r .1)) (omega (arith, k .0, n)) (a ∙ sym c ∙ sym (k .1)) in
           and-both (seenAt (length L) P h) (seenAt (length L) P (getD P h 0)) (r .0) (s .0)
+
       few : anyBelow (length L) (seenTwice (length L) P) ≡ false → (w : Row) → Dec (2 < total w L) → total w L ≤ 2
       few e w (yes l) =
           let r = three (onRow w) L (omega (arith, total-counts w L)) in
           absurd (below-false (seenTwice (length L) P) (length L) e (r .2) (r .5)
           (twice w (r .0) (r .1) (r .2) (r .3) (r .4) (r .5) (is-row w (r .0) (r .6)) (is-row w (r .1) (r .7)) (is-row w (r .2) (r .8))))
       few e w (no l) = omega arith
+
       go : (t : Bool) → anyBelow (length L) (seenTwice (length L) P) ≡ t → crowdedFace L ≡ t
       go true e = true-unless _ (found (some-below (seenTwice (length L) P) (length L) e))
       go false e = of-few 2 L (λ w. few e w (decLt 2 (total w L))) L
@@ -125,8 +131,10 @@ module _ (L : List Cell) (P : List ℕ) (small : length L ≤ 32768) (prev : Pre
       where
         r : (seenAt (length L) P g ≡ true) × (f ≤ getD P g 0)
         r = is-seen f g l h e
+
         k : (getD P g 0 < g) × (rowAt L (getD P g 0) ≡ rowAt L g)
         k = seen-is g h (r .0)
+
         go : Dec (f < getD P g 0) → getD P g 0 ≡ f
         go (yes m) = absurd (omega (arith, three-rows (rowAt L g) f (getD P g 0) g m (k .0) h e (k .1) refl, meet (rowAt L g)))
         go (no m) = omega (arith, r .1)
@@ -147,8 +155,13 @@ module _ (L : List Cell) (P : List ℕ) (small : length L ≤ 32768) (prev : Pre
               let on-f : times (cellAt L f .sign) s ≡ true = rw (sym (signs f (omega (arith, r .1, k .0))), sym eq) (times-self s) in
               let on-g : times (cellAt L g .sign) s ≡ true = rw (sym (signs g (r .1))) (times-self s) in
               let w = rowAt L g in
-              omega (arith, sum-counts s w L, signs-once L e s w,
-              count-two (onSigned s w) L f g (k .0) (r .1) (and-both _ _ on-f (same-rows (rowAt L f) w (k .1))) (and-both _ _ on-g (same-rows w w refl)))
+              omega (
+                arith,
+                sum-counts s w L,
+                signs-once L e s w,
+                count-two (onSigned s w) L f g (k .0) (r .1) (and-both _ _ on-f (same-rows (rowAt L f) w (k .1))) (and-both _ _ on-g (same-rows w w refl)),
+              )
+
           once : anyBelow (length L) (seenLike (length L) P sg) ≡ false → (s : Sign) (w : Row) → Dec (1 < sumChain (plusOn w) s L) → sumChain (plusOn w) s L ≤ 1
           once e s w (yes l) =
               let r = spots (onSigned s w) L (omega (arith, sum-counts s w L)) in
@@ -163,6 +176,7 @@ module _ (L : List Cell) (P : List ℕ) (small : length L ≤ 32768) (prev : Pre
               absurd (below-false (seenLike (length L) P sg) (length L) e g (r .3)
               (and-both (seenAt (length L) P g) (times (sg g) (sg (getD P g 0))) (is-seen f g (r .2) (r .3) rows .0) (rw (is, sf, sgg) (times-self s))))
           once e s w (no l) = omega arith
+
           go : (t : Bool) → anyBelow (length L) (seenLike (length L) P sg) ≡ t → equalSigns L ≡ t
           go true e = true-unless _ (found (some-below (seenLike (length L) P sg) (length L) e))
           go false e = once-signs L (λ s w. once e s w (decLt 1 (sumChain (plusOn w) s L))) L

@@ -106,6 +106,7 @@ twice-falls d w e = go (fallsIn d (sorted w)) refl
   where
     long : length (sorted w) ≡ suc d
     long = sorted-length w ∙ e
+
     go : (t : Bool) → fallsIn d (sorted w) ≡ t → repeats w ≡ t
     go true k = true-unless (repeats w) (λ z. true≢false (sym k ∙ not-falls d (sorted w) long (sorted-ascends w (once-each w z))))
     go false k = no-repeats w (λ x. omega (arith, sorted-occurs x w, once-each (sorted w) (asc-once (sorted w) (falls-not d (sorted w) long k)) x))

@@ -22,6 +22,7 @@ part-same n p X Y h e same = ext-getD 0 (part n p X) (part n p Y) (long X h ∙ 
   where
     long : (Z : List ℕ) → p * n + n ≤ length Z → length (part n p Z) ≡ n
     long Z l = length-take-le n (drop (p * n) Z) (rw (length-drop (p * n) Z) (omega arith))
+
     word : (Z : List ℕ) (i : ℕ) → i < n → getD (part n p Z) i 0 ≡ getD Z (p * n + i) 0
     word Z i l = getD-take n (drop (p * n) Z) i 0 l ∙ getD-drop (p * n) Z i 0
 
@@ -67,7 +68,7 @@ module _ (d : ℕ) (row : List ℕ) (hd : d ≤ 7) (eight : length row ≡ 8) wh
   unfolding rowSorted
   sorted-front = take-at (sorted (take (suc d) row)) (drop (suc d) row) (suc d) (sorted-length (take (suc d) row) ∙ length-take-le (suc d) row (omega arith))
 
-  pub sorted-eight : length (rowSorted (suc d) row) ≡ 8
+  sorted-eight : length (rowSorted (suc d) row) ≡ 8
   unfolding rowSorted
   sorted-eight =
       omega (arith, length-append (sorted (take (suc d) row)) (drop (suc d) row), sorted-length (take (suc d) row), length-take-le (suc d) row (omega arith), length-drop (suc d) row)
@@ -86,16 +87,21 @@ gathered size d p ws rows signs row new rows′ signs′ n at odd t hd hz hp wid
       wide = ap length er ∙ paste-wide rows new p hp wide new-eight;
       many = ap length eg ∙ length-set signs p t ∙ many;
       new = ap₂ cell (ap (λ (xs : List Sign). getD xs p false) eg ∙ getD-set-same signs p t false (omega arith) ∙ sign) (ap (take (suc d)) (ap (part 8 p) er ∙ paste-here rows new p hp wide new-eight) ∙ front);
-      old = λ q l. ap₂ cell (ap (λ (xs : List Sign). getD xs q false) eg ∙ getD-set-other signs p q t false (ne-of-lt l)) (ap (take (suc d)) (ap (part 8 q) er ∙ paste-there rows new p hp wide new-eight q l)) }
+      old = λ q l. ap₂ cell (ap (λ (xs : List Sign). getD xs q false) eg ∙ getD-set-other signs p q t false (ne-of-lt l)) (ap (take (suc d)) (ap (part 8 q) er ∙ paste-there rows new p hp wide new-eight q l));
+    }
   where
     es′ : new ≡ rowSorted (suc d) row
     es′ = es ∙ ap (λ n. rowSorted n row) en
+
     new-eight : length new ≡ 8
     new-eight = ap length es′ ∙ sorted-eight d row hd eight
+
     row-is : take (suc d) row ≡ cellRead size d ws p .row
     row-is = ap (λ n. take n row) (sym en) ∙ read ∙ ap₂ (λ n at. take n (drop at ws)) en ea ∙ sym (read-row size d p ws hz)
+
     front : take (suc d) new ≡ sorted (cellRead size d ws p .row)
     front = ap (take (suc d)) es′ ∙ sorted-front d row hd eight ∙ ap sorted row-is
+
     sign : t ≡ times (orientation (cellRead size d ws p .row)) (cellRead size d ws p .sign)
     sign =
         et ∙ ap (λ o. times (not o) (signOf (getD ws (p * size) 0))) (eo ∙ ap (λ n. rowOdd n row) en) ∙ sorted-sign d row hd eight (signOf (getD ws (p * size) 0))

@@ -20,9 +20,10 @@ use Rattle.simplex.proofs.Without.{without-inj}
 use Rattle.complex.specs.Held.{Blank, Winged}
 use Rattle.complex.specs.Pairing.{faceCount, paired}
 use Rattle.complex.specs.Wings.{hasFace, neighbour}
-use Rattle.complex.proofs.FaceKeys.{facet-cell, facets-length, key-below, key-div, key-mod}
+use Rattle.complex.proofs.FaceKeys.{facet-cell, facets-length, key-inside}
 use Rattle.complex.proofs.Mates.{Mate, paired-alone, paired-mate}
 use Rattle.complex.proofs.Neighbours.{Wing, has-face, has-is, neighbour-empty, neighbour-is, othersWith-ge}
+use Rattle.complex.proofs.Quotients.{cell-of-key, place-of-key}
 use Rattle.complex.proofs.Repeats.{Prev}
 use Rattle.complex.proofs.Solid.{all-at, rowAt}
 use Rattle.complex.proofs.Tables.{cellAt, neighbour-of-nothing}
@@ -62,14 +63,14 @@ module _ (d : ℕ) (cs : List Cell) (long : All (Long (suc d)) cs) where
     where
       go : (d : ℕ) → 1 ≤ d → b < suc d → q * suc d + b < faceCount d (length cs)
       go zero l h = absurd (omega arith)
-      go (suc e) l h = key-below (suc (suc e)) (length cs) q b hq h
+      go (suc e) l h = key-inside (suc (suc e)) (length cs) q b hq h
 
   -- the row of key q (d + 1) + b
   row-of : (q b : ℕ) → b < suc d → q * suc d + b < length (facets cs) → rowAt (facets cs) (q * suc d + b) ≡ without b (rowAt cs q)
   row-of q b hb h =
       ap (λ (c : Cell). c .row) (facet-cell d cs long (q * suc d + b) h .1)
-      ∙ ap (λ i. without ((q * suc d + b) % suc d) (rowAt cs i)) (key-div (suc d) q b hb)
-      ∙ ap (λ i. without i (rowAt cs q)) (key-mod (suc d) q b hb)
+      ∙ ap (λ i. without ((q * suc d + b) % suc d) (rowAt cs i)) (cell-of-key q b (suc d) hb)
+      ∙ ap (λ i. without i (rowAt cs q)) (place-of-key q b (suc d) hb)
 
 module _ (d : ℕ) (cs : List Cell) (P W : List ℕ) (long : All (Long (suc d)) cs) (asc : All Asc cs) (few : length cs ≤ 4096) (small : length cs * suc d ≤ 32768)
     (prev : Prev (facets cs) P) (meet : (w : Row) → total w (facets cs) ≤ 2) (wide : length W ≡ 32768) (blank : (g : ℕ) → g < 32768 → getD W g 0 ≡ empty) where
@@ -95,10 +96,13 @@ module _ (d : ℕ) (cs : List Cell) (P W : List ℕ) (long : All (Long (suc d)) 
         let b = f .0 in
         let hb : b < suc d = omega (arith, f .1, row-length q (r .1)) in
         let hf : q * suc d + b < length (facets cs) = inside d cs long q b hd (r .1) hb in
-        paired-mate (facets cs) P n-small prev meet (suc d) W (omega (arith, n-small, wide)) (q * suc d + b) (p * suc d + a)
-        (hf, g-inside, (λ z. r .3 (sym (zero-add q ∙ sym (key-div (suc d) q b hb) ∙ ap (λ i. i / suc d) z ∙ key-div (suc d) p a ha))),
-        row-of d cs long q b hb hf ∙ f .2 ∙ sym (row-of d cs long p a ha g-inside))
-        ∙ key-div (suc d) q b hb ∙ sym (r .2 ∙ zero-add q)
+        paired-mate (facets cs) P n-small prev meet (suc d) W (omega (arith, n-small, wide)) (q * suc d + b) (p * suc d + a) (
+          hf,
+          g-inside,
+          (λ z. r .3 (sym (zero-add q ∙ sym (cell-of-key q b (suc d) hb) ∙ ap (λ i. i / suc d) z ∙ cell-of-key p a (suc d) ha))),
+          row-of d cs long q b hb hf ∙ f .2 ∙ sym (row-of d cs long p a ha g-inside),
+        )
+        ∙ cell-of-key q b (suc d) hb ∙ sym (r .2 ∙ zero-add q)
 
     -- a mate's cell is a neighbour
     none : neighbour p (without a (rowAt cs p)) cs ≡ empty → (f : ℕ) → Mate (facets cs) (length (facets cs)) f (p * suc d + a) → ⊥
@@ -106,20 +110,27 @@ module _ (d : ℕ) (cs : List Cell) (P W : List ℕ) (long : All (Long (suc d)) 
       where
         r : (f / suc d < length cs) × (cellAt (facets cs) f ≡ face (f % suc d) (cellAt cs (f / suc d)))
         r = facet-cell d cs long f (m .0)
+
         same : without (f % suc d) (rowAt cs (f / suc d)) ≡ without a (rowAt cs p)
         same = sym (ap (λ (c : Cell). c .row) (r .1)) ∙ m .3 ∙ row-of d cs long p a ha g-inside
+
         hb : (f % suc d) < suc d
         hb = mod-lt f {m = suc d} (omega arith)
+
         go : Dec ((f / suc d) ≡ p) → ⊥
         go (yes z) =
             let y : a ≡ (f % suc d) = faces-apart (rowAt cs p) a (f % suc d) (all-at Asc cs asc p hp) (omega (arith, row-length p hp)) (omega (arith, hb, row-length p hp))
-                (sym (ap (λ i. without (f % suc d) (rowAt cs i)) (sym z) ∙ same)) in
+            (sym (ap (λ i. without (f % suc d) (rowAt cs i)) (sym z) ∙ same)) in
             m .2 (sym (div-add-mod' f (suc d)) ∙ ap (λ i. i * suc d + (f % suc d)) z ∙ ap (λ i. p * suc d + i) (sym y))
         go (no z) =
             let has : hasFace (without a (rowAt cs p)) (rowAt cs (f / suc d)) ≡ true =
-                    subst (λ v. hasFace v (rowAt cs (f / suc d)) ≡ true) same (has-face (f % suc d) (rowAt cs (f / suc d)) (omega (arith, hb, row-length (f / suc d) (r .0))) (omega (arith, row-length (f / suc d) (r .0)))) in
-            omega (arith, ap one has, othersWith-ge p 0 (f / suc d) (without a (rowAt cs p)) cs (r .0) (λ y. z (sym (y ∙ zero-add (f / suc d)))),
-            neighbour-empty p 0 (without a (rowAt cs p)) cs (omega arith) e)
+            subst (λ v. hasFace v (rowAt cs (f / suc d)) ≡ true) same (has-face (f % suc d) (rowAt cs (f / suc d)) (omega (arith, hb, row-length (f / suc d) (r .0))) (omega (arith, row-length (f / suc d) (r .0)))) in
+            omega (
+              arith,
+              ap one has,
+              othersWith-ge p 0 (f / suc d) (without a (rowAt cs p)) cs (r .0) (λ y. z (sym (y ∙ zero-add (f / suc d)))),
+              neighbour-empty p 0 (without a (rowAt cs p)) cs (omega arith) e,
+            )
 
     paired-at : Left (neighbour p (without a (rowAt cs p)) cs)
     paired-at = go (eqb (neighbour p (without a (rowAt cs p)) cs) empty) refl

@@ -1,10 +1,10 @@
--- Keys linked by buckets; key f is the row key f.
---   term v              the weight of a vertex
---   weight w            the weight of a row
---   bucketOf w          the bucket of a row; it does not depend on the place of a vertex
---   lastIn key b m      the last key before m in bucket b, or 65535
---   Heads key head m    head has the last key before m of each bucket
---   Linked key prev m   prev has, for each key before m, the last earlier key of its bucket
+-- Keys linked by buckets. key f is the row of key f.
+--   term v                    the weight of a vertex
+--   weight w                  the weight of a row: a sum, so that one vertex less is one term less
+--   bucketOf w                the bucket of a row
+--   lastIn key b m            the last key before m in bucket b, or 65535
+--   Heads key head m          head has the last key before m of each bucket
+--   Linked key prev m         prev has, for each key before m, the last earlier key of its bucket
 --   Linking key head prev m   both, while the keys before m are linked
 use mathlib.Core.Path.{_≡_}
 use mathlib.Core.List.{List, [], _∷_}

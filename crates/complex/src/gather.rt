@@ -1,6 +1,7 @@
 // Cells from words: each row in ascending order, eight words a cell, and its sign; and the tests of rows 6, 7 and 8.
 // A record has size words: a sign word, d + 1 vertices, and perhaps more.
-use crate::adjacency::{product, wide};
+use crate::adjacency::product;
+use crate::adjacency::wide;
 use simplex::sort::sort_row;
 ghost use mathlib.Core.Path.{_≡_};
 ghost use Prim.Native.Nat.{ℕ, suc, _+_, _*_, _<_, _≤_};
@@ -37,7 +38,14 @@ fn store_row(row: [u16; 8], p: usize, rows: &mut [u16; 32768])
 }
 
 // Cell p read, put in ascending order, and stored.
-fn gather_cell(size: usize, d: usize, p: usize, words: &[u16], rows: &mut [u16; 32768], signs: &mut [bool; 4096])
+fn gather_cell(
+    size: usize,
+    d: usize,
+    p: usize,
+    words: &[u16],
+    rows: &mut [u16; 32768],
+    signs: &mut [bool; 4096],
+)
     requires { ⌜ (d ≤ 7) × (d + 2 ≤ size) × (size ≤ 17) × (p < 4096) × (p * size + size ≤ length (now words)) ⌝ }
     requires { ⌜ (length (now rows) ≡ 32768) × (length (now signs) ≡ 4096) ⌝ }
     ensures { λ _. ⌜ Gathered size d p (now (words .entry)) (now (rows .entry)) (now (signs .entry)) (now (rows .exit)) (now (signs .exit)) ⌝ }
@@ -50,7 +58,14 @@ fn gather_cell(size: usize, d: usize, p: usize, words: &[u16], rows: &mut [u16; 
 }
 
 // The s cells of the words, in ascending order.
-pub fn gather(size: usize, d: usize, s: usize, words: &[u16], rows: &mut [u16; 32768], signs: &mut [bool; 4096])
+pub fn gather(
+    size: usize,
+    d: usize,
+    s: usize,
+    words: &[u16],
+    rows: &mut [u16; 32768],
+    signs: &mut [bool; 4096],
+)
     requires { ⌜ (d ≤ 7) × (d + 2 ≤ size) × (size ≤ 17) × (s ≤ 4096) × (s * size ≤ length (now words)) ⌝ }
     requires { ⌜ (length (now rows) ≡ 32768) × (length (now signs) ≡ 4096) ⌝ }
     ensures { λ _. ⌜ (length (now (rows .exit)) ≡ 32768) × (length (now (signs .exit)) ≡ 4096) ⌝ }

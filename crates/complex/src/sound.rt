@@ -1,10 +1,11 @@
 // Whether a table is sound: it is the table of its own cells, and those are acceptable.
 use crate::table::same;
 use crate::take::take;
-use crate::wing::within_limits;
+use crate::take::within_limits;
 ghost use mathlib.Core.Path.{_≡_};
 ghost use Rattle.complex.specs.Table.{sound};
 
+// Whether the words are a sound table of s cells of dimension d on v vertices.
 pub fn is_sound(d: usize, v: usize, s: usize, table: &[u16]) -> bool
     ensures { λ r. ⌜ r ≡ sound d v s (now (table .entry)) ⌝ }
 {

@@ -36,13 +36,7 @@ fn word_at(
 }
 
 // Word j of the table.
-fn word(
-    d: usize,
-    j: usize,
-    rows: &[u16; 32768],
-    signs: &[bool; 4096],
-    wings: &[u16; 32768],
-) -> u16
+fn word(d: usize, j: usize, rows: &[u16; 32768], signs: &[bool; 4096], wings: &[u16; 32768]) -> u16
     requires { ⌜ (d ≤ 7) × (j < 4096 * (d + d + 3)) ⌝ }
     ensures { λ r. ⌜ r ≡ tableWord d (now (rows .entry)) (now (signs .entry)) (now (wings .entry)) j ⌝ }
 {

@@ -1,25 +1,14 @@
 // The call wing: it takes a list of cells and writes its table.
 use crate::table::fill;
 use crate::take::take;
-use rules::limits::{Shape, Shaped};
-use rules::refusal::{Answer, Refusal};
+use crate::take::within_limits;
+use rules::refusal::Answer;
+use rules::refusal::Refusal;
 ghost use mathlib.Core.Path.{_≡_};
 ghost use Prim.Native.Nat.{_≤_};
 ghost use lib.ListN.{length};
-ghost use Rattle.rules.specs.Limits.{maxDimension};
 ghost use Rattle.rules.specs.Numbers.{numberOf, outcomeOf};
-ghost use Rattle.rules.specs.Shapes.{shapeOk};
 ghost use Rattle.complex.specs.Wing.{wingInput, wingOutcome, wingBuffer};
-
-// Whether the numbers of a table are within the limits.
-pub fn within_limits(d: usize, v: usize, s: usize) -> bool
-    ensures { λ r. ⌜ r ≡ shapeOk maxDimension d v s ⌝ }
-{
-    match Shape::new(Shape::MAX_DIMENSION, d, v, s) {
-        Shaped::Within(_) => true,
-        Shaped::Outside => false,
-    }
-}
 
 // The refusal of one of the rows 6 to 11.
 fn refusal_of(k: u8) -> Refusal
@@ -36,6 +25,8 @@ fn refusal_of(k: u8) -> Refusal
     }
 }
 
+// Writes the table of s cells of dimension d on v vertices from the start of the lent words, and answers how many
+// words that are; or says why not, and writes nothing.
 pub fn wing(d: usize, v: usize, s: usize, cells: &[u16], table: &mut [u16]) -> Answer
     ensures answer { λ r. ⌜ outcomeOf r ≡ wingOutcome (wingInput d v s (now (cells .entry)) (length (now (table .entry)))) ⌝ }
     ensures buffer { λ _. ⌜ now (table .exit) ≡ wingBuffer (wingInput d v s (now (cells .entry)) (length (now (table .entry)))) (now (table .entry)) ⌝ }

@@ -1,4 +1,5 @@
 -- The call read: it takes a file's bytes, writes its cells and its points, and answers the header.
+--   readInput b cells points     the input: the bytes, and the lengths of the two lent buffers
 --   headerOf b            the header's numbers and the step
 --   readRules, readOutcome (the header), readCells and readPoints (the two lent buffers)
 use mathlib.Core.Bool.{Bool, not, _&&_, _||_}
@@ -27,15 +28,19 @@ pub record ReadInput : Type 0 where
   pub cellRoom : ℕ
   pub pointRoom : ℕ
 
+abbrev pub readInput : List ℕ → ℕ → ℕ → ReadInput
+readInput b cells points = record { bytes = b; cellRoom = cells; pointRoom = points }
+
 -- 1: under 40 bytes, or mark or version wrong
 abbrev pub notOurs : List ℕ → Bool
 notOurs b = ltb (length b) headerSize || not (sameRow (take 3 b) mark && eqb (word16 b 3) version)
 
--- 2: d 0 to 6, n from d + 1 to 8, sizes, steps, kind
+-- 2, of the numbers by themselves: d 0 to 6, n from d + 1 to 8, sizes, steps, kind
+abbrev pub numbersFit : ℕ → ℕ → ℕ → ℕ → ℕ → ℕ → Bool
+numbersFit d n v s h k = shapeOk maxSource d v s && ((axesOk n && leb (suc d) n) && (stepsOk h && within 1 3 k))
+
 abbrev pub numbersOk : List ℕ → Bool
-numbersOk b =
-    shapeOk maxSource (dimensionOf b) (vertexCountOf b) (cellCountOf b)
-    && ((axesOk (axesOf b) && leb (suc (dimensionOf b)) (axesOf b)) && (stepsOk (stepsOf b) && within 1 3 (kindOf b)))
+numbersOk b = numbersFit (dimensionOf b) (axesOf b) (vertexCountOf b) (cellCountOf b) (stepsOf b) (kindOf b)
 
 -- 4: all three floats of the header, used or not, and all points
 abbrev pub floatsOk : List ℕ → Bool

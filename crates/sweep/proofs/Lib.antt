@@ -14,7 +14,6 @@ pub mod Meeting
 pub mod SweptSolid
 pub mod SweptWings
 pub mod SweptTable
-pub mod Placed
 pub mod TableWords
 pub mod Bounds
 pub mod WingWords

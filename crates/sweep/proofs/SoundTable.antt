@@ -32,7 +32,7 @@ use Rattle.complex.proofs.Tables.{table-at, table-wing}
 use Rattle.sweep.specs.Sweep.{sweptCells}
 use Rattle.sweep.specs.Wings.{backTo}
 use Rattle.sweep.specs.Written.{solidEntries, solidVertex, solidWing, Ready}
-use Rattle.sweep.proofs.Placed.{concat-tabulate-length}
+use Rattle.words.proofs.Placed.{concat-tabulate-length}
 use Rattle.sweep.proofs.SweptWings.{back-is}
 use Rattle.sweep.proofs.TableWords.{part-long}
 

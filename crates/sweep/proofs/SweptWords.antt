@@ -15,7 +15,7 @@ use Rattle.words.proofs.Records.{tabulate-ext, tabulate-map}
 use Rattle.complex.specs.Layout.{entriesOf, entryWords, tableWords, tableLength, recordSize}
 use Rattle.sweep.specs.Sweep.{sweptEntry, sweptTable, sweptWords, sweptLength}
 use Rattle.sweep.specs.Written.{sweepInput, solidEntries, recordWords, prismWords, levelWords, allWords}
-use Rattle.sweep.proofs.Placed.{concat-tabulate-length, words-concat}
+use Rattle.words.proofs.Placed.{concat-tabulate-length, words-concat}
 use Rattle.sweep.proofs.RecordLaws.{record-long}
 
 module _ (d v s h : ℕ) (ws : List ℕ) where

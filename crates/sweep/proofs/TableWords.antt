@@ -17,7 +17,6 @@ use Rattle.rules.specs.Limits.{empty}
 use Rattle.simplex.specs.Cell.{cell}
 use Rattle.complex.specs.Layout.{Entry, recordSize, listSize, tableLength, entryOf}
 use Rattle.complex.specs.Table.{entryAt}
-use Rattle.complex.proofs.Adjacent.{part-length}
 use Rattle.sweep.specs.Written.{solidEntries, solidVertex, solidWing}
 
 pub inside : (s n p j : ℕ) → p < s → j < n → p * n + j < s * n
@@ -27,7 +26,8 @@ pub part-at : (n p j : ℕ) (ws : List ℕ) → j < n → getD (part n p ws) j 0
 part-at n p j ws h = getD-take n (drop (p * n) ws) j 0 h ∙ getD-drop (p * n) ws j 0
 
 pub part-long : (n p s : ℕ) (ws : List ℕ) → p < s → length ws ≡ s * n → length (part n p ws) ≡ n
-part-long n p s ws h e = part-length n p s ws h (omega (arith, e))
+part-long n p s ws h e =
+    length-take-le n (drop (p * n) ws) (rw (length-drop (p * n) ws) (omega (arith, suc-mul p n, mul-le-mul-right {m = suc p} {n = s} n h)))
 
 -- inside a list the element for outside does not matter
 default-free : (xs : List ℕ) (i a b : ℕ) → i < length xs → getD xs i a ≡ getD xs i b

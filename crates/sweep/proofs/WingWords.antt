@@ -6,13 +6,14 @@
 -- Assumes nothing.
 use mathlib.Core.Path.{_≡_, refl, sym, ap, ap₂, _∙_}
 use mathlib.Core.Bool.{true, false}
-use Prim.Native.Nat.{ℕ, suc, _+_, _-_, _%_, _≤_, _<_}
+use Prim.Native.Nat.{ℕ, zero, suc, _+_, _-_, _%_, _≤_, _<_}
 use native.Mathlib.Numerals.{add-one}
 use native.Mathlib.Omega.{arith}
+use lib.Dec.{eqb}
 use borrow.Author.Tests.{eq-eqb, ne-eqb, le-leb, lt-ltb}
 use Rattle.rules.specs.Limits.{empty, maxSource}
 use Rattle.simplex.specs.Cell.{alternating}
-use Rattle.complex.proofs.Seeing.{alternating-even}
+use Rattle.simplex.proofs.Signs.{not-not}
 use Rattle.sweep.specs.Sides.{sidePair}
 use Rattle.sweep.specs.SideTable.{sidePairOf}
 use Rattle.sweep.specs.Wings.{cellNumber, backFrom, backTo, wingAside}
@@ -55,8 +56,15 @@ module _ (d s h i p a l : ℕ) (wing : ℕ → ℕ → ℕ) (hd : d ≤ maxSourc
     pub aside-full : (wing p a ≡ empty → ⊥) → cellNumber d s i q k ≡ wingAside d s h wing i p a l
     aside-full full = rw (ne-eqb (wing p a) empty full) (ap₂ (cellNumber d s i) q-is cell-is)
 
+alternating-rest : (n : ℕ) → alternating n ≡ eqb (n % 2) 0
+alternating-rest zero = refl
+alternating-rest (suc zero) = refl
+alternating-rest (suc (suc n)) =
+    let same : n % 2 ≡ suc (suc n) % 2 = omega arith in
+    not-not (alternating n) ∙ alternating-rest n ∙ ap (λ m. eqb m 0) same
+
 pub even-plus : (n : ℕ) → n % 2 ≡ 0 → alternating n ≡ true
-even-plus n e = alternating-even n ∙ eq-eqb (n % 2) 0 e
+even-plus n e = alternating-rest n ∙ eq-eqb (n % 2) 0 e
 
 pub odd-minus : (n : ℕ) → (n % 2 ≡ 0 → ⊥) → alternating n ≡ false
-odd-minus n e = alternating-even n ∙ ne-eqb (n % 2) 0 e
+odd-minus n e = alternating-rest n ∙ ne-eqb (n % 2) 0 e

@@ -4,6 +4,5 @@ pub mod Sides
 pub mod SideTable
 pub mod Wings
 pub mod Sweep
-pub mod Placed
 pub mod Written
 pub mod RecordWords

@@ -5,7 +5,7 @@ ghost use lib.ListN.{length, getD};
 ghost use Rattle.rules.specs.Limits.{maxVertices, sweptVertices};
 ghost use Rattle.complex.specs.Layout.{recordSize};
 ghost use Rattle.sweep.specs.Cells.{atLevel};
-ghost use Rattle.sweep.specs.Placed.{placed};
+ghost use Rattle.words.specs.Placed.{placed};
 ghost use Rattle.sweep.specs.RecordWords.{turnedSign, sweptVertex};
 ghost use Rattle.sweep.specs.Written.{recordWords, prismWords, levelWords, allWords, Ready};
 use crate::reading::sign;

@@ -2,3 +2,4 @@
 pub mod Records
 pub mod Loops
 pub mod Bytes
+pub mod Placed

@@ -14,7 +14,7 @@ use Rattle.sweep.specs.Sweep.{SweepInput, sweptLength}
 use Rattle.sweep.specs.Written.{sweepInput, allWords, Ready}
 use Rattle.sweep.proofs.InLimits.{Limits, limits-are}
 use Rattle.sweep.proofs.Outcomes.{inLimits, rightLength, tooLarge, isSound, refused-at-2, refused-at-3, refused-at-12, refused-at-14, refused-at-15, accepted-with, left-alone, left-written, large-not}
-use Rattle.sweep.proofs.Placed.{placed-first}
+use Rattle.words.proofs.Placed.{placed-first}
 use Rattle.sweep.proofs.SoundTable.{sound-ready}
 use Rattle.sweep.proofs.SweptWords.{all-words, all-long}
 use Rattle.sweep.proofs.sweep.Statement.{statement}

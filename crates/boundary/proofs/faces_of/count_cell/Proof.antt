@@ -8,7 +8,7 @@ use Rattle.words.specs.Records.{tabulate, concat}
 use Rattle.complex.specs.Layout.{entryOf}
 use Rattle.boundary.specs.Written.{facesAt}
 use Rattle.boundary.proofs.Counting.{faces-of-cell, at-most-one}
-use Rattle.boundary.proofs.Placed.{concat-more-long}
+use Rattle.words.proofs.Placed.{concat-more-long}
 use Rattle.boundary.proofs.faces_of.count_cell.Statement.{statement}
 use Rattle.boundary.proofs.faces_of.count_cell.Tie as tie
 

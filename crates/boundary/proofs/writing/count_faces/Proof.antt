@@ -10,7 +10,7 @@ use Rattle.complex.specs.Layout.{entryOf, recordSize}
 use Rattle.boundary.specs.Written.{cellFaces, entryIn}
 use Rattle.boundary.proofs.Counting.{all-faces-are}
 use Rattle.boundary.proofs.EntryWords.{part-long, lent-is}
-use Rattle.boundary.proofs.Placed.{concat-more-long}
+use Rattle.words.proofs.Placed.{concat-more-long}
 use Rattle.boundary.proofs.writing.count_faces.Statement.{statement}
 use Rattle.boundary.proofs.writing.count_faces.Tie as tie
 

@@ -6,9 +6,9 @@ use native.Mathlib.Omega.{arith}
 use borrow.Author.Needs.{needs}
 use lib.ListN.{length}
 use Rattle.complex.specs.Layout.{entryOf}
-use Rattle.boundary.specs.Placed.{placed}
+use Rattle.words.specs.Placed.{placed}
 use Rattle.boundary.proofs.Counting.{on-words, off-words}
-use Rattle.boundary.proofs.Placed.{placed-none}
+use Rattle.words.proofs.Placed.{placed-none}
 use Rattle.boundary.proofs.writing.write_at.Statement.{statement}
 use Rattle.boundary.proofs.writing.write_at.Tie as tie
 

@@ -7,10 +7,10 @@ use borrow.Author.Needs.{needs}
 use lib.ListN.{length}
 use Rattle.words.specs.Records.{tabulate, concat}
 use Rattle.complex.specs.Layout.{entryOf}
-use Rattle.boundary.specs.Placed.{placed}
+use Rattle.words.specs.Placed.{placed}
 use Rattle.boundary.specs.Written.{faceWords}
 use Rattle.boundary.proofs.Counting.{words-of-cell}
-use Rattle.boundary.proofs.Placed.{placed-none, concat-fits, placed-record}
+use Rattle.words.proofs.Placed.{placed-none, concat-fits, placed-record}
 use Rattle.boundary.proofs.writing.write_cell.Statement.{statement}
 use Rattle.boundary.proofs.writing.write_cell.Tie as tie
 

@@ -8,9 +8,9 @@ use lib.ListN.{length, take, length-set}
 use lib.Seq.{take-length}
 use Rattle.simplex.specs.Faces.{face}
 use Rattle.complex.specs.Layout.{cellWords, entryOf}
-use Rattle.boundary.specs.Placed.{placed}
+use Rattle.words.specs.Placed.{placed}
 use Rattle.boundary.proofs.EntryWords.{face-long}
-use Rattle.boundary.proofs.Placed.{placed-none, placed-word}
+use Rattle.words.proofs.Placed.{placed-none, placed-word}
 use Rattle.boundary.proofs.writing.write_face.Statement.{statement}
 use Rattle.boundary.proofs.writing.write_face.Tie as tie
 

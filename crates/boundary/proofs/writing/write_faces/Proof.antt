@@ -8,11 +8,11 @@ use borrow.Author.Needs.{needs}
 use lib.ListN.{length}
 use Rattle.words.specs.Records.{tabulate, concat}
 use Rattle.complex.specs.Layout.{entryOf, recordSize}
-use Rattle.boundary.specs.Placed.{placed}
+use Rattle.words.specs.Placed.{placed}
 use Rattle.boundary.specs.Written.{cellWordsOf, entryIn}
 use Rattle.boundary.proofs.Counting.{all-words-are}
 use Rattle.boundary.proofs.EntryWords.{part-long, lent-is}
-use Rattle.boundary.proofs.Placed.{placed-none, concat-fits, placed-record}
+use Rattle.words.proofs.Placed.{placed-none, concat-fits, placed-record}
 use Rattle.boundary.proofs.writing.write_faces.Statement.{statement}
 use Rattle.boundary.proofs.writing.write_faces.Tie as tie
 

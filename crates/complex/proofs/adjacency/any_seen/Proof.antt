@@ -1,23 +1,14 @@
-use borrow.Author.Count.{below-none}
-use Prim.Native.Nat.{ℕ, suc, _+_, _*_, _-_, _≤_, _<_}
-use mathlib.Core.Path.{_≡_, refl, sym, ap, _∙_, subst}
-use mathlib.Core.Bool.{true, false}
+-- The loop's invariant: none of the keys passed was seen before. Assumes nothing.
+use mathlib.Core.Bool.{false}
+use mathlib.Core.Path.{_≡_, sym, _∙_}
+use Prim.Native.Nat.{ℕ, _-_, _≤_, _<_}
 use native.Mathlib.Omega.{arith}
-use borrow.Author.Tests.{lt-ltb, le-ltb}
-use borrow.Author.Count.{below-more}
-use Rattle.complex.specs.Scan.{seenAt, seenTwice, seenLike}
-use Rattle.complex.specs.Pairing.{keySign}
-use Rattle.complex.proofs.Below.{any-below, none-below}
-use Prim.Native.Nat.{ℕ, _≤_, _<_, _-_, _+_, _*_}
-use mathlib.Core.Path.{_≡_}
-use native.Mathlib.Omega.{arith}
-use lib.ListN.{length, getD, set}
+use borrow.Author.Count.{below-none, below-more}
 use borrow.Author.Needs.{needs}
+use Rattle.complex.specs.Scan.{seenAt}
+use Rattle.complex.proofs.Below.{any-below, none-below}
 use Rattle.complex.proofs.adjacency.any_seen.Statement.{statement}
 use Rattle.complex.proofs.adjacency.any_seen.Tie as tie
-use Rattle.complex.proofs.adjacency.any_seen.Reads as reads
-use Rattle.complex.proofs.adjacency.any_seen.Lts as lts
-use Rattle.complex.proofs.adjacency.seen.Reads as seen-reads
 
 abbrev Inv-loop : tie.InvT-loop
 Inv-loop n prev g₀ g = (g ≤ n) × ((f : ℕ) → f < g → seenAt n prev f ≡ false)
@@ -25,31 +16,24 @@ Inv-loop n prev g₀ g = (g ≤ n) × ((f : ℕ) → f < g → seenAt n prev f �
 abbrev μ-loop : tie.MeasureT-loop
 μ-loop n prev g₀ g = n - g
 
--- src/adjacency.rt:69:5
 loop-holds : tie.Need-loop-holds Inv-loop μ-loop
 loop-holds c = (search needs, below-none _)
 
--- src/adjacency.rt:70:12
 seen-requires : tie.Need-seen-requires Inv-loop μ-loop
 seen-requires c κs = search needs
 
--- src/adjacency.rt:71:13
 returns : tie.Need-returns Inv-loop μ-loop
 returns c = sym (any-below _ _ _ (c .before .before .loop-test .taken) (sym (c .before .seen .ensures) ∙ c .if1 .taken))
 
--- src/adjacency.rt:73:9
 add-g : tie.Need-add-g Inv-loop μ-loop
 add-g c = search needs
 
--- src/adjacency.rt:69:5
 loop-less : tie.Need-loop-less Inv-loop μ-loop
 loop-less c = search needs
 
--- src/adjacency.rt:69:5
 loop-again : tie.Need-loop-again Inv-loop μ-loop
 loop-again c = (search needs, below-more _ _ (c .before .before .before .loop .inv .1) (sym (c .before .seen .ensures) ∙ c .if1 .left))
 
--- src/adjacency.rt:64:1
 returns-2 : tie.Need-returns-2 Inv-loop μ-loop
 returns-2 c = sym (none-below _ (c .before .before .args .n) (λ f l. c .before .loop .inv .1 f (omega arith)))
 

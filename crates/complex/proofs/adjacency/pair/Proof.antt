@@ -1,22 +1,14 @@
-use Rattle.complex.proofs.Seeing.{paired-more}
-use Rattle.complex.proofs.Mates.{paired-length}
-use Prim.Native.Nat.{ℕ, suc, _+_, _*_, _-_, _≤_, _<_}
-use mathlib.Core.Path.{_≡_, refl, sym, ap, _∙_, subst}
-use mathlib.Core.Bool.{true, false}
+-- The loop's invariant: the wings are what pairing the keys passed leaves. Assumes nothing.
+use mathlib.Core.Path.{_≡_, refl, ap, _∙_}
+use Prim.Native.Nat.{ℕ, _-_, _≤_}
 use native.Mathlib.Omega.{arith}
-use borrow.Author.Tests.{lt-ltb, le-ltb}
 use lib.ListN.{length}
-use Rattle.complex.specs.Pairing.{paired}
-use Prim.Native.Nat.{ℕ, _≤_, _<_, _-_, _+_, _*_}
-use mathlib.Core.Path.{_≡_}
-use native.Mathlib.Omega.{arith}
-use lib.ListN.{length, getD, set}
 use borrow.Author.Needs.{needs}
+use Rattle.complex.specs.Pairing.{paired}
+use Rattle.complex.proofs.Mates.{paired-length}
+use Rattle.complex.proofs.Seeing.{paired-more}
 use Rattle.complex.proofs.adjacency.pair.Statement.{statement}
 use Rattle.complex.proofs.adjacency.pair.Tie as tie
-use Rattle.complex.proofs.adjacency.pair.Reads as reads
-use Rattle.complex.proofs.adjacency.pair.Lts as lts
-use Rattle.complex.proofs.adjacency.pair_at.Reads as pair-at-reads
 
 abbrev Inv-loop : tie.InvT-loop
 Inv-loop n k prev wings₀ g₀ wings g = (g ≤ n) × (wings ≡ paired k n prev g wings₀)
@@ -24,31 +16,25 @@ Inv-loop n k prev wings₀ g₀ wings g = (g ≤ n) × (wings ≡ paired k n pre
 abbrev μ-loop : tie.MeasureT-loop
 μ-loop n k prev wings₀ g₀ wings g = n - g
 
--- src/adjacency.rt:123:5
 loop-holds : tie.Need-loop-holds Inv-loop μ-loop
 loop-holds c = (search needs, refl)
 
--- src/adjacency.rt:124:9
 pair-at-requires : tie.Need-pair-at-requires Inv-loop μ-loop
 pair-at-requires c κs =
     let a = c .before .before .before .args in
     (search needs, search needs, search needs, ap length (c .before .before .loop .inv .1) ∙ paired-length (a .k) (a .n) (a .prev .now) (c .before .before .loop .g) (a .wings .now) ∙ c .before .before .before .pre .2)
 
--- src/adjacency.rt:125:9
 add-g : tie.Need-add-g Inv-loop μ-loop
 add-g c = search needs
 
--- src/adjacency.rt:123:5
 loop-less : tie.Need-loop-less Inv-loop μ-loop
 loop-less c = search needs
 
--- src/adjacency.rt:123:5
 loop-again : tie.Need-loop-again Inv-loop μ-loop
 loop-again c =
     let a = c .before .before .before .before .args in
     (omega arith, paired-more (a .k) (a .n) (a .prev .now) (c .before .before .before .loop .g) (a .wings .now) _ _ (c .before .before .before .loop .inv .1) (c .pair-at .ensures))
 
--- src/adjacency.rt:118:1
 returns : tie.Need-returns Inv-loop μ-loop
 returns c =
     let all : c .before .loop .g ≡ c .before .before .args .n = omega arith in

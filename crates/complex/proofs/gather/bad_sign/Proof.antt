@@ -1,22 +1,16 @@
-use Rattle.complex.specs.Held.{badAt}
-use Prim.Native.Nat.{ℕ, _+_, _*_, _-_, _≤_, _<_}
-use mathlib.Core.Path.{_≡_, refl, sym, ap, _∙_}
+-- The loop's invariant: the sign words passed are 0 or 1. Assumes nothing.
 use mathlib.Core.Bool.{false}
-use borrow.Author.Count.{below-none, below-more}
-use Rattle.complex.proofs.Below.{any-below, none-below}
+use mathlib.Core.Path.{_≡_, sym}
+use Prim.Native.Nat.{ℕ, _-_, _≤_, _<_}
 use native.Mathlib.Nat.{mul-lt-mul-of-pos-right}
-use lib.Dec.{ltb}
-use lib.ListN.{getD}
-use borrow.Author.Tests.{lt-ltb, le-ltb}
-use Prim.Native.Nat.{ℕ, _≤_, _<_, _-_, _+_, _*_}
-use mathlib.Core.Path.{_≡_}
 use native.Mathlib.Omega.{arith}
-use lib.ListN.{length, getD, set}
+use borrow.Author.Count.{below-none, below-more}
 use borrow.Author.Needs.{needs}
+use borrow.Author.Tests.{lt-ltb, le-ltb}
+use Rattle.complex.specs.Held.{badAt}
+use Rattle.complex.proofs.Below.{any-below, none-below}
 use Rattle.complex.proofs.gather.bad_sign.Statement.{statement}
 use Rattle.complex.proofs.gather.bad_sign.Tie as tie
-use Rattle.complex.proofs.gather.bad_sign.Reads as reads
-use Rattle.complex.proofs.gather.bad_sign.Lts as lts
 
 abbrev Inv-loop : tie.InvT-loop
 Inv-loop size s words p₀ p = (p ≤ s) × ((q : ℕ) → q < p → badAt size words q ≡ false)
@@ -24,47 +18,38 @@ Inv-loop size s words p₀ p = (p ≤ s) × ((q : ℕ) → q < p → badAt size 
 abbrev μ-loop : tie.MeasureT-loop
 μ-loop size s words p₀ p = s - p
 
--- src/gather.rt:46:5
 loop-holds : tie.Need-loop-holds Inv-loop μ-loop
 loop-holds c = (search needs, below-none _)
 
--- src/gather.rt:47:22
 mul-if1 : tie.Need-mul-if1 Inv-loop μ-loop
 mul-if1 c =
     let inside = mul-lt-mul-of-pos-right {m = c .before .loop .p} {n = c .before .before .args .s} {k = c .before .before .args .size} (c .loop-test .taken) (omega arith) in
     omega arith
 
--- src/gather.rt:47:16
 mul-if1-2 : tie.Need-mul-if1-2 Inv-loop μ-loop
 mul-if1-2 c =
     let inside = mul-lt-mul-of-pos-right {m = c .before .loop .p} {n = c .before .before .args .s} {k = c .before .before .args .size} (c .loop-test .taken) (omega arith) in
     omega arith
 
--- src/gather.rt:47:16
 shared-slice-read-if1 : tie.Need-shared-slice-read-if1 Inv-loop μ-loop
 shared-slice-read-if1 c =
     let inside = mul-lt-mul-of-pos-right {m = c .before .before .loop .p} {n = c .before .before .before .args .s} {k = c .before .before .before .args .size} (c .before .loop-test .taken) (omega arith) in
     omega arith
 
--- src/gather.rt:48:13
 returns : tie.Need-returns Inv-loop μ-loop
 returns c =
     let a = c .before .before .before .before .args in
     sym (any-below (badAt (a .size) (a .words .now)) (a .s) (c .before .before .before .loop .p) (c .before .before .loop-test .taken) (lt-ltb _ _ (c .if1 .taken)))
 
--- src/gather.rt:50:9
 add-p : tie.Need-add-p Inv-loop μ-loop
 add-p c = search needs
 
--- src/gather.rt:46:5
 loop-less : tie.Need-loop-less Inv-loop μ-loop
 loop-less c = search needs
 
--- src/gather.rt:46:5
 loop-again : tie.Need-loop-again Inv-loop μ-loop
 loop-again c = (search needs, below-more _ _ (c .before .before .before .loop .inv .1) (le-ltb _ _ (c .if1 .left)))
 
--- src/gather.rt:41:1
 returns-2 : tie.Need-returns-2 Inv-loop μ-loop
 returns-2 c =
     let a = c .before .before .args in

@@ -1,21 +1,16 @@
-use Prim.Native.Nat.{ℕ, _+_, _*_, _-_, _≤_, _<_}
-use mathlib.Core.Path.{_≡_, refl, sym, ap, _∙_}
+-- The loop's invariant: the last vertices passed are below v. Assumes nothing.
 use mathlib.Core.Bool.{false}
-use borrow.Author.Count.{below-none, below-more}
-use Rattle.complex.proofs.Below.{any-below, none-below}
+use mathlib.Core.Path.{_≡_, sym, ap, _∙_}
+use Prim.Native.Nat.{ℕ, _-_, _≤_, _<_}
+use native.Mathlib.Omega.{arith}
 use lib.Dec.{leb}
+use borrow.Author.Count.{below-none, below-more}
+use borrow.Author.Needs.{needs}
 use borrow.Author.Tests.{le-leb, lt-leb}
 use Rattle.complex.specs.Held.{beyondAt}
-use Prim.Native.Nat.{ℕ, _≤_, _<_, _-_, _+_, _*_}
-use mathlib.Core.Path.{_≡_}
-use native.Mathlib.Omega.{arith}
-use lib.ListN.{length, getD, set}
-use borrow.Author.Needs.{needs}
+use Rattle.complex.proofs.Below.{any-below, none-below}
 use Rattle.complex.proofs.gather.beyond.Statement.{statement}
 use Rattle.complex.proofs.gather.beyond.Tie as tie
-use Rattle.complex.proofs.gather.beyond.Reads as reads
-use Rattle.complex.proofs.gather.beyond.Lts as lts
-use Rattle.complex.proofs.adjacency.wide.Reads as wide-reads
 
 abbrev Inv-loop : tie.InvT-loop
 Inv-loop d v s rows p₀ p = (p ≤ s) × ((q : ℕ) → q < p → beyondAt d v rows q ≡ false)
@@ -23,51 +18,40 @@ Inv-loop d v s rows p₀ p = (p ≤ s) × ((q : ℕ) → q < p → beyondAt d v 
 abbrev μ-loop : tie.MeasureT-loop
 μ-loop d v s rows p₀ p = s - p
 
--- src/gather.rt:60:5
 loop-holds : tie.Need-loop-holds Inv-loop μ-loop
 loop-holds c = (search needs, below-none _)
 
--- src/gather.rt:61:27
 mul-wide : tie.Need-mul-wide Inv-loop μ-loop
 mul-wide c = search needs
 
--- src/gather.rt:61:27
 add-wide : tie.Need-add-wide Inv-loop μ-loop
 add-wide c = search needs
 
--- src/gather.rt:61:22
 mul-wide-2 : tie.Need-mul-wide-2 Inv-loop μ-loop
 mul-wide-2 c = search needs
 
--- src/gather.rt:61:22
 element-copy-out-wide : tie.Need-element-copy-out-wide Inv-loop μ-loop
 element-copy-out-wide c = search needs
 
--- src/gather.rt:61:17
 wide-requires : tie.Need-wide-requires Inv-loop μ-loop
 wide-requires c κs = search needs
 
--- src/gather.rt:62:13
 returns : tie.Need-returns Inv-loop μ-loop
 returns c =
     let a = c .before .before .before .before .before .args in
     sym (any-below (beyondAt (a .d) (a .v) (a .rows .now)) (a .s) (c .before .before .before .before .loop .p) (c .before .before .before .loop-test .taken) (ap (leb (a .v)) (sym (c .before .wide .ensures)) ∙ le-leb _ _ (c .if1 .taken)))
 
--- src/gather.rt:64:9
 add-p : tie.Need-add-p Inv-loop μ-loop
 add-p c = search needs
 
--- src/gather.rt:60:5
 loop-less : tie.Need-loop-less Inv-loop μ-loop
 loop-less c = search needs
 
--- src/gather.rt:60:5
 loop-again : tie.Need-loop-again Inv-loop μ-loop
 loop-again c =
     let a = c .before .before .before .before .before .args in
     (search needs, below-more _ _ (c .before .before .before .before .loop .inv .1) (ap (leb (a .v)) (sym (c .before .wide .ensures)) ∙ lt-leb _ _ (c .if1 .left)))
 
--- src/gather.rt:55:1
 returns-2 : tie.Need-returns-2 Inv-loop μ-loop
 returns-2 c =
     let a = c .before .before .args in

@@ -1,66 +1,46 @@
-use Prim.Native.Nat.{ℕ, _+_, _*_, _-_, _≤_, _<_}
-use mathlib.Core.Path.{_≡_, refl, sym, ap, _∙_}
+-- Cell p is read, sorted and stored: the law `gathered`. Assumes nothing.
+use mathlib.Core.Path.{refl}
+use Prim.Native.Nat.{_+_, _*_}
 use native.Mathlib.Numerals.{add-one}
-use Rattle.complex.proofs.Stored.{gathered}
-use Prim.Native.Nat.{ℕ, _≤_, _<_, _-_, _+_, _*_}
-use mathlib.Core.Path.{_≡_}
 use native.Mathlib.Omega.{arith}
-use lib.ListN.{length, getD, set}
 use borrow.Author.Needs.{needs}
+use Rattle.complex.proofs.Stored.{gathered}
 use Rattle.complex.proofs.gather.gather_cell.Statement.{statement}
 use Rattle.complex.proofs.gather.gather_cell.Tie as tie
-use Rattle.complex.proofs.gather.gather_cell.Reads as reads
-use Rattle.complex.proofs.gather.gather_cell.Lts as lts
-use Rattle.complex.proofs.adjacency.product.Reads as product-reads
-use Rattle.complex.proofs.gather.read_row.Reads as read-row-reads
-use Rattle.complex.proofs.gather.store_row.Reads as store-row-reads
-use Rattle.simplex.proofs.sort.sort_row.Reads as sort-row-reads
 
--- src/gather.rt:45:14
 mul-at : tie.Need-mul-at
 mul-at c = search needs
 
--- src/gather.rt:46:36
 add-read-row : tie.Need-add-read-row
 add-read-row c = search needs
 
--- src/gather.rt:46:43
 add-read-row-2 : tie.Need-add-read-row-2
 add-read-row-2 c = search needs
 
--- src/gather.rt:46:27
 read-row-requires : tie.Need-read-row-requires
 read-row-requires c κs = search needs
 
--- src/gather.rt:46:59
 add-sort-row : tie.Need-add-sort-row
 add-sort-row c = search needs
 
--- src/gather.rt:46:9
 sort-row-requires : tie.Need-sort-row-requires
 sort-row-requires c κs = search needs
 
--- src/gather.rt:48:37
 mul-product : tie.Need-mul-product
 mul-product c = search needs
 
--- src/gather.rt:48:37
 shared-slice-read-product : tie.Need-shared-slice-read-product
 shared-slice-read-product c = search needs
 
--- src/gather.rt:48:16
 product-requires : tie.Need-product-requires
 product-requires c κs = search needs
 
--- src/gather.rt:48:5
 element-write-signs : tie.Need-element-write-signs
 element-write-signs c = search needs
 
--- src/gather.rt:49:5
 store-row-requires : tie.Need-store-row-requires
 store-row-requires c κs = search needs
 
--- src/gather.rt:40:1
 returns : tie.Need-returns
 returns c =
     let a = c .before .before .before .before .before .before .before .before .before .args in

@@ -1,17 +1,12 @@
-use Prim.Native.Nat.{ℕ, _+_, _*_, _-_, _≤_, _<_}
+-- The loop's invariant: the words passed are in the row. Assumes nothing.
 use mathlib.Core.Path.{_≡_, refl, sym, ap, _∙_}
-use mathlib.Core.Bool.{false}
-use lib.ListN.{length, take, drop, length-set}
-use Rattle.complex.proofs.Reading.{read-more}
-use Prim.Native.Nat.{ℕ, _≤_, _<_, _-_, _+_, _*_}
-use mathlib.Core.Path.{_≡_}
+use Prim.Native.Nat.{ℕ, _-_, _≤_}
 use native.Mathlib.Omega.{arith}
-use lib.ListN.{length, getD, set}
+use lib.ListN.{length, take, drop, length-set}
 use borrow.Author.Needs.{needs}
+use Rattle.complex.proofs.Reading.{read-more}
 use Rattle.complex.proofs.gather.read_row.Statement.{statement}
 use Rattle.complex.proofs.gather.read_row.Tie as tie
-use Rattle.complex.proofs.gather.read_row.Reads as reads
-use Rattle.complex.proofs.gather.read_row.Lts as lts
 
 abbrev Inv-loop : tie.InvT-loop
 Inv-loop n at words row₀ j₀ row j = (j ≤ n) × (length row ≡ 8) × (take j row ≡ take j (drop at words))
@@ -19,46 +14,36 @@ Inv-loop n at words row₀ j₀ row j = (j ≤ n) × (length row ≡ 8) × (take
 abbrev μ-loop : tie.MeasureT-loop
 μ-loop n at words row₀ j₀ row j = n - j
 
--- src/gather.rt:21:5
 loop-holds : tie.Need-loop-holds Inv-loop μ-loop
 loop-holds c = (search needs, refl, refl)
 
--- src/gather.rt:22:24
 add-row : tie.Need-add-row Inv-loop μ-loop
 add-row c = search needs
 
--- src/gather.rt:22:18
 mul-row : tie.Need-mul-row Inv-loop μ-loop
 mul-row c = search needs
 
--- src/gather.rt:22:18
 shared-slice-read-row : tie.Need-shared-slice-read-row Inv-loop μ-loop
 shared-slice-read-row c = search needs
 
--- src/gather.rt:22:9
 mul-row-2 : tie.Need-mul-row-2 Inv-loop μ-loop
 mul-row-2 c = search needs
 
--- src/gather.rt:22:9
 array-write-row : tie.Need-array-write-row Inv-loop μ-loop
 array-write-row c = search needs
 
--- src/gather.rt:23:9
 add-j : tie.Need-add-j Inv-loop μ-loop
 add-j c = search needs
 
--- src/gather.rt:21:5
 loop-less : tie.Need-loop-less Inv-loop μ-loop
 loop-less c = search needs
 
--- src/gather.rt:21:5
 loop-again : tie.Need-loop-again Inv-loop μ-loop
 loop-again c =
     let l = c .before .before .loop in
     let a = c .before .before .before .args in
     (omega arith, length-set (l .row) (l .j) _ ∙ l .inv .1, read-more (a .words .now) (l .row) (a .at) (l .j) (omega arith) (omega arith) (l .inv .2))
 
--- src/gather.rt:15:1
 returns : tie.Need-returns Inv-loop μ-loop
 returns c =
     let a = c .before .before .args in

@@ -1,20 +1,16 @@
-use Prim.Native.Nat.{ℕ, _+_, _*_, _-_, _≤_, _<_}
-use mathlib.Core.Path.{_≡_, refl, sym, ap, _∙_}
+-- The loop's invariant: each vertex passed is below the next. Assumes nothing.
 use mathlib.Core.Bool.{false}
-use borrow.Author.Count.{below-none, below-more}
-use Rattle.complex.proofs.Below.{any-below, none-below}
+use mathlib.Core.Path.{_≡_, sym}
+use Prim.Native.Nat.{ℕ, _+_, _*_, _-_, _≤_, _<_}
+use native.Mathlib.Omega.{arith}
 use lib.Dec.{leb}
 use lib.ListN.{getD}
-use borrow.Author.Tests.{le-leb, lt-leb}
-use Prim.Native.Nat.{ℕ, _≤_, _<_, _-_, _+_, _*_}
-use mathlib.Core.Path.{_≡_}
-use native.Mathlib.Omega.{arith}
-use lib.ListN.{length, getD, set}
+use borrow.Author.Count.{below-none, below-more}
 use borrow.Author.Needs.{needs}
+use borrow.Author.Tests.{le-leb, lt-leb}
+use Rattle.complex.proofs.Below.{any-below, none-below}
 use Rattle.complex.proofs.gather.row_falls.Statement.{statement}
 use Rattle.complex.proofs.gather.row_falls.Tie as tie
-use Rattle.complex.proofs.gather.row_falls.Reads as reads
-use Rattle.complex.proofs.gather.row_falls.Lts as lts
 
 abbrev Inv-loop : tie.InvT-loop
 Inv-loop d p rows j₀ j = (j ≤ d) × ((i : ℕ) → i < j → leb (getD rows (p * 8 + i + 1) 0) (getD rows (p * 8 + i) 0) ≡ false)
@@ -22,65 +18,50 @@ Inv-loop d p rows j₀ j = (j ≤ d) × ((i : ℕ) → i < j → leb (getD rows 
 abbrev μ-loop : tie.MeasureT-loop
 μ-loop d p rows j₀ j = d - j
 
--- src/gather.rt:76:5
 loop-holds : tie.Need-loop-holds Inv-loop μ-loop
 loop-holds c = (search needs, below-none _)
 
--- src/gather.rt:77:17
 mul-if1 : tie.Need-mul-if1 Inv-loop μ-loop
 mul-if1 c = search needs
 
--- src/gather.rt:77:17
 add-if1 : tie.Need-add-if1 Inv-loop μ-loop
 add-if1 c = search needs
 
--- src/gather.rt:77:17
 add-if1-2 : tie.Need-add-if1-2 Inv-loop μ-loop
 add-if1-2 c = search needs
 
--- src/gather.rt:77:12
 mul-if1-2 : tie.Need-mul-if1-2 Inv-loop μ-loop
 mul-if1-2 c = search needs
 
--- src/gather.rt:77:12
 element-copy-out-if1 : tie.Need-element-copy-out-if1 Inv-loop μ-loop
 element-copy-out-if1 c = search needs
 
--- src/gather.rt:77:40
 mul-if1-3 : tie.Need-mul-if1-3 Inv-loop μ-loop
 mul-if1-3 c = search needs
 
--- src/gather.rt:77:40
 add-if1-3 : tie.Need-add-if1-3 Inv-loop μ-loop
 add-if1-3 c = search needs
 
--- src/gather.rt:77:35
 mul-if1-4 : tie.Need-mul-if1-4 Inv-loop μ-loop
 mul-if1-4 c = search needs
 
--- src/gather.rt:77:35
 element-copy-out-if1-2 : tie.Need-element-copy-out-if1-2 Inv-loop μ-loop
 element-copy-out-if1-2 c = search needs
 
--- src/gather.rt:78:13
 returns : tie.Need-returns Inv-loop μ-loop
 returns c =
     let a = c .before .before .before .before .before .args in
     sym (any-below (λ (i : ℕ). leb (getD (a .rows .now) (a .p * 8 + i + 1) 0) (getD (a .rows .now) (a .p * 8 + i) 0)) (a .d) (c .before .before .before .before .loop .j) (c .before .before .before .loop-test .taken) (le-leb _ _ (c .if1 .taken)))
 
--- src/gather.rt:80:9
 add-j : tie.Need-add-j Inv-loop μ-loop
 add-j c = search needs
 
--- src/gather.rt:76:5
 loop-less : tie.Need-loop-less Inv-loop μ-loop
 loop-less c = search needs
 
--- src/gather.rt:76:5
 loop-again : tie.Need-loop-again Inv-loop μ-loop
 loop-again c = (search needs, below-more _ _ (c .before .before .before .before .loop .inv .1) (lt-leb _ _ (c .if1 .left)))
 
--- src/gather.rt:71:1
 returns-2 : tie.Need-returns-2 Inv-loop μ-loop
 returns-2 c =
     let a = c .before .before .args in

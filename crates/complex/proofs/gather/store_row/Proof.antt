@@ -1,18 +1,12 @@
-use Prim.Native.Nat.{ℕ, _+_, _*_, _-_, _≤_, _<_}
-use mathlib.Core.Path.{_≡_, refl, sym, ap, _∙_}
-use mathlib.Core.Bool.{false}
-use lib.ListN.{length}
-use lib.Seq.{paste, paste-zero}
-use Rattle.complex.proofs.Reading.{store-more}
-use Prim.Native.Nat.{ℕ, _≤_, _<_, _-_, _+_, _*_}
-use mathlib.Core.Path.{_≡_}
+-- The loop's invariant: the words passed are in their places. Assumes nothing.
+use mathlib.Core.Path.{_≡_, ap, _∙_}
+use Prim.Native.Nat.{ℕ, _*_, _-_, _≤_}
 use native.Mathlib.Omega.{arith}
-use lib.ListN.{length, getD, set}
+use lib.Seq.{paste, paste-zero}
 use borrow.Author.Needs.{needs}
+use Rattle.complex.proofs.Reading.{store-more}
 use Rattle.complex.proofs.gather.store_row.Statement.{statement}
 use Rattle.complex.proofs.gather.store_row.Tie as tie
-use Rattle.complex.proofs.gather.store_row.Reads as reads
-use Rattle.complex.proofs.gather.store_row.Lts as lts
 
 abbrev Inv-loop : tie.InvT-loop
 Inv-loop p rows₀ row j₀ rows j = (j ≤ 8) × (rows ≡ paste rows₀ (p * 8) row j)
@@ -20,49 +14,38 @@ Inv-loop p rows₀ row j₀ rows j = (j ≤ 8) × (rows ≡ paste rows₀ (p * 8
 abbrev μ-loop : tie.MeasureT-loop
 μ-loop p rows₀ row j₀ rows j = 8 - j
 
--- src/gather.rt:34:5
 loop-holds : tie.Need-loop-holds Inv-loop μ-loop
 loop-holds c = (omega arith, paste-zero (c .args .rows .now) (c .args .p * 8) (c .args .t1))
 
--- src/gather.rt:35:27
 mul-rows : tie.Need-mul-rows Inv-loop μ-loop
 mul-rows c = search needs
 
--- src/gather.rt:35:27
 array-read-rows : tie.Need-array-read-rows Inv-loop μ-loop
 array-read-rows c = search needs
 
--- src/gather.rt:35:14
 mul-rows-2 : tie.Need-mul-rows-2 Inv-loop μ-loop
 mul-rows-2 c = search needs
 
--- src/gather.rt:35:14
 add-rows : tie.Need-add-rows Inv-loop μ-loop
 add-rows c = search needs
 
--- src/gather.rt:35:9
 mul-rows-3 : tie.Need-mul-rows-3 Inv-loop μ-loop
 mul-rows-3 c = search needs
 
--- src/gather.rt:35:9
 element-write-rows : tie.Need-element-write-rows Inv-loop μ-loop
 element-write-rows c = search needs
 
--- src/gather.rt:36:9
 add-j : tie.Need-add-j Inv-loop μ-loop
 add-j c = search needs
 
--- src/gather.rt:34:5
 loop-less : tie.Need-loop-less Inv-loop μ-loop
 loop-less c = search needs
 
--- src/gather.rt:34:5
 loop-again : tie.Need-loop-again Inv-loop μ-loop
 loop-again c =
     let a = c .before .before .args in
     (omega arith, store-more (a .rows .now) (a .t1) (a .p * 8) (c .before .loop .j) _ (c .before .loop .inv .1) (omega arith) (omega arith))
 
--- src/gather.rt:29:1
 returns : tie.Need-returns Inv-loop μ-loop
 returns c =
     let a = c .before .before .args in

@@ -58,8 +58,7 @@ add-same-key-2 c =
 
 same-key-requires : tie.Need-same-key-requires Inv-loop μ-loop
 same-key-requires c κs =
-    let s = c .before .before .before .before .before .before .before in
-    let l = c .before .before .before .before .loop in (
+    let s = c .before .before .before .before .before .before .before in (
       s .pre .0 .0 .long,
       s .pre .0 .0 .vertices,
       omega (arith, c .before .before .place-of2 .ensures .0, div-lt-iff-lt-mul {y = 4096} (s .pre .0 .0 .some) .1 (lt-trans (lower (c .before .before .before)) (s .pre .0 .2))),

@@ -1,33 +1,23 @@
-use Prim.Native.Nat.{ℕ, _+_, _*_}
-use mathlib.Core.Path.{_≡_, refl, sym, ap, _∙_}
-use borrow.Author.Tests.{not-true, not-false}
-use native.Mathlib.Nat.{mul-le-mul, le-refl}
-use lib.ListN.{length, length-replicate}
+-- `is_sound` answers `sound`: each return is a case of the laws of SoundCases. Assumes nothing.
 use mathlib.Core.Bool.{Bool, false}
-use Rattle.complex.proofs.WingCases.{limits-of}
-use Rattle.complex.proofs.SoundCases.{fresh-blank, unsound-outside, unsound-length, unsound-refused, sound-same}
-use Prim.Native.Nat.{ℕ, _≤_, _<_, _-_, _+_, _*_}
-use mathlib.Core.Path.{_≡_}
+use mathlib.Core.Path.{sym, _∙_}
+use Prim.Native.Nat.{ℕ, _+_}
+use native.Mathlib.Nat.{mul-le-mul}
 use native.Mathlib.Omega.{arith}
-use lib.ListN.{length, getD, set}
+use lib.ListN.{length-replicate}
 use borrow.Author.Needs.{needs}
+use borrow.Author.Tests.{not-true, not-false}
+use Rattle.complex.proofs.SoundCases.{fresh-blank, unsound-outside, unsound-length, unsound-refused, sound-same}
+use Rattle.complex.proofs.WingCases.{limits-of}
 use Rattle.complex.proofs.sound.is_sound.Statement.{statement}
 use Rattle.complex.proofs.sound.is_sound.Tie as tie
-use Rattle.complex.proofs.sound.is_sound.Reads as reads
-use Rattle.complex.proofs.sound.is_sound.Lts as lts
-use Rattle.complex.proofs.table.same.Reads as same-reads
-use Rattle.complex.proofs.take.take.Reads as take-reads
-use Rattle.complex.proofs.wing.within_limits.Reads as within-limits-reads
 
--- src/sound.rt:11:9
 within-limits-requires : tie.Need-within-limits-requires
 within-limits-requires c κs = search needs
 
--- src/sound.rt:12:9
 returns : tie.Need-returns
 returns c = unsound-outside _ _ _ _ (sym (c .before .within-limits .ensures) ∙ not-true _ (c .if1 .taken))
 
--- src/sound.rt:14:28
 add-if2 : tie.Need-add-if2
 add-if2 c =
     let a = c .before .before .before .args in
@@ -35,7 +25,6 @@ add-if2 c =
     let lim = limits-of (a .d) (a .v) (a .s) ok in
     omega arith
 
--- src/sound.rt:14:28
 add-if2-2 : tie.Need-add-if2-2
 add-if2-2 c =
     let a = c .before .before .before .args in
@@ -43,7 +32,6 @@ add-if2-2 c =
     let lim = limits-of (a .d) (a .v) (a .s) ok in
     omega arith
 
--- src/sound.rt:14:23
 mul-if2 : tie.Need-mul-if2
 mul-if2 c =
     let a = c .before .before .before .args in
@@ -51,7 +39,6 @@ mul-if2 c =
     let lim = limits-of (a .d) (a .v) (a .s) ok in
     omega (arith, mul-le-mul {n₁ = a .s} {m₁ = a .d + a .d + 3} {n₂ = 4096} {m₂ = 17} (omega arith) (omega arith))
 
--- src/sound.rt:15:9
 returns-2 : tie.Need-returns-2
 returns-2 c =
     let a = c .before .before .before .before .args in
@@ -59,7 +46,6 @@ returns-2 c =
     let lim = limits-of (a .d) (a .v) (a .s) ok in
     unsound-length (a .d) (a .v) (a .s) (a .table .now) ok (c .if2 .taken)
 
--- src/sound.rt:20:18
 add-take : tie.Need-add-take
 add-take c =
     let a = c .before .before .before .before .args in
@@ -67,7 +53,6 @@ add-take c =
     let lim = limits-of (a .d) (a .v) (a .s) ok in
     omega arith
 
--- src/sound.rt:20:18
 add-take-2 : tie.Need-add-take-2
 add-take-2 c =
     let a = c .before .before .before .before .args in
@@ -75,7 +60,6 @@ add-take-2 c =
     let lim = limits-of (a .d) (a .v) (a .s) ok in
     omega arith
 
--- src/sound.rt:20:9
 take-requires : tie.Need-take-requires
 take-requires c κs =
     let a = c .before .before .before .before .before .before .before .args in
@@ -83,7 +67,6 @@ take-requires c κs =
     let lim = limits-of (a .d) (a .v) (a .s) ok in
     ((lim .0, omega arith, omega arith, lim .2, omega arith), (length-replicate {A = ℕ} 32768 0, length-replicate {A = Bool} 4096 false, fresh-blank))
 
--- src/sound.rt:22:9
 returns-3 : tie.Need-returns-3
 returns-3 c =
     let a = c .before .before .before .before .before .before .before .before .before .args in
@@ -91,7 +74,6 @@ returns-3 c =
     let lim = limits-of (a .d) (a .v) (a .s) ok in
     unsound-refused (a .d) (a .v) (a .s) (a .table .now) ok (c .before .before .before .before .before .if2 .left) (c .before .take .result) (c .before .take .ensures .0) (c .if3 .taken)
 
--- src/sound.rt:24:5
 same-requires : tie.Need-same-requires
 same-requires c κs =
     let a = c .before .before .before .before .before .before .before .before .before .before .before .before .args in
@@ -99,7 +81,6 @@ same-requires c κs =
     let lim = limits-of (a .d) (a .v) (a .s) ok in
     (lim .0, lim .2, c .before .before .before .before .before .before .before .before .if2 .left)
 
--- src/sound.rt:8:1
 returns-4 : tie.Need-returns-4
 returns-4 c =
     let a = c .before .before .before .before .before .before .before .before .before .before .before .before .before .args in

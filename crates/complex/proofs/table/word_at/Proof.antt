@@ -1,103 +1,80 @@
-use Prim.Native.Nat.{ℕ, _+_, _*_, _-_, _/_, _%_, _≤_, _<_}
-use mathlib.Core.Path.{_≡_, refl, sym, ap, _∙_}
+-- `word_at` answers `wordAt`, by the three kinds of words. Assumes nothing.
+use mathlib.Core.Path.{sym, _∙_}
+use Prim.Native.Nat.{_+_}
 use native.Mathlib.Nat.{mul-le-mul-right}
-use Rattle.complex.proofs.TableWords.{word-sign, word-vertex, word-wing}
-use Prim.Native.Nat.{ℕ, _≤_, _<_, _-_, _+_, _*_}
-use mathlib.Core.Path.{_≡_}
 use native.Mathlib.Omega.{arith}
-use lib.ListN.{length, getD, set}
 use borrow.Author.Needs.{needs}
+use Rattle.complex.proofs.TableWords.{word-sign, word-vertex, word-wing}
 use Rattle.complex.proofs.table.word_at.Statement.{statement}
 use Rattle.complex.proofs.table.word_at.Tie as tie
-use Rattle.complex.proofs.table.word_at.Reads as reads
-use Rattle.complex.proofs.table.word_at.Lts as lts
-use Rattle.complex.proofs.table.sign_word.Reads as sign-word-reads
 
--- src/table.rt:30:26
 element-copy-out-sign-word : tie.Need-element-copy-out-sign-word
 element-copy-out-sign-word c = search needs
 
--- src/table.rt:30:9
 sign-word-requires : tie.Need-sign-word-requires
 sign-word-requires c κs = search needs
 
--- src/table.rt:30:9
 returns : tie.Need-returns
 returns c =
     let a = c .before .before .before .args in
     c .sign-word .ensures ∙ sym (word-sign (a .d) (a .rows .now) (a .signs .now) (a .wings .now) (a .p) (a .a) (c .before .before .if1 .taken))
 
--- src/table.rt:32:13
 add-if2 : tie.Need-add-if2
 add-if2 c = search needs
 
--- src/table.rt:33:21
 mul-result : tie.Need-mul-result
 mul-result c = search needs
 
--- src/table.rt:33:30
 sub-result : tie.Need-sub-result
 sub-result c = search needs
 
--- src/table.rt:33:21
 add-result : tie.Need-add-result
 add-result c = search needs
 
--- src/table.rt:33:16
 mul-result-2 : tie.Need-mul-result-2
 mul-result-2 c = search needs
 
--- src/table.rt:33:16
 element-copy-out-result : tie.Need-element-copy-out-result
 element-copy-out-result c = search needs
 
--- src/table.rt:33:9
 returns-2 : tie.Need-returns-2
 returns-2 c =
     let a = c .before .before .before .args in
     sym (word-vertex (a .d) (a .rows .now) (a .signs .now) (a .wings .now) (a .p) (a .a) (c .before .before .if1 .left) (c .before .if2 .taken))
 
--- src/table.rt:35:16
 add-result-2 : tie.Need-add-result-2
 add-result-2 c = search needs
 
--- src/table.rt:35:11
 mul-result-3 : tie.Need-mul-result-3
 mul-result-3 c =
     let a = c .before .before .args in
     let most = mul-le-mul-right {m = a .p} {n = 4095} (a .d + 1) (omega arith) in
     omega arith
 
--- src/table.rt:35:31
 add-result-3 : tie.Need-add-result-3
 add-result-3 c = search needs
 
--- src/table.rt:35:26
 sub-result-2 : tie.Need-sub-result-2
 sub-result-2 c = search needs
 
--- src/table.rt:35:11
 add-result-4 : tie.Need-add-result-4
 add-result-4 c =
     let a = c .before .before .args in
     let most = mul-le-mul-right {m = a .p} {n = 4095} (a .d + 1) (omega arith) in
     omega arith
 
--- src/table.rt:35:5
 mul-result-4 : tie.Need-mul-result-4
 mul-result-4 c =
     let a = c .before .before .args in
     let most = mul-le-mul-right {m = a .p} {n = 4095} (a .d + 1) (omega arith) in
     omega arith
 
--- src/table.rt:35:5
 element-copy-out-result-2 : tie.Need-element-copy-out-result-2
 element-copy-out-result-2 c =
     let a = c .before .before .args in
     let most = mul-le-mul-right {m = a .p} {n = 4095} (a .d + 1) (omega arith) in
     omega arith
 
--- src/table.rt:18:1
 returns-3 : tie.Need-returns-3
 returns-3 c =
     let a = c .before .before .before .args in

@@ -26,7 +26,10 @@ enum-told-2 c = search needs
 returns-3 : tie.Need-returns-3
 returns-3 c =
     let a = c .before .before .before .before .before .args in
-    rw (shape-within maxSource (a .d) (a .v) (a .s) _ (sym (c .before .before .new .ensures) ∙ c .enum-told .given .1), le-leb _ _ (c .before .before .before .before .if1 .left), le-leb _ _ (c .before .before .before .if2 .left)) refl
+    rw
+    (shape-within maxSource (a .d) (a .v) (a .s) _ (sym (c .before .before .new .ensures) ∙ c .enum-told .given .1)
+    , le-leb _ _ (c .before .before .before .before .if1 .left), le-leb _ _ (c .before .before .before .if2 .left))
+    refl
 
 returns-4 : tie.Need-returns-4
 returns-4 c =

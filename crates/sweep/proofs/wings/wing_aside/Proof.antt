@@ -1,6 +1,7 @@
 -- The wing of a side: the cell of the side pair at the same place over the face across. Assumes nothing.
 use mathlib.Core.Path.{_≡_, refl, sym, ap, _∙_}
 use native.Mathlib.Omega.{arith}
+use Prim.Native.Nat.{ℕ}
 use borrow.Author.Needs.{needs}
 use borrow.Author.Tests.{eq-eqb}
 use Rattle.rules.specs.Limits.{empty}
@@ -9,7 +10,10 @@ use Rattle.sweep.proofs.WingWords.{cell-small, aside-full}
 use Rattle.sweep.proofs.wings.wing_aside.Statement.{statement}
 use Rattle.sweep.proofs.wings.wing_aside.Tie as tie
 
-full : (c : tie.Else1) → solidWing (c .before .before .before .args .d) (c .before .before .before .args .s) (c .before .before .before .args .table .now) (c .before .before .before .args .p) (c .before .before .before .args .a) ≡ empty → ⊥
+abbrev wingHere : tie.Start → ℕ
+wingHere c = solidWing (c .args .d) (c .args .s) (c .args .table .now) (c .args .p) (c .args .a)
+
+full : (c : tie.Else1) → wingHere (c .before .before .before) ≡ empty → ⊥
 full c e = c .if1 .left (c .before .wing .ensures ∙ e)
 
 wing-requires : tie.Need-wing-requires
@@ -24,7 +28,8 @@ wide-requires c κs = search needs
 back-requires : tie.Need-back-requires
 back-requires c κs =
     let start = c .before .before .before .before in
-    (start .pre .0 .long, omega (arith, c .wide .ensures, c .before .before .wing .ensures, start .pre .0 .across (start .args .p) (start .args .a) (start .pre .1 .1) (start .pre .1 .2) (full (c .before))))
+    let low = start .pre .0 .across (start .args .p) (start .args .a) (start .pre .1 .1) (start .pre .1 .2) (full (c .before)) in
+    (start .pre .0 .long, omega (arith, c .wide .ensures, c .before .before .wing .ensures, low))
 
 side-pair-requires : tie.Need-side-pair-requires
 side-pair-requires c κs = search needs

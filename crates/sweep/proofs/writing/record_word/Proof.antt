@@ -18,7 +18,10 @@ sign-requires : tie.Need-sign-requires
 sign-requires c κs = search needs
 
 mul-turned : tie.Need-mul-turned
-mul-turned c = omega (arith, c .before .before .before .pre .0 .dimension, mul-le-mul-left {m = c .before .before .before .args .k} {n = 6} (c .before .before .before .args .d) (omega (arith, c .before .before .before .pre .0 .dimension)))
+mul-turned c =
+    let start = c .before .before .before in
+    let low = start .pre .0 .dimension in
+    omega (arith, low, mul-le-mul-left {m = start .args .k} {n = 6} (start .args .d) (omega (arith, low)))
 
 turned-requires : tie.Need-turned-requires
 turned-requires c κs = search needs

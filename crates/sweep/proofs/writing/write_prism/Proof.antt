@@ -6,9 +6,9 @@ use native.Mathlib.Omega.{arith}
 use borrow.Author.Needs.{needs}
 use lib.ListN.{length}
 use Rattle.words.specs.Records.{tabulate, concat}
-use Rattle.sweep.specs.Placed.{placed}
+use Rattle.words.specs.Placed.{placed}
 use Rattle.sweep.specs.Written.{recordWords}
-use Rattle.sweep.proofs.Placed.{placed-none, concat-fits, placed-record}
+use Rattle.words.proofs.Placed.{placed-none, concat-fits, placed-record}
 use Rattle.sweep.proofs.SweptWords.{prism-is}
 use Rattle.sweep.proofs.writing.write_prism.Statement.{statement}
 use Rattle.sweep.proofs.writing.write_prism.Tie as tie
@@ -37,7 +37,8 @@ write-record-requires c κs =
     let start = at .before .before .before in
     let a = start .args in
     (start .pre .0, ((start .pre .1 .0 .0, start .pre .1 .0 .1, c .before .loop-test .taken)
-    , omega (arith, room start, at .loop .inv .1, at .loop .inv .2, concat-fits (a .d + 1) (at .loop .k) (recordWords (a .d) (a .v) (a .s) (a .h) (a .table .now) (a .i) (a .p)) (omega (arith, c .before .loop-test .taken)))))
+    , omega (arith, room start, at .loop .inv .1, at .loop .inv .2
+      , concat-fits (a .d + 1) (at .loop .k) (recordWords (a .d) (a .v) (a .s) (a .h) (a .table .now) (a .i) (a .p)) (omega (arith, c .before .loop-test .taken)))))
 
 add-k : tie.Need-add-k Inv-loop μ-loop
 add-k c = search needs

@@ -6,20 +6,25 @@ use native.Mathlib.Omega.{arith}
 use borrow.Author.Needs.{needs}
 use lib.ListN.{length, take, length-set}
 use lib.Seq.{take-length}
-use Rattle.sweep.specs.Placed.{placed}
+use Rattle.words.specs.Placed.{placed}
 use Rattle.sweep.specs.Written.{recordWords}
-use Rattle.sweep.proofs.Placed.{placed-none, placed-word}
+use Rattle.words.proofs.Placed.{placed-none, placed-word}
 use Rattle.sweep.proofs.RecordLaws.{record-long}
 use Rattle.sweep.proofs.writing.write_record.Statement.{statement}
 use Rattle.sweep.proofs.writing.write_record.Tie as tie
 
 abbrev Inv-loop : tie.InvT-loop
-Inv-loop d v s h table i p k at out₀ n j₀ out j = (j ≤ n) × (n ≡ d + d + 5) × (length out ≡ length out₀) × (out ≡ placed at (take j (recordWords d v s h table i p k)) out₀)
+Inv-loop d v s h table i p k at out₀ n j₀ out j =
+    (j ≤ n) × (n ≡ d + d + 5) × (length out ≡ length out₀)
+    × (out ≡ placed at (take j (recordWords d v s h table i p k)) out₀)
 
 abbrev μ-loop : tie.MeasureT-loop
 μ-loop d v s h table i p k at out₀ n j₀ out j = n - j
 
-all-words : (c : tie.After-slice-known Inv-loop μ-loop) → length (recordWords (c .before .before .args .d) (c .before .before .args .v) (c .before .before .args .s) (c .before .before .args .h) (c .before .before .args .table .now) (c .before .before .args .i) (c .before .before .args .p) (c .before .before .args .k)) ≡ c .before .before .args .d + c .before .before .args .d + 5
+abbrev theWords : tie.Start Inv-loop μ-loop → List ℕ
+theWords c = recordWords (c .args .d) (c .args .v) (c .args .s) (c .args .h) (c .args .table .now) (c .args .i) (c .args .p) (c .args .k)
+
+all-words : (c : tie.After-slice-known Inv-loop μ-loop) → length (theWords (c .before .before)) ≡ c .before .before .args .d + c .before .before .args .d + 5
 all-words c =
     let start = c .before .before in
     let a = start .args in
@@ -59,7 +64,7 @@ loop-again c =
     let a = start .args in
     let words = all-words (at .before) in
     (omega arith, omega arith, length-set (at .loop .out) _ _ ∙ at .loop .inv .2
-    , placed-word (a .at) (at .loop .j) (c .record-word .result) (recordWords (a .d) (a .v) (a .s) (a .h) (a .table .now) (a .i) (a .p) (a .k)) (a .out .now) (at .loop .out)
+    , placed-word (a .at) (at .loop .j) (c .record-word .result) (theWords start) (a .out .now) (at .loop .out)
       (omega (arith, words)) (start .pre .1 .1) (at .loop .inv .3) (c .record-word .ensures))
 
 add-result : tie.Need-add-result Inv-loop μ-loop
@@ -74,7 +79,7 @@ returns c =
     let start = at .before .before .before in
     let a = start .args in
     let words = all-words (at .before) in
-    let X = recordWords (a .d) (a .v) (a .s) (a .h) (a .table .now) (a .i) (a .p) (a .k) in
+    let X = theWords start in
     let all : at .loop .j ≡ length X = omega (arith, words) in
     (omega (arith, words), at .loop .inv .3 ∙ ap (λ (l : List ℕ). placed (a .at) l (a .out .now)) (ap (λ (n : ℕ). take n X) all ∙ take-length X))
 

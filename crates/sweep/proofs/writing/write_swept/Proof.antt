@@ -6,9 +6,9 @@ use native.Mathlib.Omega.{arith}
 use borrow.Author.Needs.{needs}
 use lib.ListN.{length}
 use Rattle.words.specs.Records.{tabulate, concat}
-use Rattle.sweep.specs.Placed.{placed}
+use Rattle.words.specs.Placed.{placed}
 use Rattle.sweep.specs.Written.{levelWords}
-use Rattle.sweep.proofs.Placed.{placed-none, concat-fits, placed-record}
+use Rattle.words.proofs.Placed.{placed-none, concat-fits, placed-record}
 use Rattle.sweep.proofs.SweptWords.{all-is}
 use Rattle.sweep.proofs.writing.write_swept.Statement.{statement}
 use Rattle.sweep.proofs.writing.write_swept.Tie as tie

@@ -1,0 +1,9 @@
+-- Laws of files.
+pub mod Parts
+pub mod Rows
+pub mod Shapes
+pub mod Mark
+pub mod Stores
+pub mod Range
+pub mod StepKinds
+pub mod Outcomes

@@ -1,0 +1,29 @@
+-- `words` answers `cellsLength`. Assumes nothing.
+use mathlib.Core.Path.{ap, ap₂}
+use Prim.Native.Nat.{_*_, _<_, _+_}
+use native.Mathlib.Omega.{arith}
+use borrow.Author.Needs.{needs}
+use Rattle.file.proofs.Parts.{product-below}
+use Rattle.file.proofs.cells.words.Statement.{statement}
+use Rattle.file.proofs.cells.words.Tie as tie
+
+cell-count-requires : tie.Need-cell-count-requires
+cell-count-requires c κs = search needs
+
+dimension-requires : tie.Need-dimension-requires
+dimension-requires c κs = search needs
+
+add-result : tie.Need-add-result
+add-result c = search needs
+
+mul-result : tie.Need-mul-result
+mul-result c =
+    let small : c .dimension .result + 2 < 258 = omega (arith, c .dimension .ensures .1) in
+    record { fits = omega (arith, product-below (c .before .cell-count .ensures .1) small) }
+
+returns : tie.Need-returns
+returns c = ap₂ _*_ (c .before .cell-count .ensures .0) (ap (λ d. d + 2) (c .dimension .ensures .0))
+
+pub words-spec : {M : Type 1} → statement M
+words-spec =
+    tie.close (tie.spec cell-count-requires dimension-requires add-result mul-result returns)

@@ -1,0 +1,46 @@
+-- `not_ours` answers row 1. Assumes nothing.
+use mathlib.Core.Path.{_≡_, refl, sym, ap, _∙_}
+use mathlib.Core.Bool.{true, false, not}
+use lib.Dec.{eqb}
+use lib.ListN.{length, take}
+use borrow.Author.Tests.{lt-ltb, le-ltb}
+use borrow.Author.Needs.{needs}
+use Rattle.simplex.specs.Cell.{sameRow}
+use Rattle.file.specs.File.{mark}
+use Rattle.file.proofs.numbers.not_ours.Statement.{statement}
+use Rattle.file.proofs.numbers.not_ours.Tie as tie
+
+returns : tie.Need-returns
+returns c = rw (lt-ltb _ 40 (c .if1 .taken)) refl
+
+slice-aggregate-starts-with : tie.Need-slice-aggregate-starts-with
+slice-aggregate-starts-with c = search needs
+
+starts-with-requires : tie.Need-starts-with-requires
+starts-with-requires c κs = search needs
+
+word16-requires : tie.Need-word16-requires
+word16-requires c κs = search needs
+
+returns-2 : tie.Need-returns-2
+returns-2 c =
+    let b = c .before .before .before .before .before .before .args .b .now in
+    let same : sameRow (take 3 b) mark ≡ true = sym (c .before .before .starts-with .ensures) ∙ c .before .if2 .taken in
+    rw (le-ltb (length b) 40 (c .before .before .before .before .if1 .left), same) (ap (λ w. not (eqb w 1)) (c .word16 .ensures))
+
+returns-3 : tie.Need-returns-3
+returns-3 c =
+    let b = c .before .before .before .before .before .args .b .now in
+    let same : sameRow (take 3 b) mark ≡ false = sym (c .before .starts-with .ensures) ∙ c .if2 .left in
+    rw (le-ltb (length b) 40 (c .before .before .before .if1 .left), same) refl
+
+pub not-ours-spec : {M : Type 1} → statement M
+not-ours-spec =
+    tie.close
+    (tie.spec
+    returns
+    slice-aggregate-starts-with
+    starts-with-requires
+    word16-requires
+    returns-2
+    returns-3)

@@ -1,0 +1,65 @@
+-- `starts_with` compares with the mark: what is left of both decides. Assumes nothing.
+use mathlib.Core.Path.{_≡_, refl, sym, _∙_}
+use Prim.Native.Nat.{_≤_, _-_}
+use native.Mathlib.Omega.{arith}
+use lib.ListN.{length, take, drop}
+use borrow.Author.Tests.{eq-eqb, ne-eqb}
+use borrow.Author.Needs.{needs}
+use Rattle.simplex.specs.Cell.{sameRow}
+use Rattle.file.proofs.Mark.{same-differs, same-next, same-end}
+use Rattle.file.proofs.numbers.starts_with.Statement.{statement}
+use Rattle.file.proofs.numbers.starts_with.Tie as tie
+
+abbrev Inv-loop : tie.InvT-loop
+Inv-loop b mark i₀ i = (i ≤ length mark) × (sameRow (take (length mark) b) mark ≡ sameRow (drop i (take (length mark) b)) (drop i mark))
+
+abbrev μ-loop : tie.MeasureT-loop
+μ-loop b mark i₀ i = length mark - i
+
+loop-holds : tie.Need-loop-holds Inv-loop μ-loop
+loop-holds c = (search needs, refl)
+
+shared-slice-read-if1 : tie.Need-shared-slice-read-if1 Inv-loop μ-loop
+shared-slice-read-if1 c = search needs
+
+shared-slice-read-if1-2 : tie.Need-shared-slice-read-if1-2 Inv-loop μ-loop
+shared-slice-read-if1-2 c = search needs
+
+returns : tie.Need-returns Inv-loop μ-loop
+returns c =
+    let l = c .before .before .before .before .loop in
+    let a = c .before .before .before .before .before .args in
+    sym (l .inv .1 ∙ same-differs (a .b .now) (a .mark .now) (l .i) (c .before .before .before .loop-test .taken) (c .before .before .before .before .before .pre) (ne-eqb _ _ (c .if1 .taken)))
+
+add-i : tie.Need-add-i Inv-loop μ-loop
+add-i c = search needs
+
+loop-less : tie.Need-loop-less Inv-loop μ-loop
+loop-less c = search needs
+
+loop-again : tie.Need-loop-again Inv-loop μ-loop
+loop-again c =
+    let l = c .before .before .before .before .loop in
+    let a = c .before .before .before .before .before .args in
+    (omega arith, l .inv .1 ∙ same-next (a .b .now) (a .mark .now) (l .i) (c .before .before .before .loop-test .taken) (c .before .before .before .before .before .pre) (eq-eqb _ _ (c .if1 .left)))
+
+returns-2 : tie.Need-returns-2 Inv-loop μ-loop
+returns-2 c =
+    let l = c .before .loop in
+    let a = c .before .before .args in
+    sym (l .inv .1 ∙ same-end (a .b .now) (a .mark .now) (l .i) (c .loop-test .left) (c .before .before .pre))
+
+pub starts-with-spec : {M : Type 1} → statement M
+starts-with-spec =
+    tie.close
+    (tie.spec
+    Inv-loop
+    μ-loop
+    loop-holds
+    shared-slice-read-if1
+    shared-slice-read-if1-2
+    returns
+    add-i
+    loop-less
+    loop-again
+    returns-2)

@@ -1,0 +1,185 @@
+// The cells of a file, and rows 6 to 8 of the refusal table.
+use crate::numbers;
+use words::copy;
+use words::little;
+ghost use mathlib.Core.Path.{_≡_};
+ghost use mathlib.Core.Bool.{not, _||_};
+ghost use mathlib.Core.List.{_∷_};
+ghost use Prim.Native.Nat.{_+_, _*_, _<_, _≤_};
+ghost use lib.Dec.{eqb, leb};
+ghost use lib.ListN.{length, getD};
+ghost use lib.Seq.{sets};
+ghost use Rattle.words.specs.Records.{anyOf};
+ghost use Rattle.words.specs.Bytes.{wordsFrom};
+ghost use Rattle.rules.specs.Calls.{written};
+ghost use Rattle.complex.specs.Layout.{signWord};
+ghost use Rattle.complex.specs.Accept.{vertexBeyond, vertexTwice, repeats};
+ghost use Rattle.file.specs.File.{headerSize, dimensionOf, vertexCountOf, cellCountOf, cellsStart, cellBytes, fileLength, signBytes, fileCells};
+ghost use Rattle.file.specs.Read.{cellsLength, fileWords};
+
+// Where cell p stands.
+fn cell_at(b: &[u8], p: usize) -> usize
+    requires { ⌜ (length (now b) ≡ fileLength (now b)) × (p < cellCountOf (now b)) ⌝ }
+    ensures { λ r. ⌜ (r ≡ cellsStart (now (b .entry)) + p * cellBytes (dimensionOf (now (b .entry)))) × (r + cellBytes (dimensionOf (now (b .entry))) ≤ length (now (b .entry))) ⌝ }
+{
+    let points = numbers::point_count(b);
+    let size = numbers::cell_size(numbers::dimension(b));
+    40 + points * 8 + p * size
+}
+
+fn no_sign(x: u8) -> bool
+    ensures { λ r. ⌜ r ≡ not (eqb x 43 || eqb x 45) ⌝ }
+{
+    if x == 43 {
+        return false;
+    }
+    x != 45
+}
+
+// Row 6: a sign byte that is neither plus nor minus.
+pub fn bad_sign(b: &[u8]) -> bool
+    requires { ⌜ length (now b) ≡ fileLength (now b) ⌝ }
+    ensures { λ r. ⌜ r ≡ anyOf (λ x. not (eqb x 43 || eqb x 45)) (signBytes (now (b .entry))) ⌝ }
+{
+    let count = numbers::cell_count(b);
+    let mut p: usize = 0;
+    while p < count {
+        let at = cell_at(b, p);
+        if no_sign(b[at]) {
+            return true;
+        }
+        p += 1;
+    }
+    false
+}
+
+// Whether one of the m vertices from `at` is v or above.
+fn beyond(b: &[u8], at: usize, m: usize, v: usize) -> bool
+    requires { ⌜ at + m * 2 ≤ length (now b) ⌝ }
+    ensures { λ r. ⌜ r ≡ anyOf (λ x. leb v x) (wordsFrom (now (b .entry)) at m) ⌝ }
+{
+    let mut from = at;
+    let mut left = m;
+    while 0 < left {
+        let x = little::word16(b, from) as usize;
+        if v <= x {
+            return true;
+        }
+        from += 2;
+        left -= 1;
+    }
+    false
+}
+
+// Row 7: a vertex that is the vertex count or above.
+pub fn bad_vertex(b: &[u8]) -> bool
+    requires { ⌜ length (now b) ≡ fileLength (now b) ⌝ }
+    ensures { λ r. ⌜ r ≡ vertexBeyond (vertexCountOf (now (b .entry))) (fileCells (now (b .entry))) ⌝ }
+{
+    let count = numbers::cell_count(b);
+    let v = numbers::vertex_count(b);
+    let m = numbers::dimension(b) + 1;
+    let mut p: usize = 0;
+    while p < count {
+        let at = cell_at(b, p);
+        if beyond(b, at + 1, m, v) {
+            return true;
+        }
+        p += 1;
+    }
+    false
+}
+
+// Whether x is one of the m vertices from `at`.
+fn holds(b: &[u8], at: usize, m: usize, x: u16) -> bool
+    requires { ⌜ at + m * 2 ≤ length (now b) ⌝ }
+    ensures { λ r. ⌜ r ≡ anyOf (eqb x) (wordsFrom (now (b .entry)) at m) ⌝ }
+{
+    let mut from = at;
+    let mut left = m;
+    while 0 < left {
+        let y = little::word16(b, from);
+        if x == y {
+            return true;
+        }
+        from += 2;
+        left -= 1;
+    }
+    false
+}
+
+// Whether one of the m vertices from `at` comes again after itself.
+fn repeated(b: &[u8], at: usize, m: usize) -> bool
+    requires { ⌜ at + m * 2 ≤ length (now b) ⌝ }
+    ensures { λ r. ⌜ r ≡ repeats (wordsFrom (now (b .entry)) at m) ⌝ }
+{
+    let mut from = at;
+    let mut left = m;
+    while 0 < left {
+        let x = little::word16(b, from);
+        if holds(b, from + 2, left - 1, x) {
+            return true;
+        }
+        from += 2;
+        left -= 1;
+    }
+    false
+}
+
+// Row 8: a vertex twice in a cell.
+pub fn vertex_twice(b: &[u8]) -> bool
+    requires { ⌜ length (now b) ≡ fileLength (now b) ⌝ }
+    ensures { λ r. ⌜ r ≡ vertexTwice (fileCells (now (b .entry))) ⌝ }
+{
+    let count = numbers::cell_count(b);
+    let m = numbers::dimension(b) + 1;
+    let mut p: usize = 0;
+    while p < count {
+        let at = cell_at(b, p);
+        if repeated(b, at + 1, m) {
+            return true;
+        }
+        p += 1;
+    }
+    false
+}
+
+// Words of all cells, each a sign word and its vertices.
+pub fn words(b: &[u8]) -> usize
+    requires { ⌜ headerSize ≤ length (now b) ⌝ }
+    ensures { λ r. ⌜ r ≡ cellsLength (now (b .entry)) ⌝ }
+{
+    numbers::cell_count(b) * (numbers::dimension(b) + 2)
+}
+
+fn sign_word(x: u8) -> u16
+    ensures { λ r. ⌜ r ≡ signWord (eqb x 43) ⌝ }
+{
+    if x == 43 { 0 } else { 1 }
+}
+
+// Writes the sign word and the m vertices of the cell at `at` to the places from `to`.
+fn write_cell(b: &[u8], at: usize, m: usize, out: &mut [u16], to: usize)
+    requires { ⌜ (at + 1 + m * 2 ≤ length (now b)) × (to + 1 + m ≤ length (now out)) ⌝ }
+    ensures { λ _. ⌜ now (out .exit) ≡ sets (now (out .entry)) to (signWord (eqb (getD (now (b .entry)) at 0) 43) ∷ wordsFrom (now (b .entry)) (at + 1) m) ⌝ }
+{
+    out[to] = sign_word(b[at]);
+    copy::copy16(b, at + 1, m, out, to + 1);
+}
+
+// Writes the cells from the start of `out`.
+pub fn write_cells(b: &[u8], out: &mut [u16])
+    requires { ⌜ (length (now b) ≡ fileLength (now b)) × (cellsLength (now b) ≤ length (now out)) ⌝ }
+    ensures { λ _. ⌜ now (out .exit) ≡ written (fileWords (now (b .entry))) (now (out .entry)) ⌝ }
+{
+    let count = numbers::cell_count(b);
+    let m = numbers::dimension(b) + 1;
+    let mut p: usize = 0;
+    let mut to: usize = 0;
+    while p < count {
+        let at = cell_at(b, p);
+        write_cell(b, at, m, out, to);
+        to += m + 1;
+        p += 1;
+    }
+}

@@ -1,0 +1,165 @@
+// The header of a file: its numbers, and rows 1 to 3 of the refusal table.
+use rules::limits::Shape;
+use rules::limits::Shaped;
+use words::little;
+ghost use mathlib.Core.Path.{_≡_};
+ghost use mathlib.Core.Bool.{not};
+ghost use Prim.Native.Nat.{_+_, _<_, _≤_};
+ghost use lib.Dec.{eqb};
+ghost use lib.ListN.{length, getD, take};
+ghost use Rattle.simplex.specs.Cell.{sameRow};
+ghost use Rattle.file.specs.File.{headerSize, dimensionOf, axesOf, vertexCountOf, cellCountOf, stepsOf, pointCount, cellBytes, fileLength};
+ghost use Rattle.file.specs.Read.{notOurs, numbersFit, numbersOk};
+
+fn wide(x: u8) -> usize
+    ensures { λ r. ⌜ (r ≡ x) × (r < 256) ⌝ }
+{
+    x as usize
+}
+
+fn long(x: u16) -> usize
+    ensures { λ r. ⌜ (r ≡ x) × (r < 65536) ⌝ }
+{
+    x as usize
+}
+
+pub fn byte_at(b: &[u8], at: usize) -> usize
+    requires { ⌜ at < length (now b) ⌝ }
+    ensures { λ r. ⌜ (r ≡ getD (now (b .entry)) at 0) × (r < 256) ⌝ }
+{
+    wide(b[at])
+}
+
+pub fn dimension(b: &[u8]) -> usize
+    requires { ⌜ headerSize ≤ length (now b) ⌝ }
+    ensures { λ r. ⌜ (r ≡ dimensionOf (now (b .entry))) × (r < 256) ⌝ }
+{
+    byte_at(b, 5)
+}
+
+pub fn axes(b: &[u8]) -> usize
+    requires { ⌜ headerSize ≤ length (now b) ⌝ }
+    ensures { λ r. ⌜ (r ≡ axesOf (now (b .entry))) × (r < 256) ⌝ }
+{
+    byte_at(b, 6)
+}
+
+pub fn vertex_count(b: &[u8]) -> usize
+    requires { ⌜ headerSize ≤ length (now b) ⌝ }
+    ensures { λ r. ⌜ (r ≡ vertexCountOf (now (b .entry))) × (r < 65536) ⌝ }
+{
+    long(little::word16(b, 7))
+}
+
+pub fn cell_count(b: &[u8]) -> usize
+    requires { ⌜ headerSize ≤ length (now b) ⌝ }
+    ensures { λ r. ⌜ (r ≡ cellCountOf (now (b .entry))) × (r < 65536) ⌝ }
+{
+    long(little::word16(b, 9))
+}
+
+pub fn steps(b: &[u8]) -> usize
+    requires { ⌜ headerSize ≤ length (now b) ⌝ }
+    ensures { λ r. ⌜ (r ≡ stepsOf (now (b .entry))) × (r < 65536) ⌝ }
+{
+    long(little::word16(b, 11))
+}
+
+// Floats of all points.
+pub fn point_count(b: &[u8]) -> usize
+    requires { ⌜ headerSize ≤ length (now b) ⌝ }
+    ensures { λ r. ⌜ (r ≡ pointCount (now (b .entry))) × (r < 16777216) ⌝ }
+{
+    vertex_count(b) * axes(b)
+}
+
+// Bytes of a cell of dimension d.
+pub fn cell_size(d: usize) -> usize
+    requires { ⌜ d < 256 ⌝ }
+    ensures { λ r. ⌜ (r ≡ cellBytes d) × (r < 1024) ⌝ }
+{
+    1 + (d + 1) * 2
+}
+
+// Whether the bytes begin with the mark.
+fn starts_with(b: &[u8], mark: &[u8]) -> bool
+    requires { ⌜ length (now mark) ≤ length (now b) ⌝ }
+    ensures { λ r. ⌜ r ≡ sameRow (take (length (now (mark .entry))) (now (b .entry))) (now (mark .entry)) ⌝ }
+{
+    let mut i: usize = 0;
+    while i < mark.len() {
+        if b[i] != mark[i] {
+            return false;
+        }
+        i += 1;
+    }
+    true
+}
+
+// Row 1: under 40 bytes, or mark or version wrong.
+pub fn not_ours(b: &[u8]) -> bool
+    ensures { λ r. ⌜ r ≡ notOurs (now (b .entry)) ⌝ }
+{
+    if b.len() < 40 {
+        return true;
+    }
+    if starts_with(b, b"WNG") {
+        return little::word16(b, 3) != 1;
+    }
+    true
+}
+
+fn numbers_outside(d: usize, n: usize, v: usize, s: usize, h: usize, kind: usize) -> bool
+    ensures { λ r. ⌜ r ≡ not (numbersFit d n v s h kind) ⌝ }
+{
+    let Shaped::Within(_) = Shape::new(Shape::MAX_SOURCE, d, v, s) else {
+        return true;
+    };
+    if n < 1 {
+        return true;
+    }
+    if Shape::MAX_AXES < n {
+        return true;
+    }
+    if n <= d {
+        return true;
+    }
+    if h < 1 {
+        return true;
+    }
+    if Shape::MAX_STEPS < h {
+        return true;
+    }
+    if kind < 1 {
+        return true;
+    }
+    if 3 < kind {
+        return true;
+    }
+    false
+}
+
+// Row 2: a number outside its limits, or the kind not 1 to 3.
+pub fn outside_limits(b: &[u8]) -> bool
+    requires { ⌜ headerSize ≤ length (now b) ⌝ }
+    ensures { λ r. ⌜ r ≡ not (numbersOk (now (b .entry))) ⌝ }
+{
+    let d = dimension(b);
+    let n = axes(b);
+    let v = vertex_count(b);
+    let s = cell_count(b);
+    let h = steps(b);
+    let kind = byte_at(b, 13);
+    numbers_outside(d, n, v, s, h, kind)
+}
+
+// Row 3: a length that is not what the numbers say.
+pub fn wrong_length(b: &[u8]) -> bool
+    requires { ⌜ headerSize ≤ length (now b) ⌝ }
+    ensures { λ r. ⌜ r ≡ not (eqb (length (now (b .entry))) (fileLength (now (b .entry)))) ⌝ }
+{
+    let points = point_count(b);
+    let count = cell_count(b);
+    let size = cell_size(dimension(b));
+    b.len() != 40 + points * 8 + count * size
+}
