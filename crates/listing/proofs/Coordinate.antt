@@ -14,9 +14,9 @@ use lib.Dec.{leb, ltb}
 use lib.ListN.{length}
 use lib.Ieee.{Float}
 use borrow.Author.Tests.{ne-eqb, lt-ltb, ltb-true, leb-true}
-use Rattle.rules.proofs.Tests.{and-parts}
 use Rattle.words.specs.Records.{allOf}
 use Rattle.words.specs.Text.{ascii}
+use Rattle.rules.proofs.Tests.{and-parts}
 use Rattle.listing.specs.Decimal.{digits, thousandths, negative, minusOf, threeDigits, coordinate}
 use Rattle.listing.specs.Reading.{isDigit, valueOf, unsigned, wholePart, decimals, inThousandths}
 use Rattle.listing.proofs.Digits.{digits-value, digits-some, digits-are-digits}

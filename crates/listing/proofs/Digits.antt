@@ -2,8 +2,10 @@
 --   digits-value          read back they are n
 --   digits-some, no-leading-zero      there is a first byte, and it is 48 only for n = 0
 --   digits-are-digits     each byte is 48 to 57, of any n
+--   digits-one, digits-more       one digit, or those of n / 10 and one more
+--   digits-length         there are at most 20
 -- Assumes nothing.
-use mathlib.Core.Path.{_≡_, refl, _∙_, sym}
+use mathlib.Core.Path.{_≡_, refl, _∙_, sym, ap}
 use mathlib.Core.Bool.{Bool, true, false, cond, _&&_}
 use mathlib.Core.List.{List, [], _∷_, _++_}
 use Prim.Native.Nat.{ℕ, zero, suc, _+_, _*_, _-_, _/_, _^_, _≤_, _<_}
@@ -102,3 +104,32 @@ up-to-are-digits (suc k) n =
 pub digits-are-digits : (n : ℕ) → allOf isDigit (digits n) ≡ true
 unfolding digits
 digits-are-digits n = up-to-are-digits 19 n
+
+-- a digit more to spare changes nothing
+spare-next : (k n : ℕ) → digitsUpTo (suc k) (n / 10) ≡ digitsUpTo k (n / 10) → Dec (n < 10) → digitsUpTo (suc (suc k)) n ≡ digitsUpTo (suc k) n
+spare-next k n e (yes p) = one-digit (suc (suc k)) n p ∙ sym (one-digit (suc k) n p)
+spare-next k n e (no p) =
+    more-digits (suc k) n (omega arith) ∙ ap (λ (bs : List ℕ). bs ++ digit n ∷ []) e ∙ sym (more-digits k n (omega arith))
+
+spare : (k n : ℕ) → n < 10 ^ suc k → digitsUpTo (suc k) n ≡ digitsUpTo k n
+spare zero n h = one-digit 1 n h ∙ sym (one-digit 0 n h)
+spare (suc k) n h = spare-next k n (spare k (n / 10) (tenth-below (suc k) n h)) (decLt n 10)
+
+pub digits-one : (n : ℕ) → n < 10 → digits n ≡ digit n ∷ []
+unfolding digits
+digits-one n h = one-digit 19 n h
+
+pub digits-more : (n : ℕ) → 10 ≤ n → n < 10 ^ 20 → digits n ≡ digits (n / 10) ++ digit n ∷ []
+unfolding digits
+digits-more n h l =
+    more-digits 18 n h ∙ ap (λ (bs : List ℕ). bs ++ digit n ∷ []) (sym (spare 18 (n / 10) (tenth-below 19 n l)))
+
+up-to-length : (k n : ℕ) → length (digitsUpTo k n) ≤ suc k
+up-to-length zero n = omega arith
+up-to-length (suc k) n =
+    either (λ bs. length bs ≤ suc (suc k)) (ltb n 10) (omega arith)
+    (omega (arith, length-append (digitsUpTo k (n / 10)) (digit n ∷ []), up-to-length k (n / 10)))
+
+pub digits-length : (n : ℕ) → length (digits n) ≤ 20
+unfolding digits
+digits-length n = up-to-length 19 n

@@ -2,7 +2,7 @@
 --   digits n          a whole number in decimal, without leading zeros
 --   thousandths x     the magnitude of a float in thousandths, to the nearest, a half upwards
 --   coordinate x      a float with three decimals; what rounds to zero has no minus
-use mathlib.Core.Bool.{Bool, true, false, cond, _&&_}
+use mathlib.Core.Bool.{Bool, false, cond, _&&_}
 use mathlib.Core.List.{List, [], _∷_, _++_}
 use Prim.Native.Nat.{ℕ, zero, suc, _+_, _*_, _/_, _%_}
 use lib.Dec.{ltb}

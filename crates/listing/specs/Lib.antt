@@ -3,3 +3,6 @@ pub mod Decimal
 pub mod Reading
 pub mod Lines
 pub mod Listing
+pub mod Placed
+pub mod Parts
+pub mod Advanced

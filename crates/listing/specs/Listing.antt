@@ -1,4 +1,6 @@
 -- The call list: it takes a table and its points and writes the key's text.
+--   listInput         what the call is told
+--   listText          the key's text
 --   listRules, listOutcome (the count of bytes), listBuffer
 use mathlib.Core.Bool.{not, _&&_}
 use mathlib.Core.List.{List, [], _∷_}
@@ -24,6 +26,10 @@ pub record ListInput : Type 0 where
   pub table : List ℕ
   pub points : List Float
   pub room : ℕ
+
+-- the input of a call told these numbers and lists, with room for so many bytes
+abbrev pub listInput : ℕ → ℕ → ℕ → ℕ → List ℕ → List Float → ℕ → ListInput
+listInput d n v s table points room = record { d = d; n = n; v = v; s = s; table = table; points = points; room = room }
 
 unfoldable pub listText : ListInput → List ℕ
 listText i = keyText (i .d) (i .n) (i .v) (i .points) (boundaryOf (entriesOf (i .d) (i .s) (i .table)))

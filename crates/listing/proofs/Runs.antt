@@ -1,0 +1,104 @@
+-- What is left of a list, one element further.
+--   lines-rest, lines-end         of the lines f 0, f 1, ..
+--   rest-of, rest-end             of a text
+--   point-within                  point p is among the floats
+--   points-rest, points-end       of the coordinates of point p
+--   fields-rest, fields-end       of the fields of the words up to `to`
+--   line-of-fields                a line of numbers is its fields and the line feed
+--   all-at                        a test that passes at each element passes at one
+--   sign-even, sign-odd           the signs of faces alternate
+-- Assumes nothing.
+use mathlib.Core.Path.{_≡_, refl, sym, ap, _∙_, subst}
+use mathlib.Core.Bool.{Bool, true, false, not}
+use mathlib.Core.List.{List, [], _∷_, _++_, map, append-assoc}
+use Prim.Native.Nat.{ℕ, zero, suc, _+_, _-_, _*_, _%_, _≤_, _<_}
+use native.Mathlib.Nat.{not-suc-le-zero, le-of-suc-le-suc, suc-mul, mul-le-mul-right}
+use native.Mathlib.Numerals.{add-one}
+use native.Mathlib.Omega.{arith}
+use lib.ListN.{length, take, drop, getD, length-drop, drop-of-length-le}
+use lib.Ieee.{Float, nan}
+use lib.Seq.{slice, slice-cons, drop-cons, length-take-le, getD-take, getD-drop}
+use Rattle.words.specs.Records.{tabulate, part, concat, allOf}
+use Rattle.words.proofs.Records.{tabulate-length, tabulate-at}
+use Rattle.rules.proofs.Tests.{and-parts}
+use Rattle.simplex.specs.Cell.{alternating}
+use Rattle.listing.specs.Decimal.{digits, coordinate}
+use Rattle.listing.specs.Lines.{restOfLine}
+use Rattle.listing.specs.Placed.{field, fields, pointField}
+
+module _ (n : ℕ) (f : ℕ → List ℕ) where
+  pub lines-rest : (p : ℕ) → p < n → concat (drop p (tabulate n f)) ≡ f p ++ concat (drop (p + 1) (tabulate n f))
+  lines-rest p h =
+      ap concat (drop-cons (tabulate n f) p [] (subst (λ (k : ℕ). p < k) (sym (tabulate-length n f)) h))
+      ∙ ap (λ (l : List ℕ). l ++ concat (drop (suc p) (tabulate n f))) (tabulate-at n f p [] h)
+      ∙ ap (λ (k : ℕ). f p ++ concat (drop k (tabulate n f))) (sym (add-one p))
+
+  pub lines-end : (p : ℕ) → n ≤ p → concat (drop p (tabulate n f)) ≡ []
+  lines-end p h = ap concat (drop-of-length-le (tabulate n f) (subst (λ (k : ℕ). k ≤ p) (sym (tabulate-length n f)) h))
+
+pub rest-of : (xs : List ℕ) (i : ℕ) → i < length xs → drop i xs ≡ getD xs i 0 ∷ drop (i + 1) xs
+rest-of xs i h = drop-cons xs i 0 h ∙ ap (λ (k : ℕ). getD xs i 0 ∷ drop k xs) (sym (add-one i))
+
+pub rest-end : (xs : List ℕ) (i : ℕ) → length xs ≤ i → drop i xs ≡ []
+rest-end xs i h = drop-of-length-le xs h
+
+module _ {A : Type 0} (z : A) (n p : ℕ) (xs : List A) where
+  part-length : p * n + n ≤ length xs → length (part n p xs) ≡ n
+  part-length w = length-take-le n (drop (p * n) xs) (omega (arith, length-drop (p * n) xs))
+
+  part-rest : (j : ℕ) → j < n → p * n + n ≤ length xs → drop j (part n p xs) ≡ getD xs (p * n + j) z ∷ drop (j + 1) (part n p xs)
+  part-rest j h w =
+      drop-cons (part n p xs) j z (subst (λ (k : ℕ). j < k) (sym (part-length w)) h)
+      ∙ ap (λ (x : A). x ∷ drop (suc j) (part n p xs)) (getD-take n (drop (p * n) xs) j z h ∙ getD-drop (p * n) xs j z)
+      ∙ ap (λ (k : ℕ). getD xs (p * n + j) z ∷ drop k (part n p xs)) (sym (add-one j))
+
+  part-end : (j : ℕ) → n ≤ j → p * n + n ≤ length xs → drop j (part n p xs) ≡ []
+  part-end j h w = drop-of-length-le (part n p xs) (subst (λ (k : ℕ). k ≤ j) (sym (part-length w)) h)
+
+-- point p is within the floats of v points
+pub point-within : (n v p len : ℕ) → len ≡ v * n → p < v → p * n + n ≤ len
+point-within n v p len e h = omega (arith, e, suc-mul p n, mul-le-mul-right {m = suc p} {n = v} n h)
+
+module _ (n p : ℕ) (ps : List Float) (within : p * n + n ≤ length ps) where
+  abbrev pub leftOf : ℕ → List ℕ
+  leftOf j = restOfLine (map coordinate (drop j (part n p ps)))
+
+  pub points-rest : (j : ℕ) → j < n → leftOf j ≡ pointField (getD ps (p * n + j) nan) ++ leftOf (j + 1)
+  points-rest j h = ap (λ (xs : List Float). restOfLine (map coordinate xs)) (part-rest nan n p ps j h within)
+
+  pub points-end : (j : ℕ) → n ≤ j → leftOf j ≡ 10 ∷ []
+  points-end j h = ap (λ (xs : List Float). restOfLine (map coordinate xs)) (part-end nan n p ps j h within)
+
+module _ (to : ℕ) (ws : List ℕ) (fit : to ≤ length ws) where
+  pub fields-rest : (k : ℕ) → k < to → fields (slice k to ws) ≡ field (getD ws k 0) ++ fields (slice (k + 1) to ws)
+  fields-rest k h = ap fields (slice-cons k to ws 0 h fit) ∙ ap (λ (i : ℕ). field (getD ws k 0) ++ fields (slice i to ws)) (sym (add-one k))
+
+  pub fields-end : (k : ℕ) → to ≤ k → fields (slice k to ws) ≡ []
+  fields-end k h = ap fields (drop-of-length-le (take to ws) (subst (λ (i : ℕ). i ≤ k) (sym (length-take-le to ws fit)) h))
+
+pub line-of-fields : (ws : List ℕ) → restOfLine (map digits ws) ≡ fields ws ++ 10 ∷ []
+line-of-fields [] = refl
+line-of-fields (w ∷ ws) =
+    ap (λ (l : List ℕ). 32 ∷ (digits w ++ l)) (line-of-fields ws)
+    ∙ ap (λ (l : List ℕ). 32 ∷ l) (sym (append-assoc (digits w) (fields ws) (10 ∷ [])))
+
+pub all-at : {A : Type 0} (q : A → Bool) (z : A) (xs : List A) → allOf q xs ≡ true → (k : ℕ) → k < length xs → q (getD xs k z) ≡ true
+all-at q z [] e k l = absurd (not-suc-le-zero l)
+all-at q z (x ∷ xs) e zero l = and-parts (q x) (allOf q xs) e .0
+all-at q z (x ∷ xs) e (suc k) l = all-at q z xs (and-parts (q x) (allOf q xs) e .1) k (le-of-suc-le-suc l)
+
+alternates : (i : ℕ) → (i % 2 ≡ 0 → alternating i ≡ true) × ((i % 2 ≡ 0 → ⊥) → alternating i ≡ false)
+alternates zero = (λ e. refl, λ e. absurd (e refl))
+alternates (suc i) = (
+  λ e. ap not (alternates i .1 (λ h. omega arith)),
+  λ e. ap not (alternates i .0 (odd-next i e)),
+)
+  where
+    odd-next : (i : ℕ) → (suc i % 2 ≡ 0 → ⊥) → i % 2 ≡ 0
+    odd-next i e = omega arith
+
+pub sign-even : (i : ℕ) → i % 2 ≡ 0 → alternating i ≡ true
+sign-even i = alternates i .0
+
+pub sign-odd : (i : ℕ) → (i % 2 ≡ 0 → ⊥) → alternating i ≡ false
+sign-odd i = alternates i .1

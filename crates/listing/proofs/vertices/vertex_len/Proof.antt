@@ -1,0 +1,128 @@
+-- `vertices::vertex_len` meets its contract: what is counted and what is left make the line. Assumes nothing.
+use mathlib.Core.List.{map}
+use mathlib.Core.Path.{ap, _≡_}
+use Prim.Native.Nat.{_≤_, _-_, _+_, _*_}
+use native.Mathlib.Omega.{arith}
+use lib.Ieee.{nan}
+use lib.ListN.{drop, length-append, length, getD}
+use borrow.Author.Needs.{needs}
+use Rattle.words.specs.Records.{part}
+use Rattle.points.specs.Step.{inRange}
+use Rattle.listing.specs.Placed.{pointField}
+use Rattle.listing.specs.Lines.{restOfLine, vertexLine}
+use Rattle.listing.specs.Decimal.{digits, coordinate}
+use Rattle.listing.proofs.Digits.{digits-length}
+use Rattle.listing.proofs.Bounds.{vertex-length, coordinate-length}
+use Rattle.listing.proofs.Runs.{leftOf, points-rest, points-end, all-at}
+use Rattle.listing.proofs.vertices.vertex_len.Statement.{statement}
+use Rattle.listing.proofs.vertices.vertex_len.Tie as tie
+
+abbrev Inv-loop : tie.InvT-loop
+Inv-loop n p points k₀ base j₀ k j = (j ≤ n) × (k + length (restOfLine (map coordinate (drop j (part n p points)))) ≡ 1 + length (vertexLine n points p))
+
+abbrev μ-loop : tie.MeasureT-loop
+μ-loop n p points k₀ base j₀ k j = n - j
+
+digits-len-requires : tie.Need-digits-len-requires Inv-loop μ-loop
+digits-len-requires c κs = search needs
+
+add-k : tie.Need-add-k Inv-loop μ-loop
+add-k c = omega (arith, c .digits-len .ensures, digits-length (c .before .before .args .p))
+
+mul-base : tie.Need-mul-base Inv-loop μ-loop
+mul-base c = omega (arith, c .before .before .pre .within)
+
+loop-holds : tie.Need-loop-holds Inv-loop μ-loop
+unfolding vertexLine
+loop-holds c =
+    let start = c .before .before in
+    let xs = part (start .args .n) (start .args .p) (start .args .points .now) in
+    (omega arith, omega (arith, c .digits-len .ensures, length-append (digits (start .args .p)) (restOfLine (map coordinate xs))))
+
+add-coordinate-len : tie.Need-add-coordinate-len Inv-loop μ-loop
+add-coordinate-len c = search needs
+
+mul-coordinate-len : tie.Need-mul-coordinate-len Inv-loop μ-loop
+mul-coordinate-len c = search needs
+
+shared-slice-read-coordinate-len : tie.Need-shared-slice-read-coordinate-len Inv-loop μ-loop
+shared-slice-read-coordinate-len c = search needs
+
+coordinate-len-requires : tie.Need-coordinate-len-requires Inv-loop μ-loop
+coordinate-len-requires c κs =
+    let start = c .before .before .before .before .before in
+    all-at inRange nan (start .args .points .now) (start .pre .ranged) _ (omega (arith, start .pre .within))
+
+add-k-2 : tie.Need-add-k-2 Inv-loop μ-loop
+add-k-2 c =
+    let start = c .before .before .before .before .before .before in
+    omega (arith, c .coordinate-len .ensures, coordinate-length (getD (start .args .points .now) (start .args .p * start .args .n + c .before .before .before .loop .j) nan))
+
+add-k-3 : tie.Need-add-k-3 Inv-loop μ-loop
+add-k-3 c =
+    let start = c .before .before .before .before .before .before in
+    let turn = c .before .before .before in
+    let ps = start .args .points .now in
+    let n = start .args .n in
+    let p = start .args .p in
+    let j = turn .loop .j in
+    let x = getD ps (p * n + j) nan in
+    omega (
+      arith,
+      c .coordinate-len .ensures,
+      turn .loop .inv .1,
+      vertex-length n ps p (start .pre .axes),
+      ap length (points-rest n p ps (start .pre .within) j (c .before .before .loop-test .taken)),
+      length-append (pointField x) (leftOf n p ps (start .pre .within) (j + 1)),
+    )
+
+add-j : tie.Need-add-j Inv-loop μ-loop
+add-j c = search needs
+
+loop-less : tie.Need-loop-less Inv-loop μ-loop
+loop-less c = search needs
+
+loop-again : tie.Need-loop-again Inv-loop μ-loop
+loop-again c =
+    let start = c .before .before .before .before .before .before in
+    let turn = c .before .before .before in
+    let ps = start .args .points .now in
+    let n = start .args .n in
+    let p = start .args .p in
+    let j = turn .loop .j in
+    let x = getD ps (p * n + j) nan in (
+      omega arith,
+      omega (
+        arith,
+        c .coordinate-len .ensures,
+        turn .loop .inv .1,
+        ap length (points-rest n p ps (start .pre .within) j (c .before .before .loop-test .taken)),
+        length-append (pointField x) (leftOf n p ps (start .pre .within) (j + 1)),
+      ),
+    )
+
+returns : tie.Need-returns Inv-loop μ-loop
+returns c =
+    let start = c .before .before .before .before in
+    omega (arith, c .before .loop .inv .1, ap length (points-end (start .args .n) (start .args .p) (start .args .points .now) (start .pre .within) (c .before .loop .j) (c .loop-test .left)))
+
+pub vertex-len-spec : {M : Type 1} → statement M
+vertex-len-spec =
+    tie.close
+    (tie.spec
+    Inv-loop
+    μ-loop
+    digits-len-requires
+    add-k
+    mul-base
+    loop-holds
+    add-coordinate-len
+    mul-coordinate-len
+    shared-slice-read-coordinate-len
+    coordinate-len-requires
+    add-k-2
+    add-k-3
+    add-j
+    loop-less
+    loop-again
+    returns)

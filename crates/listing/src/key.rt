@@ -1,0 +1,58 @@
+// The whole key: its size, and written.
+use crate::faces::Size;
+use crate::faces::faces_size;
+use crate::faces::put_faces;
+use crate::lengths::digits_len;
+use crate::line_writer::number_line;
+use crate::vertices::put_vertices;
+use crate::vertices::vertices_len;
+use crate::writing::put_text;
+ghost use mathlib.Core.Path.{_≡_};
+ghost use Prim.Native.Nat.{_≤_};
+ghost use lib.ListN.{length};
+ghost use Rattle.listing.specs.Lines.{firstLine, keyText};
+ghost use Rattle.listing.specs.Placed.{Put};
+ghost use Rattle.listing.specs.Parts.{Points, Table, facesOf, KeySize};
+
+fn first_len(d: usize, n: usize, v: usize, faces: usize) -> usize
+    ensures { λ r. ⌜ r ≡ length (firstLine d n v faces) ⌝ }
+    ensures { λ r. ⌜ r ≤ 88 ⌝ }
+{
+    8
+        + digits_len(d as u64)
+        + digits_len(n as u64)
+        + digits_len(v as u64)
+        + digits_len(faces as u64)
+}
+
+// How many faces the key has, and how many bytes.
+pub fn key_size(d: usize, n: usize, v: usize, s: usize, table: &[u16], points: &[f64]) -> Size
+    requires { ⌜ Table d s (now table) × Points n v (now points) ⌝ }
+    ensures { λ r. ⌜ KeySize d n v (now (points .entry)) (facesOf d s (now (table .entry))) (r .count) (r .bytes) ⌝ }
+{
+    let faces = faces_size(d, s, table);
+    let count = faces.count;
+    let bytes = first_len(d, n, v, count) + vertices_len(n, v, points) + faces.bytes;
+    Size { count, bytes }
+}
+
+// The key from the start of the buffer. The first line is built by a line writer.
+pub fn put_key(
+    d: usize,
+    n: usize,
+    v: usize,
+    s: usize,
+    faces: usize,
+    table: &[u16],
+    points: &[f64],
+    buf: &mut [u8],
+) -> usize
+    requires { ⌜ Table d s (now table) × Points n v (now points) × (faces ≡ length (facesOf d s (now table)))
+        × (length (keyText d n v (now points) (facesOf d s (now table))) ≤ length (now buf)) ⌝ }
+    ensures { λ r. ⌜ Put 0 (keyText d n v (now (points .entry)) (facesOf d s (now (table .entry)))) (now (buf .entry)) r (now (buf .exit)) ⌝ }
+{
+    let word = put_text(buf, 0, b"key");
+    let first = number_line(buf, word, d as u64, n as u64, v as u64, faces as u64);
+    let vertices = put_vertices(n, v, points, buf, first);
+    put_faces(d, s, table, buf, vertices)
+}
