@@ -1,3 +1,4 @@
 -- What the program key prints, and what a host in C gets.
 pub mod Key
 pub mod Host
+pub mod Sent

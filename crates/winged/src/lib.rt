@@ -1,1 +1,40 @@
-// The whole library. Definitions only so far: see specs/.
+// Winged solids for a host in C: numbers and lent bytes in, a count of words or minus a refusal's number out.
+ghost use mathlib.Core.Path.{_≡_};
+ghost use Rattle.winged.specs.Host.{hostWing, hostWingBuffer, hostSweep, hostSweepBuffer, hostFaces, hostFacesBuffer};
+use crate::faces::faces_bytes;
+use crate::host::sweep_bytes;
+use crate::host::wing_bytes;
+
+mod faces;
+mod faces_of;
+mod host;
+mod reading;
+mod sending;
+mod writing;
+
+#[no_mangle]
+pub extern "C" fn winged_wing(d: u32, v: u32, s: u32, cells: &[u8], table: &mut [u8]) -> i64
+    ensures answer { λ r. ⌜ r ≡ hostWing d v s (now (cells .entry)) (now (table .entry)) ⌝ }
+    ensures buffer { λ _. ⌜ now (table .exit) ≡ hostWingBuffer d v s (now (cells .entry)) (now (table .entry)) ⌝ }
+{
+    let mut words = [0u16; 69632];
+    wing_bytes(d as usize, v as usize, s as usize, cells, &mut words, table)
+}
+
+#[no_mangle]
+pub extern "C" fn winged_sweep(d: u32, v: u32, s: u32, h: u32, table: &[u8], swept: &mut [u8]) -> i64
+    ensures answer { λ r. ⌜ r ≡ hostSweep d v s h (now (table .entry)) (now (swept .entry)) ⌝ }
+    ensures buffer { λ _. ⌜ now (swept .exit) ≡ hostSweepBuffer d v s h (now (table .entry)) (now (swept .entry)) ⌝ }
+{
+    let mut words = [0u16; 69632];
+    sweep_bytes(d as usize, v as usize, s as usize, h as usize, table, &mut words, swept)
+}
+
+#[no_mangle]
+pub extern "C" fn winged_faces(d: u32, v: u32, s: u32, table: &[u8], faces: &mut [u8]) -> i64
+    ensures answer { λ r. ⌜ r ≡ hostFaces d v s (now (table .entry)) (now (faces .entry)) ⌝ }
+    ensures buffer { λ _. ⌜ now (faces .exit) ≡ hostFacesBuffer d v s (now (table .entry)) (now (faces .entry)) ⌝ }
+{
+    let mut words = [0u16; 69632];
+    faces_bytes(d as usize, v as usize, s as usize, table, &mut words, faces)
+}

@@ -1,0 +1,198 @@
+-- Wing and sweep on bytes.
+--   decoded-front         the decoded words stand at the front of the array
+--   wing-outside, wing-wrong, wing-right      the outcome, as the code finds it
+--   wing-after            the buffer, as its outcome says
+--   wing-room             room beyond the largest table changes nothing
+--   wing-host             the answer and the lent bytes, as the host's definitions say
+--   wing-long             the count is that of the answer's words
+--   sweep-..              the same of sweep
+--   sweep-large           a table too long for its array is swept to too many cells
+-- Assumes nothing.
+use mathlib.Core.Path.{_≡_, refl, sym, ap, _∙_}
+use mathlib.Core.Bool.{Bool, true, false, _&&_, _||_}
+use mathlib.Core.List.{List, _++_}
+use Prim.Native.Nat.{ℕ, suc, _+_, _*_, _≤_, _<_}
+use native.Mathlib.Nat.{mul-add, mul-le-mul, mul-le-mul-right, mul-suc, one-mul}
+use native.Mathlib.Omega.{arith}
+use lib.Dec.{eqb, leb, ltb}
+use lib.ListN.{length, take, length-map, length-append}
+use lib.Seq.{take-at}
+use borrow.Author.Tests.{eq-eqb, eqb-true, leb-true, lt-ltb, ne-eqb, not-false}
+use Rattle.words.specs.Bytes.{words16, bytesOf}
+use Rattle.words.specs.Records.{part}
+use Rattle.words.proofs.Bytes.{words-count}
+use Rattle.words.proofs.Records.{tabulate-length}
+use Rattle.rules.specs.Limits.{maxCells, maxDimension, maxSource, maxSteps, maxVertices, stepsOk, sweptVertices}
+use Rattle.rules.specs.Shapes.{shapeOk}
+use Rattle.rules.specs.Calls.{Outcome, accepted, refused, after}
+use Rattle.rules.proofs.Tests.{and-parts}
+use Rattle.simplex.specs.Order.{ascending}
+use Rattle.complex.specs.Accept.{Listed, listedCells, solidOf, solidRules}
+use Rattle.complex.specs.Layout.{cellOf, listSize, recordSize, tableLength}
+use Rattle.complex.specs.Table.{tableOf, tableOfList}
+use Rattle.complex.specs.Wing.{WingInput, wingInput, wingOutcome, wingBuffer, wingRules}
+use Rattle.complex.proofs.Accepted.{accepted-solid, passes}
+use Rattle.complex.proofs.OwnTable as own
+use Rattle.complex.proofs.WingCases.{limits-of, outcome-refused, outside, wrong-length}
+use Rattle.sweep.specs.Sweep.{SweepInput, sweepOutcome, sweepBuffer, sweepRules, sweptCells, sweptLength, sweptWords}
+use Rattle.sweep.specs.Written.{sweepInput}
+use Rattle.sweep.proofs.InLimits.{limits-are}
+use Rattle.sweep.proofs.Outcomes.{tooLarge, large-not, refused-at-2, refused-at-3, refused-at-12}
+use Rattle.sweep.proofs.SweptWords.{all-long, all-words}
+use Rattle.winged.specs.Host.{hosted, hostAnswer, wordsIn, hostList, hostWing, hostWingOutcome, hostWingBuffer, hostSweepInput, hostSweep, hostSweepOutcome, hostSweepBuffer}
+use Rattle.winged.specs.Sent.{lesser, tableRoom, wingRead, sweepRead}
+use Rattle.winged.proofs.Hosting.{accepted-by, hosted-accepted, hosted-right, hosted-wrong}
+use Rattle.winged.proofs.Outward.{room-cut}
+
+pub decoded-front : (cells w rest : List ℕ) (n : ℕ) → w ≡ words16 cells ++ rest → length cells ≡ n * 2 → (n ≤ length w) × (take n w ≡ words16 cells)
+decoded-front cells w rest n e h =
+    let count : length (words16 cells) ≡ n = omega (arith, words-count cells) in
+    (omega (arith, ap length e, length-append (words16 cells) rest), ap (take n) e ∙ take-at (words16 cells) rest n count)
+
+pub wing-after : (o : Outcome ℕ) (i : WingInput) (out : List ℕ) → o ≡ wingOutcome i → wingBuffer i out ≡ after o (tableOfList (i .list)) out
+unfolding wingBuffer
+wing-after o i out e = ap (λ q. after q (tableOfList (i .list)) out) (sym e)
+
+pub sweep-after : (o : Outcome ℕ) (i : SweepInput) (out : List ℕ) → o ≡ sweepOutcome i → sweepBuffer i out ≡ after o (sweptWords i) out
+unfolding sweepBuffer
+sweep-after o i out e = ap (λ q. after q (sweptWords i) out) (sym e)
+
+module _ (d v s : ℕ) (cells : List ℕ) (x : ℕ) where
+  pub wing-outside : shapeOk maxDimension d v s ≡ false → refused 2 ≡ wingRead d v s cells x
+  unfolding wingRead
+  wing-outside e = rw e (outcome-refused d v s (words16 cells) x 2 cells (omega arith) (outside d v s (words16 cells) x e) .0)
+
+  pub wing-wrong : shapeOk maxDimension d v s ≡ true → (length cells ≡ s * listSize d * 2 → ⊥) → refused 3 ≡ wingRead d v s cells x
+  unfolding wingRead
+  wing-wrong ok n =
+      sym (hosted-wrong (shapeOk maxDimension d v s) cells (s * listSize d) (wingOutcome (wingInput d v s (words16 cells) x)) ok n
+      (λ w. sym (outcome-refused d v s (words16 cells) x 3 cells (omega arith) (wrong-length d v s (words16 cells) x ok w) .0)))
+
+  pub wing-right : length cells ≡ s * listSize d * 2 → wingOutcome (wingInput d v s (words16 cells) x) ≡ wingRead d v s cells x
+  unfolding wingRead
+  wing-right e = sym (hosted-right (shapeOk maxDimension d v s) cells (s * listSize d) (wingOutcome (wingInput d v s (words16 cells) x)) e)
+
+  pub wing-host : (out : List ℕ) (o : Outcome ℕ) → x ≡ wordsIn out → o ≡ wingRead d v s cells x →
+      (hostAnswer o ≡ hostWing d v s cells out) × (after o (bytesOf (tableOfList (hostList d v s cells out))) out ≡ hostWingBuffer d v s cells out)
+  unfolding wingRead hostWing hostWingOutcome hostWingBuffer
+  wing-host out o room e =
+      let q = e ∙ ap (λ y. hosted (shapeOk maxDimension d v s) cells (wingOutcome (wingInput d v s (words16 cells) y))) room in
+      (ap hostAnswer q, ap (λ r. after r (bytesOf (tableOfList (hostList d v s cells out))) out) q)
+
+-- the largest table
+pub table-fits : (d s : ℕ) → d ≤ 7 → s ≤ 4096 → tableLength d s ≤ tableRoom
+table-fits d s hd hs = mul-le-mul {n₁ = s} {m₁ = recordSize d} {n₂ = 4096} {m₂ = 17} hs (omega arith)
+
+wing-same : (d v s : ℕ) (ws : List ℕ) (x : ℕ) → wingOutcome (wingInput d v s ws (lesser x tableRoom)) ≡ wingOutcome (wingInput d v s ws x)
+unfolding wingOutcome wingRules solidRules
+wing-same d v s ws x = go (shapeOk maxDimension d v s) refl
+  where
+    go : (t : Bool) → shapeOk maxDimension d v s ≡ t → wingOutcome (wingInput d v s ws (lesser x tableRoom)) ≡ wingOutcome (wingInput d v s ws x)
+    go true e = let l = limits-of d v s e in rw (room-cut x tableRoom (tableLength d s) (table-fits d s (l .0) (l .2))) refl
+    go false e = rw e refl
+
+pub wing-room : (d v s : ℕ) (cells : List ℕ) (x : ℕ) → wingRead d v s cells (lesser x tableRoom) ≡ wingRead d v s cells x
+unfolding wingRead
+wing-room d v s cells x = rw (wing-same d v s (words16 cells) x) refl
+
+-- the table of an accepted list
+accepted-long : (l : Listed) (x k : ℕ) → wingOutcome (record { list = l; room = x }) ≡ accepted k → k ≡ length (tableOfList l)
+unfolding wingOutcome wingRules solidRules tableOfList
+accepted-long l x k e =
+    let by = accepted-by wingRules (λ i. tableLength (i .list .d) (i .list .s)) (record { list = l; room = x }) k refl e in
+    let none = by .1 .1 in
+    let six = none .1 in
+    let words = eqb-true (length (l .words)) (l .s * listSize (l .d)) (not-false (eqb (length (l .words)) (l .s * listSize (l .d))) (none .0)) in
+    let ok =
+        passes l
+        (record {
+          sign = six .0; vertex = six .1 .0; twice = six .1 .1 .0; cell = six .1 .1 .1 .0; crowded = six .1 .1 .1 .1 .0; equal = six .1 .1 .1 .1 .1 .0 }) in
+    let solid = accepted-solid l words ok in
+    let count : length (solidOf l) ≡ l .s = length-map (listedCells l) ascending ∙ tabulate-length (l .s) (λ p. cellOf (part (listSize (l .d)) p (l .words))) in
+    by .0 ∙ ap (tableLength (l .d)) (sym count) ∙ sym (own.words-length (l .d) (l .v) (solidOf l) (solid .0) (solid .1))
+
+pub wing-long : (d v s : ℕ) (cells : List ℕ) (x k : ℕ) → wingRead d v s cells x ≡ accepted k →
+    k ≡ length (tableOfList (record { d = d; v = v; s = s; words = words16 cells }))
+unfolding wingRead
+wing-long d v s cells x k e =
+    accepted-long (record { d = d; v = v; s = s; words = words16 cells }) x k
+    (hosted-accepted (shapeOk maxDimension d v s) cells (wingOutcome (wingInput d v s (words16 cells) x)) k e)
+
+or-right : (a : Bool) {b : Bool} → b ≡ true → (a || b) ≡ true
+or-right true e = refl
+or-right false e = e
+
+steps-some : (d v s h : ℕ) → (shapeOk maxSource d v s && stepsOk h) ≡ true → 1 ≤ h
+steps-some d v s h ok = leb-true 1 h (and-parts (leb 1 h) (leb h maxSteps) (and-parts (shapeOk maxSource d v s) (stepsOk h) ok .1) .0)
+
+-- a cell of the table has at most 3 words for each swept cell
+many-cells : (d s h : ℕ) → 1 ≤ h → 12288 < tableLength d s → maxCells < sweptCells d s h
+many-cells d s h steps n =
+    omega
+    (arith, mul-suc s d, mul-add s (d + d) 3, mul-add s d d, one-mul (s * suc d), mul-le-mul-right {m = 1} {n = h} (s * suc d) steps)
+
+module _ (d v s h : ℕ) (table : List ℕ) (x : ℕ) where
+  pub sweep-outside : (shapeOk maxSource d v s && stepsOk h) ≡ false → refused 2 ≡ sweepRead d v s h table x
+  unfolding sweepRead
+  sweep-outside e = rw e (sym (refused-at-2 (sweepInput d v s h (words16 table) x) e))
+
+  pub sweep-wrong : (shapeOk maxSource d v s && stepsOk h) ≡ true → (length table ≡ tableLength d s * 2 → ⊥) → refused 3 ≡ sweepRead d v s h table x
+  unfolding sweepRead
+  sweep-wrong ok n =
+      sym (hosted-wrong (shapeOk maxSource d v s && stepsOk h) table (tableLength d s) (sweepOutcome (sweepInput d v s h (words16 table) x)) ok n
+      (λ w. refused-at-3 (sweepInput d v s h (words16 table) x) ok (ne-eqb (length (words16 table)) (tableLength d s) w)))
+
+  pub sweep-right : length table ≡ tableLength d s * 2 → sweepOutcome (sweepInput d v s h (words16 table) x) ≡ sweepRead d v s h table x
+  unfolding sweepRead
+  sweep-right e =
+      sym (hosted-right (shapeOk maxSource d v s && stepsOk h) table (tableLength d s) (sweepOutcome (sweepInput d v s h (words16 table) x)) e)
+
+  pub sweep-large : (shapeOk maxSource d v s && stepsOk h) ≡ true → length table ≡ tableLength d s * 2 → 12288 < tableLength d s →
+      refused 12 ≡ sweepRead d v s h table x
+  sweep-large ok e n =
+      let i = sweepInput d v s h (words16 table) x in
+      let right = eq-eqb (length (words16 table)) (tableLength d s) (omega (arith, words-count table)) in
+      sym (refused-at-12 i ok right (or-right (ltb maxVertices (sweptVertices v h)) (lt-ltb maxCells (sweptCells d s h) (many-cells d s h (steps-some d v s h ok) n)))) ∙ sweep-right e
+
+  pub sweep-host : (out : List ℕ) (o : Outcome ℕ) → x ≡ wordsIn out → o ≡ sweepRead d v s h table x →
+      (hostAnswer o ≡ hostSweep d v s h table out) × (after o (bytesOf (sweptWords (hostSweepInput d v s h table out))) out ≡ hostSweepBuffer d v s h table out)
+  unfolding sweepRead hostSweep hostSweepOutcome hostSweepBuffer
+  sweep-host out o room e =
+      let q = e ∙ ap (λ y. hosted (shapeOk maxSource d v s && stepsOk h) table (sweepOutcome (sweepInput d v s h (words16 table) y))) room in
+      (ap hostAnswer q, ap (λ r. after r (bytesOf (sweptWords (hostSweepInput d v s h table out))) out) q)
+
+sweep-same : (d v s h : ℕ) (ws : List ℕ) (x : ℕ) → sweepOutcome (sweepInput d v s h ws (lesser x tableRoom)) ≡ sweepOutcome (sweepInput d v s h ws x)
+unfolding sweepOutcome sweepRules
+sweep-same d v s h ws x = go (shapeOk maxSource d v s && stepsOk h) refl (tooLarge (sweepInput d v s h ws x)) refl
+  where
+    go : (a : Bool) → (shapeOk maxSource d v s && stepsOk h) ≡ a → (b : Bool) → tooLarge (sweepInput d v s h ws x) ≡ b →
+        sweepOutcome (sweepInput d v s h ws (lesser x tableRoom)) ≡ sweepOutcome (sweepInput d v s h ws x)
+    go false e b f = rw e refl
+    go true e true f = rw f refl
+    go true e false f =
+        let l = limits-are d v s h e in
+        let n = large-not (sweepInput d v s h ws x) f .1 in
+        rw (room-cut x tableRoom (tableLength (suc d) (sweptCells d s h)) (table-fits (suc d) (sweptCells d s h) (omega (arith, l .dimension)) n)) refl
+
+pub sweep-room : (d v s h : ℕ) (table : List ℕ) (x : ℕ) → sweepRead d v s h table (lesser x tableRoom) ≡ sweepRead d v s h table x
+unfolding sweepRead
+sweep-room d v s h table x = rw (sweep-same d v s h (words16 table) x) refl
+
+swept-long : (d v s h : ℕ) (ws : List ℕ) (x k : ℕ) → sweepOutcome (sweepInput d v s h ws x) ≡ accepted k → k ≡ length (sweptWords (sweepInput d v s h ws x))
+unfolding sweepOutcome sweepRules
+swept-long d v s h ws x k e =
+    let by = accepted-by sweepRules sweptLength (sweepInput d v s h ws x) k refl e in
+    let words = eqb-true (length ws) (tableLength d s) (not-false (eqb (length ws) (tableLength d s)) (by .1 .1 .0)) in
+    by .0 ∙ sym (all-long d v s h ws words x) ∙ ap length (sym (all-words d v s h ws x))
+
+pub sweep-long : (d v s h : ℕ) (table : List ℕ) (x k : ℕ) → sweepRead d v s h table x ≡ accepted k →
+    k ≡ length (sweptWords (sweepInput d v s h (words16 table) x))
+unfolding sweepRead
+sweep-long d v s h table x k e =
+    swept-long d v s h (words16 table) x k
+    (hosted-accepted (shapeOk maxSource d v s && stepsOk h) table (sweepOutcome (sweepInput d v s h (words16 table) x)) k e)
+
+-- the room is no part of the words
+pub words-apart : (d v s h : ℕ) (ws : List ℕ) (x y : ℕ) → sweptWords (sweepInput d v s h ws x) ≡ sweptWords (sweepInput d v s h ws y)
+unfolding sweptWords
+words-apart d v s h ws x y = refl

@@ -1,0 +1,55 @@
+-- Between the calls and C: outcomes of what was decoded, and what of the words goes to the lent bytes.
+--   lesser a b        the lesser of two numbers
+--   tableRoom         words of the largest table
+--   countOf o         the count of an accepted outcome; 0 of a refused one
+--   sent o t out      the lent bytes when the outcome's count of the words t has gone to their start
+--   wingRead, sweepRead    the outcomes in a room of so many words
+--   facesAnswer, facesAfter    what faces answers and leaves in the lent bytes, told from the table's words
+use mathlib.Core.Bool.{cond, _&&_}
+use mathlib.Core.List.{List, _++_, map}
+use Prim.Native.Nat.{ℕ, _*_}
+use lib.Dec.{leb}
+use lib.IntN.{ℤ}
+use lib.ListN.{take, drop}
+use Rattle.words.specs.Records.{concat}
+use Rattle.words.specs.Bytes.{words16, bytesOf}
+use Rattle.rules.specs.Limits.{maxDimension, maxSource, stepsOk}
+use Rattle.rules.specs.Shapes.{shapeOk}
+use Rattle.rules.specs.Calls.{Outcome, accepted, refused, after}
+use Rattle.complex.specs.Layout.{cellWords}
+use Rattle.complex.specs.Wing.{wingInput, wingOutcome}
+use Rattle.sweep.specs.Sweep.{sweepOutcome}
+use Rattle.sweep.specs.Written.{sweepInput}
+use Rattle.boundary.specs.Faces.{FacesInput, boundaryCells, facesOutcome}
+use Rattle.boundary.specs.Written.{facesInput}
+use Rattle.winged.specs.Host.{hosted, hostAnswer, wordsIn, inWords}
+
+abbrev pub lesser : ℕ → ℕ → ℕ
+lesser a b = cond (leb a b) a b
+
+abbrev pub tableRoom : ℕ
+tableRoom = 69632
+
+abbrev pub countOf : Outcome ℕ → ℕ
+countOf (accepted n) = n
+countOf (refused n) = 0
+
+abbrev pub sent : Outcome ℕ → List ℕ → List ℕ → List ℕ
+sent (accepted n) t out = bytesOf (take n t) ++ drop (n * 2) out
+sent (refused n) t out = out
+
+unfoldable pub wingRead : ℕ → ℕ → ℕ → List ℕ → ℕ → Outcome ℕ
+wingRead d v s cells room = hosted (shapeOk maxDimension d v s) cells (wingOutcome (wingInput d v s (words16 cells) room))
+
+unfoldable pub sweepRead : ℕ → ℕ → ℕ → ℕ → List ℕ → ℕ → Outcome ℕ
+sweepRead d v s h table room = hosted (shapeOk maxSource d v s && stepsOk h) table (sweepOutcome (sweepInput d v s h (words16 table) room))
+
+module _ (d v s : ℕ) (ws out : List ℕ) where
+  abbrev pub facesIn : FacesInput
+  facesIn = facesInput d v s ws (wordsIn out)
+
+  unfoldable pub facesAnswer : ℤ
+  facesAnswer = hostAnswer (inWords d v s ws out (facesOutcome facesIn))
+
+  unfoldable pub facesAfter : List ℕ
+  facesAfter = after (facesOutcome facesIn) (bytesOf (concat (map cellWords (boundaryCells facesIn)))) out

@@ -1,0 +1,29 @@
+// The calls from bytes to bytes, by way of a lent array of words.
+ghost use mathlib.Core.Path.{_≡_};
+ghost use lib.ListN.{length};
+ghost use Rattle.winged.specs.Host.{hostWing, hostWingBuffer, hostSweep, hostSweepBuffer};
+ghost use Rattle.winged.specs.Sent.{tableRoom};
+use crate::reading::sweep_words;
+use crate::reading::wing_words;
+use crate::sending::room;
+use crate::sending::send;
+
+pub fn wing_bytes(d: usize, v: usize, s: usize, cells: &[u8], words: &mut [u16], table: &mut [u8]) -> i64
+    requires { ⌜ length (now words) ≡ tableRoom ⌝ }
+    ensures answer { λ r. ⌜ r ≡ hostWing d v s (now (cells .entry)) (now (table .entry)) ⌝ }
+    ensures buffer { λ _. ⌜ now (table .exit) ≡ hostWingBuffer d v s (now (cells .entry)) (now (table .entry)) ⌝ }
+{
+    let m = room(table.len());
+    let a = wing_words(d, v, s, cells, &mut words[..m]);
+    send(a, &words[..m], table)
+}
+
+pub fn sweep_bytes(d: usize, v: usize, s: usize, h: usize, table: &[u8], words: &mut [u16], swept: &mut [u8]) -> i64
+    requires { ⌜ length (now words) ≡ tableRoom ⌝ }
+    ensures answer { λ r. ⌜ r ≡ hostSweep d v s h (now (table .entry)) (now (swept .entry)) ⌝ }
+    ensures buffer { λ _. ⌜ now (swept .exit) ≡ hostSweepBuffer d v s h (now (table .entry)) (now (swept .entry)) ⌝ }
+{
+    let m = room(swept.len());
+    let a = sweep_words(d, v, s, h, table, &mut words[..m]);
+    send(a, &words[..m], swept)
+}

@@ -1,0 +1,83 @@
+// The calls on bytes: the numbers and the length are tested, the input is decoded, and the call writes words.
+ghost use mathlib.Core.Path.{_≡_};
+ghost use mathlib.Core.Bool.{_&&_};
+ghost use lib.ListN.{length};
+ghost use Rattle.words.specs.Bytes.{words16};
+ghost use Rattle.rules.specs.Limits.{maxDimension, maxSource, stepsOk};
+ghost use Rattle.rules.specs.Numbers.{outcomeOf};
+ghost use Rattle.rules.specs.Shapes.{shapeOk};
+ghost use Rattle.rules.specs.Calls.{after};
+ghost use Rattle.complex.specs.Table.{tableOfList};
+ghost use Rattle.sweep.specs.Sweep.{sweptWords};
+ghost use Rattle.sweep.specs.Written.{sweepInput};
+ghost use Rattle.winged.specs.Host.{hostList};
+ghost use Rattle.winged.specs.Sent.{wingRead, sweepRead};
+use complex::wing::wing;
+use rules::limits::Shape;
+use rules::limits::Shaped;
+use rules::refusal::Answer;
+use rules::refusal::Refusal;
+use sweep::sweep;
+use words::copy::decode;
+
+// Whether the numbers of a table are within the limits.
+pub fn within_limits(d: usize, v: usize, s: usize) -> bool
+    ensures { λ r. ⌜ r ≡ shapeOk maxDimension d v s ⌝ }
+{
+    match Shape::new(Shape::MAX_DIMENSION, d, v, s) {
+        Shaped::Within(_) => true,
+        Shaped::Outside => false,
+    }
+}
+
+pub fn wing_words(d: usize, v: usize, s: usize, cells: &[u8], out: &mut [u16]) -> Answer
+    ensures answer { λ r. ⌜ outcomeOf r ≡ wingRead d v s (now (cells .entry)) (length (now (out .entry))) ⌝ }
+    ensures buffer { λ r. ⌜ now (out .exit) ≡ after (outcomeOf r) (tableOfList (hostList d v s (now (cells .entry)) (now (cells .entry)))) (now (out .entry)) ⌝ }
+{
+    if !within_limits(d, v, s) {
+        return Answer::Refused(Refusal::OutsideLimits);
+    }
+    let n = s * (d + 2);
+    if cells.len() != n * 2 {
+        return Answer::Refused(Refusal::WrongLength);
+    }
+    let mut list = [0u16; 36864];
+    decode(cells, &mut list);
+    wing(d, v, s, &list[..n], out)
+}
+
+// Whether the numbers of what is swept are within the limits.
+fn sweep_within(d: usize, v: usize, s: usize, h: usize) -> bool
+    ensures { λ r. ⌜ r ≡ (shapeOk maxSource d v s && stepsOk h) ⌝ }
+{
+    if h < 1 {
+        return false;
+    }
+    if Shape::MAX_STEPS < h {
+        return false;
+    }
+    match Shape::new(Shape::MAX_SOURCE, d, v, s) {
+        Shaped::Within(_) => true,
+        Shaped::Outside => false,
+    }
+}
+
+pub fn sweep_words(d: usize, v: usize, s: usize, h: usize, table: &[u8], out: &mut [u16]) -> Answer
+    ensures answer { λ r. ⌜ outcomeOf r ≡ sweepRead d v s h (now (table .entry)) (length (now (out .entry))) ⌝ }
+    ensures buffer { λ r. ⌜ now (out .exit) ≡ after (outcomeOf r) (sweptWords (sweepInput d v s h (words16 (now (table .entry))) (length (now (out .entry))))) (now (out .entry)) ⌝ }
+{
+    if !sweep_within(d, v, s, h) {
+        return Answer::Refused(Refusal::OutsideLimits);
+    }
+    let n = s * (d + d + 3);
+    if table.len() != n * 2 {
+        return Answer::Refused(Refusal::WrongLength);
+    }
+    // A table of more words gives over 4,096 cells.
+    if 12288 < n {
+        return Answer::Refused(Refusal::SweptTooLarge);
+    }
+    let mut solid = [0u16; 12288];
+    decode(table, &mut solid);
+    sweep(d, v, s, h, &solid[..n], out)
+}

@@ -1,0 +1,43 @@
+// What goes back to the host: the room of its buffer, the answer as a number, the words as bytes.
+ghost use mathlib.Core.Path.{_≡_};
+ghost use Prim.Native.Nat.{_*_, _/_, _≤_};
+ghost use lib.IntN.{pos, negℤ};
+ghost use lib.ListN.{length};
+ghost use Rattle.rules.specs.Numbers.{outcomeOf};
+ghost use Rattle.winged.specs.Host.{hostAnswer};
+ghost use Rattle.winged.specs.Sent.{lesser, tableRoom, countOf, sent};
+use rules::refusal::number;
+use rules::refusal::Answer;
+use words::copy::encode;
+
+// Whole words of so many bytes, at most as many as the largest table has.
+pub fn room(bytes: usize) -> usize
+    ensures { λ r. ⌜ r ≡ lesser (bytes / 2) tableRoom ⌝ }
+{
+    let n = bytes / 2;
+    if n <= 69632 {
+        return n;
+    }
+    69632
+}
+
+pub fn minus(k: u8) -> i64
+    ensures { λ r. ⌜ r ≡ negℤ (pos k) ⌝ }
+{
+    -(k as i64)
+}
+
+// The words that were written go to the start of the lent bytes; a refusal sends none.
+pub fn send(a: Answer, words: &[u16], out: &mut [u8]) -> i64
+    requires { ⌜ (countOf (outcomeOf a) ≤ length (now words)) × (countOf (outcomeOf a) * 2 ≤ length (now out)) ⌝ }
+    ensures answer { λ r. ⌜ r ≡ hostAnswer (outcomeOf a) ⌝ }
+    ensures buffer { λ _. ⌜ now (out .exit) ≡ sent (outcomeOf a) (now (words .entry)) (now (out .entry)) ⌝ }
+{
+    match a {
+        Answer::Written(n) => {
+            encode(&words[..n], out);
+            n as i64
+        }
+        Answer::Refused(r) => minus(number(r)),
+    }
+}
