@@ -1,0 +1,56 @@
+//! The marked keys and the refusals through the safe functions.
+
+use winged::{faces, sweep, wing, Refusal, EMPTY};
+
+/// Words from a sign and vertices for each cell.
+fn list(cells: &[(char, &[u16])]) -> Vec<u16> {
+    cells.iter().flat_map(|&(sign, vertices)| std::iter::once((sign == '-') as u16).chain(vertices.iter().copied())).collect()
+}
+
+const E: u16 = EMPTY;
+
+#[test]
+fn k2_two_triangles() -> Result<(), Refusal> {
+    let table = wing(2, 4, 2, &list(&[('+', &[0, 1, 2]), ('-', &[1, 2, 3])]))?;
+    assert_eq!(table, [0, 0, 1, 2, 1, E, E, 1, 1, 2, 3, E, E, 0]);
+    let swept = sweep(2, 4, 2, 1, &table)?;
+    assert_eq!(swept[..18], [0, 0, 1, 2, 4, 1, E, E, E, 0, 1, 2, 4, 5, 2, E, 3, 0]);
+    let boundary: [(char, &[u16]); 12] = [
+        ('-', &[0, 2, 4]), ('+', &[0, 1, 4]), ('-', &[0, 1, 2]), ('-', &[1, 4, 5]), ('+', &[4, 5, 6]), ('+', &[2, 4, 6]),
+        ('+', &[1, 3, 5]), ('+', &[1, 2, 3]), ('-', &[2, 3, 6]), ('-', &[5, 6, 7]), ('+', &[3, 6, 7]), ('-', &[3, 5, 7]),
+    ];
+    assert_eq!(faces(3, 8, 6, &swept)?, list(&boundary));
+    Ok(())
+}
+
+#[test]
+fn k3_a_point_in_three_steps() -> Result<(), Refusal> {
+    let swept = sweep(0, 1, 1, 3, &wing(0, 1, 1, &[0, 0])?)?;
+    assert_eq!(swept, [0, 0, 1, 1, E, 0, 1, 2, 2, 0, 0, 2, 3, E, 1]);
+    assert_eq!(faces(1, 4, 3, &swept)?, [1, 0, 0, 3]);
+    Ok(())
+}
+
+#[test]
+fn k4_ascending_order_turns_the_sign() -> Result<(), Refusal> {
+    assert_eq!(wing(2, 3, 1, &list(&[('+', &[2, 1, 0])]))?[..4], [1, 0, 1, 2]);
+    Ok(())
+}
+
+#[test]
+fn refusals() {
+    let wing2 = |v, cells: &[(char, &[u16])]| wing(2, v, cells.len() as u32, &list(cells)).unwrap_err();
+    assert_eq!(wing(8, 9, 1, &[0; 10]), Err(Refusal::OutsideLimits));
+    assert_eq!(wing(u32::MAX, u32::MAX, u32::MAX, &[]), Err(Refusal::OutsideLimits));
+    assert_eq!(wing(2, 3, 1, &[0; 5]), Err(Refusal::WrongLength));
+    assert_eq!(wing(2, 3, 1, &[2, 0, 1, 2]), Err(Refusal::BadSign));
+    assert_eq!(wing2(3, &[('+', &[0, 1, 3])]), Refusal::BadVertex);
+    assert_eq!(wing2(3, &[('+', &[0, 1, 1])]), Refusal::VertexTwice);
+    assert_eq!(wing2(3, &[('+', &[0, 1, 2]), ('-', &[2, 1, 0])]), Refusal::CellTwice);
+    assert_eq!(wing2(5, &[('+', &[0, 1, 2]), ('-', &[0, 1, 3]), ('+', &[0, 1, 4])]), Refusal::CrowdedFace);
+    assert_eq!(wing2(4, &[('+', &[0, 1, 2]), ('+', &[1, 2, 3])]), Refusal::EqualSigns);
+    assert_eq!(sweep(2, 3, 1000, 2, &[0; 7000]), Err(Refusal::SweptTooLarge));
+    assert_eq!(sweep(6, 8, 1, 65, &[0; 15]), Err(Refusal::OutsideLimits));
+    assert_eq!(faces(2, 3, 1, &[0, 0, 1, 2, 0, E, E]), Err(Refusal::Unsound));
+    assert_eq!(Refusal::CrowdedFace.to_string(), "refused 10: a face is in three or more cells");
+}

@@ -1,0 +1,76 @@
+"""Checks the tutors' tool against the proved program.
+
+usage: check.py [PROGRAM]
+
+Random solids must be accepted, whatever their numbers; what the tool refuses it must explain with a line.
+Last line: 'N passed, M failed'.
+"""
+
+import pathlib
+import subprocess
+import sys
+
+ROOT = pathlib.Path(__file__).resolve().parents[2]
+TOOL = [sys.executable, "-B", str(ROOT / "tools" / "solid.py")]
+GOOD = "steps 1\nslide 0 1.0\nv 0 0\nv 1 0\n+ 0 1\n"
+# a text, and what the tool must say of it
+BAD = [
+    ("", "no steps in the text"),
+    (GOOD + "x 1\n", "line 6: 'x' begins no line"),
+    (GOOD + "v 1\n", "line 6: a vertex takes as many coordinates as the first, 2"),
+    (GOOD + "+ 1\n", "line 6: a cell takes as many vertices as the first, 2"),
+    (GOOD + "+ 1 b\n", "line 6: 'b' is no whole number"),
+    (GOOD + "+ 1 65536\n", "line 6: '65536' is no whole number"),
+    (GOOD + "steps 2\n", "line 6: one line 'steps COUNT'"),
+    (GOOD + "slide 1 1\n", "line 6: a second step"),
+    (GOOD.replace("slide 0 1.0", "slide 0"), "line 2: slide takes an axis and an amount"),
+    (GOOD.replace("slide 0 1.0", "turn 1 0"), "line 2: turn takes cosine, sine and rise"),
+    (GOOD.replace("v 1 0", "v 1 east"), "line 4: 'east' is no number"),
+    (GOOD.replace("+ 0 1\n", ""), "no cell in the text"),
+]
+USAGE = ([], ["pack", "a", "b", "c"], ["explain"], ["explain", "0"], ["explain", "16"], ["random", "1", "2", "3"], ["random", "a", "2", "3", "4"])
+RANDOM = [(d, v, s, seed) for d in range(7) for v, s in ((d + 1, 1), (d + 3, 6), (40, 30), (300, 90)) for seed in (1, 2)]
+
+passed = failed = 0
+
+
+def check(name, holds):
+    global passed, failed
+    if holds:
+        passed += 1
+    else:
+        failed += 1
+        print(f"failed: {name}")
+
+
+def run(words, data=b""):
+    return subprocess.run(words, input=data, stdout=subprocess.PIPE, stderr=subprocess.PIPE, check=False)
+
+
+def main():
+    program = sys.argv[1] if len(sys.argv) > 1 else str(ROOT / "target" / "bin" / "key")
+    for numbers in RANDOM:
+        text = run([*TOOL, "random", *map(str, numbers)]).stdout
+        file = run([*TOOL, "pack"], text).stdout
+        check(f"random {numbers}: accepted", run([program], file).stdout.startswith(b"key "))
+        check(f"random {numbers}: the same again", run([*TOOL, "random", *map(str, numbers)]).stdout == text)
+        check(f"random {numbers}: there and back", run([*TOOL, "pack"], run([*TOOL, "unpack"], file).stdout).stdout == file)
+    for text, message in BAD:
+        done = run([*TOOL, "pack"], text.encode())
+        check(f"bad text: {message}", done.returncode == 1 and done.stdout == b"" and message in done.stderr.decode())
+    for data in (b"", b"WNG", bytes(60)):
+        done = run([*TOOL, "unpack"], data)
+        check(f"no file: {data[:4]!r}", done.returncode == 1 and done.stdout == b"" and b"solid.py: " in done.stderr)
+    for words in USAGE:
+        done = run([*TOOL, *words])
+        check(f"wrong usage: {words}", done.returncode == 2 and b"--help" in done.stderr)
+    for number in range(1, 16):
+        done = run([*TOOL, "explain", str(number)])
+        check(f"explain {number}", done.returncode == 0 and done.stdout.startswith(f"refused {number}: ".encode()))
+    check("--help", run([*TOOL, "--help"]).stdout.startswith(b"Solids written by hand"))
+    print(f"{passed} passed, {failed} failed")
+    return failed != 0
+
+
+if __name__ == "__main__":
+    sys.exit(main())
