@@ -1,7 +1,7 @@
 -- Rules that do not apply, and the row for an input of the wrong length in bytes.
 --   NoneApplies rs x      no rule of the list applies
 --   none-applies          so it is where there is no first refusal
---   accepted-by           an accepted call answers its count, and no rule applies
+--   accepted-by           an accepted call answers what it is to answer, and no rule applies
 --   hosted-right, hosted-wrong, hosted-accepted     the row for an odd length
 -- Assumes nothing.
 use mathlib.Core.Path.{_≡_, refl, sym, ap, _∙_}
@@ -23,7 +23,7 @@ cond-zero : (t : Bool) (n k : ℕ) → 1 ≤ n → cond t n k ≡ 0 → (t ≡ f
 cond-zero true n k h e = absurd (omega arith)
 cond-zero false n k h e = (refl, e)
 
-outcome-accepted : (n a k : ℕ) → outcome n a ≡ accepted k → (k ≡ a) × (n ≡ 0)
+outcome-accepted : {A : Type 0} (n : ℕ) (a k : A) → outcome n a ≡ accepted k → (k ≡ a) × (n ≡ 0)
 outcome-accepted zero a k e = (cc, refl)
 outcome-accepted (suc n) a k e = let z : _≡_ {A = ℕ} 0 1 = cc in absurd (omega arith)
 
@@ -39,7 +39,7 @@ module _ {I : Type 0} where
       let both = cond-zero (r .applies x) (r .number) (firstRefusal rs x) (leb-true 1 (r .number) (numbers .0)) e in
       (both .0, none-applies rs x (numbers .1) (both .1))
 
-  pub accepted-by : (rs : List (Rule I)) (count : I → ℕ) (x : I) (k : ℕ) → allNumbered rs ≡ true → decide rs count x ≡ accepted k →
+  pub accepted-by : {A : Type 0} (rs : List (Rule I)) (count : I → A) (x : I) (k : A) → allNumbered rs ≡ true → decide rs count x ≡ accepted k →
       (k ≡ count x) × NoneApplies rs x
   accepted-by rs count x k h e =
       let both = outcome-accepted (firstRefusal rs x) (count x) k e in

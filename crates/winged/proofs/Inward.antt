@@ -4,8 +4,8 @@
 --   wing-after            the buffer, as its outcome says
 --   wing-room             room beyond the largest table changes nothing
 --   wing-host             the answer and the lent bytes, as the host's definitions say
---   wing-long             the count is that of the answer's words
---   sweep-..              the same of sweep
+--   accepted-long, wing-long     the count is that of the answer's words
+--   sweep-.., swept-long  the same of sweep
 --   sweep-large           a table too long for its array is swept to too many cells
 -- Assumes nothing.
 use mathlib.Core.Path.{_≡_, refl, sym, ap, _∙_}
@@ -96,7 +96,7 @@ unfolding wingRead
 wing-room d v s cells x = rw (wing-same d v s (words16 cells) x) refl
 
 -- the table of an accepted list
-accepted-long : (l : Listed) (x k : ℕ) → wingOutcome (record { list = l; room = x }) ≡ accepted k → k ≡ length (tableOfList l)
+pub accepted-long : (l : Listed) (x k : ℕ) → wingOutcome (record { list = l; room = x }) ≡ accepted k → k ≡ length (tableOfList l)
 unfolding wingOutcome wingRules solidRules tableOfList
 accepted-long l x k e =
     let by = accepted-by wingRules (λ i. tableLength (i .list .d) (i .list .s)) (record { list = l; room = x }) k refl e in
@@ -178,7 +178,7 @@ pub sweep-room : (d v s h : ℕ) (table : List ℕ) (x : ℕ) → sweepRead d v 
 unfolding sweepRead
 sweep-room d v s h table x = rw (sweep-same d v s h (words16 table) x) refl
 
-swept-long : (d v s h : ℕ) (ws : List ℕ) (x k : ℕ) → sweepOutcome (sweepInput d v s h ws x) ≡ accepted k → k ≡ length (sweptWords (sweepInput d v s h ws x))
+pub swept-long : (d v s h : ℕ) (ws : List ℕ) (x k : ℕ) → sweepOutcome (sweepInput d v s h ws x) ≡ accepted k → k ≡ length (sweptWords (sweepInput d v s h ws x))
 unfolding sweepOutcome sweepRules
 swept-long d v s h ws x k e =
     let by = accepted-by sweepRules sweptLength (sweepInput d v s h ws x) k refl e in

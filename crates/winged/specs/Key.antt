@@ -3,6 +3,8 @@
 --   wordRoom, floatRoom, byteRoom     the rooms of the lent buffers: 65,536 bytes each
 --   keyOutcome b      the key's text, or the first refused call's number
 --   printed b         what is printed
+--   textOutcome b room    key_text's answer: the count of bytes printed; row 15 if the lent bytes are too few for them
+--   textBuffer b out      the lent bytes after key_text
 use mathlib.Core.Bool.{cond}
 use mathlib.Core.List.{List, _++_}
 use Prim.Native.Nat.{ℕ, suc}
@@ -11,7 +13,7 @@ use lib.ListN.{length}
 use lib.Ieee.{Float}
 use Rattle.words.specs.Text.{ascii}
 use Rattle.rules.specs.Limits.{sweptVertices}
-use Rattle.rules.specs.Calls.{Outcome, accepted, refused}
+use Rattle.rules.specs.Calls.{Outcome, accepted, refused, after}
 use Rattle.complex.specs.Accept.{Listed}
 use Rattle.complex.specs.Table.{tableOfList}
 use Rattle.complex.specs.Wing.{WingInput, wingOutcome}
@@ -74,3 +76,9 @@ spoken (refused n) = ascii "refused " ++ (digits n ++ ascii "\n")
 
 unfoldable pub printed : List ℕ → List ℕ
 printed b = spoken (keyOutcome b)
+
+unfoldable pub textOutcome : List ℕ → ℕ → Outcome ℕ
+textOutcome b room = cond (ltb room (length (printed b))) (refused 15) (accepted (length (printed b)))
+
+unfoldable pub textBuffer : List ℕ → List ℕ → List ℕ
+textBuffer b out = after (textOutcome b (length out)) (printed b) out

@@ -1,4 +1,5 @@
 // Winged solids for a host in C: numbers and lent bytes in, a count of words or minus a refusal's number out.
+// The module key has the text that the program key prints.
 ghost use mathlib.Core.Path.{_≡_};
 ghost use Rattle.winged.specs.Host.{hostWing, hostWingBuffer, hostSweep, hostSweepBuffer, hostFaces, hostFacesBuffer};
 use crate::faces::faces_bytes;
@@ -8,8 +9,10 @@ use crate::host::wing_bytes;
 mod faces;
 mod faces_of;
 mod host;
+pub mod key;
 mod reading;
 mod sending;
+mod stages;
 mod writing;
 
 #[no_mangle]
