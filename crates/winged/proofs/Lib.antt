@@ -5,3 +5,4 @@ pub mod Inward
 pub mod FaceBytes
 pub mod FaceOutcomes
 pub mod Staged
+pub mod Printed
