@@ -1,6 +1,6 @@
 """Compares the program key with the unrelated reference.
 
-usage: compare.py PROGRAM [SEED]
+usage: compare.py [PROGRAM [SEED]]
 
 Thousands of random files, good and damaged, and files at the limits. Last line: 'N passed, M failed'.
 """
@@ -11,7 +11,8 @@ import random
 import subprocess
 import sys
 
-sys.path.insert(0, os.path.join(os.path.dirname(os.path.abspath(__file__)), "..", "reference"))
+ROOT = os.path.join(os.path.dirname(os.path.abspath(__file__)), "..", "..")
+sys.path.insert(0, os.path.join(ROOT, "tests", "reference"))
 import solids  # noqa: E402
 import winged_reference as reference  # noqa: E402
 
@@ -45,7 +46,7 @@ def outcome(text):
 
 
 def main():
-    program = sys.argv[1]
+    program = sys.argv[1] if len(sys.argv) > 1 else os.path.join(ROOT, "target", "bin", "key")
     rng = random.Random(int(sys.argv[2]) if len(sys.argv) > 2 else 20261)
     passed = failed = 0
     seen = collections.Counter()

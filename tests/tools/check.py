@@ -29,7 +29,7 @@ BAD = [
     (GOOD.replace("+ 0 1\n", ""), "no cell in the text"),
 ]
 USAGE = ([], ["pack", "a", "b", "c"], ["explain"], ["explain", "0"], ["explain", "16"], ["random", "1", "2", "3"], ["random", "a", "2", "3", "4"])
-RANDOM = [(d, v, s, seed) for d in range(7) for v, s in ((d + 1, 1), (d + 3, 6), (40, 30), (300, 90)) for seed in (1, 2)]
+RANDOM = [(d, v, s, seed) for d in range(7) for v, s in ((d + 1, 1), (d + 3, 6), (40, 30), (60, 20)) for seed in (1, 2)]
 
 passed = failed = 0
 
