@@ -1,9 +1,11 @@
-//! Times wing, sweep and faces of the proved library beside the same jobs in plain Rust, in one run.
+//! Times wing, sweep and faces of the proved library, and the program key, beside the same jobs in plain Rust, in one run.
 //! Both get the same bytes and must give the same bytes. Prints times and the ratio library / Rust.
 
+mod key;
 mod reference;
 
 use reference::Scratch;
+use std::io::{Read, Write};
 use std::time::Instant;
 
 extern "C" {
@@ -129,7 +131,31 @@ fn measure_sweep(d: usize, swept: usize, plain: bool) {
     );
 }
 
+/// The program beside a Rust program on a file of about 20 KB; what an empty input costs is the start of a process.
+fn measure_program(program: &str) {
+    let (ours, theirs) = (vec![program.to_string()], vec![std::env::current_exe().unwrap().display().to_string(), "key".to_string()]);
+    let file = key::sample();
+    let (a, t) = key::timed(&ours, &file, 300);
+    let (b, u) = key::timed(&theirs, &file, 300);
+    assert!(a == b && a.starts_with(b"key "), "the keys differ");
+    let (x, y) = (key::timed(&ours, b"", 300).1, key::timed(&theirs, b"", 300).1);
+    println!("{:32} {t:9.1} us {u:9.1} us   ratio {:5.2}", format!("key, a file of {} bytes", file.len()), t / u);
+    println!("{:32} {x:9.1} us {y:9.1} us", "key, an empty file");
+    println!("{:32} {:9.1} us {:9.1} us   ratio {:5.2}", "key, its own work", t - x, u - y, (t - x) / (u - y));
+}
+
+/// The reference as a program: standard input to standard output.
+fn reference_key() {
+    let mut data = Vec::new();
+    std::io::stdin().read_to_end(&mut data).unwrap();
+    let text = if data.is_empty() { b"refused 1\n".to_vec() } else { key::key(&data) };
+    std::io::stdout().write_all(&text).unwrap();
+}
+
 fn main() {
+    if std::env::args().nth(1).as_deref() == Some("key") {
+        return reference_key();
+    }
     println!("{:32} {:>12} {:>12}", "least of 60 rounds", "library", "Rust");
     for plain in [true, false] {
         for d in [2, 3, 6] {
@@ -141,5 +167,8 @@ fn main() {
             measure_sweep(d, 1024, plain);
             measure_sweep(d, 4096, plain);
         }
+    }
+    if let Some(program) = std::env::args().nth(1) {
+        measure_program(&program);
     }
 }

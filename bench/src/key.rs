@@ -1,0 +1,115 @@
+//! The key of a file in plain Rust, for good files only, and the time of a whole program.
+
+use crate::reference::{self, Scratch};
+use std::io::Write;
+use std::process::{Command, Stdio};
+use std::time::Instant;
+
+fn short(data: &[u8], at: usize) -> usize {
+    u16::from_le_bytes([data[at], data[at + 1]]) as usize
+}
+
+fn float(data: &[u8], at: usize) -> f64 {
+    f64::from_le_bytes(data[at..at + 8].try_into().unwrap())
+}
+
+/// The next level of the points.
+fn moved(data: &[u8], n: usize, points: &[f64]) -> Vec<f64> {
+    let (kind, a, b) = (data[13], data[14] as usize, data[15] as usize);
+    let (x, y, z) = (float(data, 16), float(data, 24), float(data, 32));
+    let mut result = points.to_vec();
+    for p in result.chunks_exact_mut(n) {
+        match kind {
+            1 => p[a] += x,
+            2 => {
+                p[a] += x;
+                p[b] += y;
+            }
+            _ => {
+                (p[0], p[1]) = (p[0] * x - p[1] * y, p[0] * y + p[1] * x);
+                p[n - 1] += z;
+            }
+        }
+    }
+    result
+}
+
+/// A number with three decimals, to the nearest thousandth, a half away from zero, by the exact float.
+fn decimal(x: f64, text: &mut Vec<u8>) {
+    let bits = x.to_bits();
+    let exponent = (bits >> 52 & 2047) as i32;
+    let mantissa = if exponent == 0 { bits & ((1 << 52) - 1) } else { bits & ((1 << 52) - 1) | 1 << 52 };
+    let down = 1075 - exponent.max(1);
+    let thousandths = if down > 70 { 0 } else { (2000 * mantissa as u128 + (1u128 << down)) >> (down + 1) };
+    let sign = if x < 0.0 && thousandths > 0 { "-" } else { "" };
+    write!(text, " {sign}{}.{:03}", thousandths / 1000, thousandths % 1000).unwrap();
+}
+
+fn number(x: usize, text: &mut Vec<u8>) {
+    write!(text, " {x}").unwrap();
+}
+
+/// The key of a good file.
+pub fn key(data: &[u8]) -> Vec<u8> {
+    let (d, n, v, s, h) = (data[5] as usize, data[6] as usize, short(data, 7), short(data, 9), short(data, 11));
+    let mut points: Vec<f64> = (0..v * n).map(|i| float(data, 40 + 8 * i)).collect();
+    let cells: Vec<u8> = data[40 + 8 * v * n..].chunks_exact(2 * d + 3).flat_map(|c| [(c[0] == b'-') as u8, 0].into_iter().chain(c[1..].iter().copied())).collect();
+    let (mut table, mut swept, mut faces) = (vec![0; 1 << 17], vec![0; 1 << 17], vec![0; 1 << 18]);
+    let mut t = Scratch::default();
+    let count = reference::wing(d, v, s, &cells, &mut table, &mut t).unwrap();
+    let count = reference::sweep(d, v, s, h, &table[..2 * count], &mut swept, &mut t).unwrap();
+    let (vertices, all) = ((h + 1) * v, s * h * (d + 1));
+    let count = reference::faces(d + 1, vertices, all, &swept[..2 * count], &mut faces, &mut t).unwrap();
+    let mut text = Vec::with_capacity(1 << 16);
+    writeln!(text, "key {} {n} {vertices} {}", d + 1, count / (d + 2)).unwrap();
+    for level in 0..=h {
+        for (i, p) in points.chunks_exact(n).enumerate() {
+            text.push(b'v');
+            number(level * v + i, &mut text);
+            p.iter().for_each(|&x| decimal(x, &mut text));
+            text.push(b'\n');
+        }
+        points = moved(data, n, &points);
+    }
+    for face in faces[..2 * count].chunks_exact(2 * (d + 2)) {
+        text.push(if face[0] == 0 { b'+' } else { b'-' });
+        face[2..].chunks_exact(2).for_each(|b| number(u16::from_le_bytes([b[0], b[1]]) as usize, &mut text));
+        text.push(b'\n');
+    }
+    text
+}
+
+/// A file of about 20 KB: a strip of triangles among many points, slid once.
+pub fn sample() -> Vec<u8> {
+    let (d, n, v, s) = (2, 3, 770, 200);
+    let mut data = b"WNG\x01\0".to_vec();
+    data.extend([d as u8, n as u8]);
+    for x in [v, s, 1] {
+        data.extend((x as u16).to_le_bytes());
+    }
+    data.extend([1, 2, 0]);
+    for x in [1.5f64, 0.0, 0.0] {
+        data.extend(x.to_le_bytes());
+    }
+    for i in 0..v * n {
+        data.extend(((i * 7919 % 20011) as f64 / 3700.0 - 2.5).to_le_bytes());
+    }
+    for p in 0..s {
+        data.push(if p % 2 == 0 { b'+' } else { b'-' });
+        (p..=p + d).for_each(|x| data.extend((x as u16).to_le_bytes()));
+    }
+    data
+}
+
+/// What a program prints for an input, and the least time of several whole runs in microseconds.
+pub fn timed(words: &[String], input: &[u8], rounds: usize) -> (Vec<u8>, f64) {
+    let (mut text, mut least) = (Vec::new(), f64::INFINITY);
+    for _ in 0..rounds {
+        let start = Instant::now();
+        let mut child = Command::new(&words[0]).args(&words[1..]).stdin(Stdio::piped()).stdout(Stdio::piped()).spawn().unwrap();
+        child.stdin.take().unwrap().write_all(input).unwrap();
+        text = child.wait_with_output().unwrap().stdout;
+        least = least.min(start.elapsed().as_secs_f64() * 1e6);
+    }
+    (text, least)
+}
