@@ -3,3 +3,4 @@ pub mod Computing
 pub mod MarkedKeys
 pub mod Figures
 pub mod Refusals
+pub mod NeverUnsound

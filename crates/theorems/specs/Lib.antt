@@ -1,5 +1,6 @@
--- Statements about the whole: the marked keys, and further examples. Their proofs compute both sides.
+-- Statements about the whole: the marked keys, and further examples. Their proofs compute both sides, but for NeverUnsound.
 pub mod Shorthand
 pub mod MarkedKeys
 pub mod Figures
 pub mod Refusals
+pub mod NeverUnsound
