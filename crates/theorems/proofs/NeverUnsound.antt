@@ -18,7 +18,7 @@ use Rattle.rules.specs.Limits.{maxDimension, sweptVertices}
 use Rattle.rules.specs.Shapes.{shapeOk}
 use Rattle.rules.specs.Calls.{Rule, firstRefusal, Outcome, accepted, refused, outcome, decide}
 use Rattle.simplex.specs.Order.{ascending}
-use Rattle.complex.specs.Accept.{Listed, listedCells, solidOf, solidRules}
+use Rattle.complex.specs.Accept.{listedCells, solidOf, solidRules}
 use Rattle.complex.specs.Layout.{cellOf, listSize, tableLength, tableWords}
 use Rattle.complex.specs.Table.{sound, tableOf, tableOfList}
 use Rattle.complex.specs.Wing.{WingInput, wingInput, wingOutcome, wingBuffer, wingRules}

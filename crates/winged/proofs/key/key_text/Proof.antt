@@ -1,13 +1,12 @@
 -- `key::key_text` meets its contract: the front of the page is what is printed, and goes to the lent bytes if they are enough. Assumes nothing.
-use mathlib.Core.Path.{_≡_, sym, ap, _∙_, subst}
+use mathlib.Core.Path.{_≡_, sym, subst}
 use mathlib.Core.List.{List}
-use Prim.Native.Nat.{ℕ, _≤_}
+use Prim.Native.Nat.{ℕ}
 use native.Mathlib.Omega.{arith}
 use borrow.Author.Needs.{needs}
 use lib.ListN.{length, take}
 use lib.Seq.{length-take-le}
 use Rattle.listing.specs.Placed.{Put}
-use Rattle.winged.specs.Key.{printed}
 use Rattle.winged.proofs.Printed.{text-short, text-fits}
 use Rattle.winged.proofs.key.key_text.Statement.{statement}
 use Rattle.winged.proofs.key.key_text.Tie as tie

@@ -6,7 +6,7 @@ use borrow.Author.Needs.{needs}
 use lib.ListN.{length, take}
 use Rattle.rules.specs.Calls.{refused}
 use Rattle.rules.specs.Numbers.{outcomeOf}
-use Rattle.winged.specs.Key.{printed, spoken}
+use Rattle.winged.specs.Key.{spoken}
 use Rattle.winged.proofs.Printed.{printed-key, printed-refused, put-front}
 use Rattle.winged.proofs.key.print_page.Statement.{statement}
 use Rattle.winged.proofs.key.print_page.Tie as tie

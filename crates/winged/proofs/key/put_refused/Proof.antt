@@ -1,9 +1,9 @@
 -- `key::put_refused` meets its contract: the word, the number, the line feed. Assumes nothing.
-use mathlib.Core.List.{List, [], _∷_, _++_}
-use Prim.Native.Nat.{ℕ, _+_, _≤_}
+use mathlib.Core.List.{List, _++_}
+use Prim.Native.Nat.{ℕ}
 use native.Mathlib.Omega.{arith}
 use borrow.Author.Needs.{needs}
-use lib.ListN.{length, length-append}
+use lib.ListN.{length-append}
 use Rattle.words.specs.Text.{ascii}
 use Rattle.listing.specs.Decimal.{digits}
 use Rattle.listing.proofs.Digits.{digits-length}

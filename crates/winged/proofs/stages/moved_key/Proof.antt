@@ -9,7 +9,7 @@ use borrow.Author.Needs.{needs}
 use lib.Ieee.{Float}
 use lib.ListN.{length, take}
 use lib.Seq.{length-take-le}
-use Rattle.rules.specs.Calls.{accepted, refused}
+use Rattle.rules.specs.Calls.{accepted}
 use Rattle.rules.specs.Limits.{sweptVertices}
 use Rattle.rules.specs.Numbers.{numberOf, outcomeOf}
 use Rattle.points.specs.Move.{MoveInput, moveInput, movedLevels, moveOutcome}

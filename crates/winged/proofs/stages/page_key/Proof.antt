@@ -12,7 +12,7 @@ use Rattle.rules.specs.Numbers.{numberOf}
 use Rattle.file.specs.declared.Header.{Header}
 use Rattle.file.specs.File.{filePoints}
 use Rattle.file.specs.Read.{fileWords, readOutcome, outcomeOf}
-use Rattle.winged.specs.Key.{byteRoom, readIn}
+use Rattle.winged.specs.Key.{readIn}
 use Rattle.winged.specs.Stages.{counted, left, wingedKey}
 use Rattle.winged.proofs.Printed.{FileFacts, file-facts, cells-front, points-front, key-long, key-refused, key-read}
 use Rattle.winged.proofs.stages.page_key.Statement.{statement}
