@@ -20,22 +20,26 @@ def crates():
 
 def main():
     passed = failed = functions = 0
-    assumed = set()
+    assumed, unproved = set(), []
     for name in crates():
         report = (ROOT / "target" / "log" / f"{name}.out").read_text()
         proved = re.search(r"^logic=proved functions=(\d+)(.*)$", report, re.M)
-        named = set(re.findall(r"[a-z_]+::[a-z_]+", " ".join(re.findall(r"^axioms [a-z_]+: (.*)$", report, re.M))))
-        counted = re.search(r"axioms=(\d+)", proved.group(2)) if proved else None
-        program = (ROOT / "crates" / name / "src" / "main.rt").exists()
-        allowed = ALLOWED if program else set()
-        if proved and "foreign=" not in proved.group(2) and named <= allowed and len(named) == int(counted.group(1) if counted else 0):
-            passed += 1
-            functions += int(proved.group(1))
-            assumed |= named
-        else:
+        if not proved:
+            unproved.append(name)
             failed += 1
-            print(f"{name}: {'assumes ' + ', '.join(sorted(named)) if named else 'not proved in this run'}")
-    print(f"{functions} functions proved; axioms of ours: 0; holes: 0; assumed of the C library: {len(assumed)} ({', '.join(sorted(assumed))})")
+            continue
+        functions += int(proved.group(1))
+        named = set(re.findall(r"[a-z_]+::[a-z_]+", " ".join(re.findall(r"^axioms [a-z_]+: (.*)$", report, re.M))))
+        counted = re.search(r"axioms=(\d+)", proved.group(2))
+        program = (ROOT / "crates" / name / "src" / "main.rt").exists()
+        holds = named <= (ALLOWED if program else set()) and len(named) == int(counted.group(1) if counted else 0) and "foreign=" not in proved.group(2)
+        passed += holds
+        failed += not holds
+        assumed |= named
+        if not holds:
+            print(f"{name} assumes: {', '.join(sorted(named)) or proved.group(2)}")
+    print(f"{functions} functions proved; crates with a hole or without a proof: {len(unproved)} {' '.join(unproved)}")
+    print(f"axioms of the C library: {', '.join(sorted(assumed & ALLOWED)) or 'none'}; other axioms: {', '.join(sorted(assumed - ALLOWED)) or 'none'}")
     print(f"{passed} passed, {failed} failed")
     return failed != 0
 
