@@ -13,7 +13,7 @@ use rules::refusal;
 use rules::refusal::Answer;
 use words::little;
 
-const MARK: f64 = -77.625;
+const MARK: f64 = -700001.625;
 
 // The next number of the input; 0 where it has ended.
 fn read_word() -> u64 {

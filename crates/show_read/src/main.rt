@@ -17,7 +17,7 @@ ghost use lib.ListN.{length};
 
 const MARK: u16 = 42405;
 
-const FLOAT_MARK: f64 = -77.625;
+const FLOAT_MARK: f64 = -700001.625;
 
 fn least(a: usize, b: usize) -> usize
     ensures { λ r. ⌜ r ≤ b ⌝ }
