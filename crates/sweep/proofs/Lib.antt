@@ -19,6 +19,8 @@ pub mod Bounds
 pub mod WingWords
 pub mod RecordLaws
 pub mod SweptWords
+pub mod Pieces
+pub mod AcrossLaws
 pub mod SoundTable
 pub mod Outcomes
 pub mod InLimits

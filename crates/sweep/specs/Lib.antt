@@ -6,3 +6,4 @@ pub mod Wings
 pub mod Sweep
 pub mod Written
 pub mod RecordWords
+pub mod Across

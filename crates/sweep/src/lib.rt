@@ -16,6 +16,7 @@ use crate::writing::write_swept;
 pub mod sides;
 mod limits;
 mod reading;
+mod record;
 mod wings;
 mod writing;
 

@@ -1,12 +1,12 @@
 // The wings of swept cells: cell k over cell p at level i, in a sweep of h steps of s cells.
 ghost use mathlib.Core.Path.{_≡_};
-ghost use Prim.Native.Nat.{_+_, _<_, _≤_};
+ghost use Prim.Native.Nat.{suc, _+_, _<_, _≤_};
 ghost use lib.ListN.{length};
 ghost use Rattle.rules.specs.Limits.{empty, maxCells};
 ghost use Rattle.complex.specs.Layout.{tableLength};
 ghost use Rattle.sweep.specs.Sweep.{sweptCells};
-ghost use Rattle.sweep.specs.Sides.{sideFace, sidePlace};
-ghost use Rattle.sweep.specs.Wings.{cellNumber, backTo, wingAbove, wingBelow, wingAside, sweptWing};
+ghost use Rattle.sweep.specs.Across.{Holds, faceRow, faceFirst, sideCell};
+ghost use Rattle.sweep.specs.Wings.{cellNumber, backTo, wingAbove, wingBelow};
 ghost use Rattle.sweep.specs.Written.{solidWing, Ready};
 use crate::reading::wide;
 use crate::reading::wing;
@@ -23,7 +23,7 @@ fn cell_number(d: usize, s: usize, h: usize, i: usize, p: usize, k: usize) -> u1
 }
 
 // Position 0: the next cell over p, or the first of the next level.
-fn wing_above(d: usize, s: usize, h: usize, i: usize, p: usize, k: usize) -> u16
+pub fn wing_above(d: usize, s: usize, h: usize, i: usize, p: usize, k: usize) -> u16
     requires { ⌜ (sweptCells d s h ≤ maxCells) × (i < h) × (p < s) × (k ≤ d) ⌝ }
     ensures { λ r. ⌜ r ≡ wingAbove d s h (λ q a. 0) i p k ⌝ }
 {
@@ -37,7 +37,7 @@ fn wing_above(d: usize, s: usize, h: usize, i: usize, p: usize, k: usize) -> u16
 }
 
 // Position d + 1: the cell before, or the last of the level below.
-fn wing_below(d: usize, s: usize, h: usize, i: usize, p: usize, k: usize) -> u16
+pub fn wing_below(d: usize, s: usize, h: usize, i: usize, p: usize, k: usize) -> u16
     requires { ⌜ (sweptCells d s h ≤ maxCells) × (i < h) × (p < s) × (k ≤ d) ⌝ }
     ensures { λ r. ⌜ r ≡ wingBelow d s h (λ q a. 0) i p k ⌝ }
 {
@@ -65,57 +65,79 @@ fn back(d: usize, s: usize, table: &[u16], p: usize, q: usize) -> usize
     b
 }
 
-// The side at place l over face a: it meets the side at the same place over the face across.
-fn wing_aside(d: usize, v: usize, s: usize, h: usize, table: &[u16], i: usize, p: usize, a: usize, l: usize) -> u16
+// Where the side pairs over the face across face a stand in the row of side cells; 56 if the wing is empty.
+fn face_row(d: usize, v: usize, s: usize, h: usize, table: &[u16], p: usize, a: usize) -> usize
     requires ready { ⌜ Ready d v s h (now table) ⌝ }
-    requires at { ⌜ (i < h) × (p < s) × (a ≤ d) × (l < d) ⌝ }
-    ensures { λ r. ⌜ r ≡ wingAside d s h (solidWing d s (now (table .entry))) i p a l ⌝ }
+    requires at { ⌜ (p < s) × (a ≤ d) ⌝ }
+    ensures { λ r. ⌜ r ≡ faceRow d (solidWing d s (now (table .entry))) p a ⌝ }
 {
     let w = wing(d, s, table, p, a);
     if w == EMPTY {
-        return EMPTY;
+        return 56;
     }
-    let q = wide(w);
-    let b = back(d, s, table, p, q);
-    let other = side_pair(d, b, l);
-    cell_number(d, s, h, i, q, other.cell)
+    back(d, s, table, p, wide(w)) * 8
 }
 
-// The face over which position j of cell k stands.
-fn side_face(d: usize, k: usize, j: usize) -> usize
-    requires { ⌜ (k ≤ d) × (j ≤ d) × (d ≤ 6) ⌝ }
-    ensures { λ r. ⌜ r ≡ sideFace d k j ⌝ }
-{
-    if k + j <= d {
-        return k + j;
-    }
-    k + j - (d + 1)
-}
-
-// Its place among the sides over that face.
-fn side_place(d: usize, k: usize, j: usize) -> usize
-    requires { ⌜ (k ≤ d) × (j ≤ d) × (d ≤ 6) ⌝ }
-    ensures { λ r. ⌜ r ≡ sidePlace d k j ⌝ }
-{
-    if k + j <= d {
-        return k;
-    }
-    k - 1
-}
-
-// Wing j of cell k over cell p at level i.
-pub fn swept_wing(d: usize, v: usize, s: usize, h: usize, table: &[u16], i: usize, p: usize, k: usize, j: usize) -> u16
+// The first cell at level i over the cell across face a; 0 if the wing is empty.
+fn face_first(d: usize, v: usize, s: usize, h: usize, table: &[u16], i: usize, p: usize, a: usize) -> usize
     requires ready { ⌜ Ready d v s h (now table) ⌝ }
-    requires at { ⌜ (i < h) × (p < s) × (k ≤ d) × (j ≤ d + 1) ⌝ }
-    ensures { λ r. ⌜ r ≡ sweptWing d s h (solidWing d s (now (table .entry))) i p k j ⌝ }
+    requires at { ⌜ (i < h) × (p < s) × (a ≤ d) ⌝ }
+    ensures { λ r. ⌜ r ≡ faceFirst d s (solidWing d s (now (table .entry))) i p a ⌝ }
 {
-    if j == 0 {
-        return wing_above(d, s, h, i, p, k);
+    let w = wing(d, s, table, p, a);
+    if w == EMPTY {
+        return 0;
     }
-    if j == d + 1 {
-        return wing_below(d, s, h, i, p, k);
+    wide(cell_number(d, s, h, i, wide(w), 0))
+}
+
+// Both for each face of cell p.
+pub fn face_rows(d: usize, v: usize, s: usize, h: usize, table: &[u16], p: usize) -> [usize; 8]
+    requires ready { ⌜ Ready d v s h (now table) ⌝ }
+    requires at { ⌜ p < s ⌝ }
+    ensures { λ r. ⌜ Holds (suc d) (faceRow d (solidWing d s (now (table .entry))) p) r ⌝ }
+{
+    let mut rows = [0usize; 8];
+    let mut a: usize = 0;
+    while a <= d {
+        rows[a] = face_row(d, v, s, h, table, p, a);
+        a += 1;
     }
-    let a = side_face(d, k, j);
-    let l = side_place(d, k, j);
-    wing_aside(d, v, s, h, table, i, p, a, l)
+    rows
+}
+
+pub fn face_firsts(d: usize, v: usize, s: usize, h: usize, table: &[u16], i: usize, p: usize) -> [usize; 8]
+    requires ready { ⌜ Ready d v s h (now table) ⌝ }
+    requires at { ⌜ (i < h) × (p < s) ⌝ }
+    ensures { λ r. ⌜ Holds (suc d) (faceFirst d s (solidWing d s (now (table .entry))) i p) r ⌝ }
+{
+    let mut firsts = [0usize; 8];
+    let mut a: usize = 0;
+    while a <= d {
+        firsts[a] = face_first(d, v, s, h, table, i, p, a);
+        a += 1;
+    }
+    firsts
+}
+
+// The cell of side pair n, eight places a face; the last eight are for no neighbour.
+fn side_cell(d: usize, n: usize) -> usize
+    ensures { λ r. ⌜ r ≡ sideCell d n ⌝ }
+{
+    if 56 <= n {
+        return wide(EMPTY);
+    }
+    side_pair(d, n / 8, n % 8).cell
+}
+
+pub fn side_cells(d: usize) -> [usize; 64]
+    ensures { λ r. ⌜ Holds 64 (sideCell d) r ⌝ }
+{
+    let mut cells = [0usize; 64];
+    let mut n: usize = 0;
+    while n < 64 {
+        cells[n] = side_cell(d, n);
+        n += 1;
+    }
+    cells
 }

@@ -7,6 +7,7 @@ use borrow.Author.Needs.{needs}
 use lib.ListN.{length}
 use Rattle.words.specs.Records.{tabulate, concat}
 use Rattle.words.specs.Placed.{placed}
+use Rattle.sweep.specs.Across.{Across}
 use Rattle.sweep.specs.Written.{recordWords}
 use Rattle.words.proofs.Placed.{placed-none, concat-fits, placed-record}
 use Rattle.sweep.proofs.SweptWords.{prism-is}
@@ -14,31 +15,38 @@ use Rattle.sweep.proofs.writing.write_prism.Statement.{statement}
 use Rattle.sweep.proofs.writing.write_prism.Tie as tie
 
 abbrev Inv-loop : tie.InvT-loop
-Inv-loop d v s h table i p at out₀ next₀ k₀ out next k =
+Inv-loop d v s h table i p cells at out₀ firsts rows next₀ k₀ out next k =
     (k ≤ d + 1) × (next ≡ at + length (concat (tabulate k (recordWords d v s h table i p)))) × (length out ≡ length out₀)
     × (out ≡ placed at (concat (tabulate k (recordWords d v s h table i p))) out₀)
 
 abbrev μ-loop : tie.MeasureT-loop
-μ-loop d v s h table i p at out₀ next₀ k₀ out next k = d + 1 - k
+μ-loop d v s h table i p cells at out₀ firsts rows next₀ k₀ out next k = d + 1 - k
 
 room : (c : tie.Start Inv-loop μ-loop) →
     c .args .at + length (concat (tabulate (c .args .d + 1) (recordWords (c .args .d) (c .args .v) (c .args .s) (c .args .h) (c .args .table .now) (c .args .i) (c .args .p))))
     ≤ length (c .args .out .now)
 room c =
     let a = c .args in
-    omega (arith, c .pre .1 .1, ap length (prism-is (a .d) (a .v) (a .s) (a .h) (a .table .now) (a .i) (a .p)))
+    omega (arith, c .pre .1 .1 .1, ap length (prism-is (a .d) (a .v) (a .s) (a .h) (a .table .now) (a .i) (a .p)))
+
+face-firsts-requires : tie.Need-face-firsts-requires Inv-loop μ-loop
+face-firsts-requires c κs = search needs
+
+face-rows-requires : tie.Need-face-rows-requires Inv-loop μ-loop
+face-rows-requires c κs = search needs
 
 loop-holds : tie.Need-loop-holds Inv-loop μ-loop
-loop-holds c = let a = c .before .before .args in (omega arith, omega arith, omega arith, sym (placed-none (a .at) (a .out .now)))
+loop-holds c = let a = c .before .before .before .before .args in (omega arith, omega arith, omega arith, sym (placed-none (a .at) (a .out .now)))
 
 write-record-requires : tie.Need-write-record-requires Inv-loop μ-loop
 write-record-requires c κs =
-    let at = c .before .before in
-    let start = at .before .before .before in
+    let at = c .before .before .before .before in
+    let start = at .before .before .before .before .before in
     let a = start .args in
-    (start .pre .0, ((start .pre .1 .0 .0, start .pre .1 .0 .1, c .before .loop-test .taken)
+    let across : Across (a .d) (a .s) (a .table .now) (a .i) (a .p) (at .before .before .face-firsts .result) (at .before .face-rows .result) (a .cells .now) = record { first = at .before .before .face-firsts .ensures; row = at .before .face-rows .ensures; cell = start .pre .1 .0 } in
+    (start .pre .0, ((start .pre .1 .1 .0 .0, start .pre .1 .1 .0 .1, c .before .before .before .loop-test .taken), (across
     , omega (arith, room start, at .loop .inv .1, at .loop .inv .2
-      , concat-fits (a .d + 1) (at .loop .k) (recordWords (a .d) (a .v) (a .s) (a .h) (a .table .now) (a .i) (a .p)) (omega (arith, c .before .loop-test .taken)))))
+      , concat-fits (a .d + 1) (at .loop .k) (recordWords (a .d) (a .v) (a .s) (a .h) (a .table .now) (a .i) (a .p)) (omega (arith, c .before .before .before .loop-test .taken))))))
 
 add-k : tie.Need-add-k Inv-loop μ-loop
 add-k c = search needs
@@ -48,14 +56,14 @@ loop-less c = search needs
 
 loop-again : tie.Need-loop-again Inv-loop μ-loop
 loop-again c =
-    let at = c .before .before .before .before .before in
-    let start = at .before .before .before in
+    let at = c .before .before .before .before .before .before .before in
+    let start = at .before .before .before .before .before in
     let a = start .args in
     let call = c .before .before .write-record in
     let more =
         placed-record (a .d + 1) (a .at) (at .loop .k) (at .loop .next) (call .result) (recordWords (a .d) (a .v) (a .s) (a .h) (a .table .now) (a .i) (a .p)) (a .out .now) (at .loop .out) _
-        (omega (arith, c .before .before .before .before .loop-test .taken)) (room start) (at .loop .inv .1) (at .loop .inv .3) (call .ensures .0) (call .ensures .1) in
-    (omega arith, more .place, more .long, more .words)
+        (omega (arith, c .before .before .before .before .before .before .loop-test .taken)) (room start) (at .loop .inv .1) (at .loop .inv .3) (call .ensures .0) (call .ensures .1) in
+    (omega (arith, c .before .before .before .before .before .before .loop-test .taken), more .place, more .long, more .words)
 
 same-length : tie.Need-same-length Inv-loop μ-loop
 same-length c = search needs
@@ -63,7 +71,7 @@ same-length c = search needs
 returns : tie.Need-returns Inv-loop μ-loop
 returns c =
     let at = c .before in
-    let a = at .before .before .before .args in
+    let a = at .before .before .before .before .before .args in
     let all : at .loop .k ≡ a .d + 1 = omega arith in
     let words = ap (λ (m : ℕ). concat (tabulate m (recordWords (a .d) (a .v) (a .s) (a .h) (a .table .now) (a .i) (a .p)))) all ∙ sym (prism-is (a .d) (a .v) (a .s) (a .h) (a .table .now) (a .i) (a .p)) in
     (at .loop .inv .1 ∙ ap (λ (l : List ℕ). a .at + length l) words, at .loop .inv .3 ∙ ap (λ (l : List ℕ). placed (a .at) l (a .out .now)) words)
@@ -74,6 +82,8 @@ write-prism-spec =
     (tie.spec
     Inv-loop
     μ-loop
+    face-firsts-requires
+    face-rows-requires
     loop-holds
     write-record-requires
     add-k

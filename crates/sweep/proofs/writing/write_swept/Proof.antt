@@ -14,12 +14,12 @@ use Rattle.sweep.proofs.writing.write_swept.Statement.{statement}
 use Rattle.sweep.proofs.writing.write_swept.Tie as tie
 
 abbrev Inv-loop : tie.InvT-loop
-Inv-loop d v s h table out₀ next₀ i₀ out next i =
+Inv-loop d v s h table out₀ cells next₀ i₀ out next i =
     (i ≤ h) × (next ≡ 0 + length (concat (tabulate i (levelWords d v s h table)))) × (length out ≡ length out₀)
     × (out ≡ placed 0 (concat (tabulate i (levelWords d v s h table))) out₀)
 
 abbrev μ-loop : tie.MeasureT-loop
-μ-loop d v s h table out₀ next₀ i₀ out next i = h - i
+μ-loop d v s h table out₀ cells next₀ i₀ out next i = h - i
 
 room : (c : tie.Start Inv-loop μ-loop) →
     0 + length (concat (tabulate (c .args .h) (levelWords (c .args .d) (c .args .v) (c .args .s) (c .args .h) (c .args .table .now)))) ≤ length (c .args .out .now)
@@ -27,16 +27,19 @@ room c =
     let a = c .args in
     omega (arith, c .pre .1, ap length (all-is (a .d) (a .v) (a .s) (a .h) (a .table .now)))
 
+side-cells-requires : tie.Need-side-cells-requires Inv-loop μ-loop
+side-cells-requires c κs = search needs
+
 loop-holds : tie.Need-loop-holds Inv-loop μ-loop
-loop-holds c = let a = c .before .before .args in (omega arith, omega arith, omega arith, sym (placed-none (0) (a .out .now)))
+loop-holds c = let a = c .before .before .before .args in (omega arith, omega arith, omega arith, sym (placed-none (0) (a .out .now)))
 
 write-level-requires : tie.Need-write-level-requires Inv-loop μ-loop
 write-level-requires c κs =
-    let at = c .before .before in
-    let start = at .before .before .before in
+    let at = c .before .before .before in
+    let start = at .before .before .before .before in
     let a = start .args in
-    (start .pre .0, (c .before .loop-test .taken
-    , omega (arith, room start, at .loop .inv .1, at .loop .inv .2, concat-fits (a .h) (at .loop .i) (levelWords (a .d) (a .v) (a .s) (a .h) (a .table .now)) (c .before .loop-test .taken))))
+    (start .pre .0, (at .before .side-cells .ensures, (c .before .before .loop-test .taken
+    , omega (arith, room start, at .loop .inv .1, at .loop .inv .2, concat-fits (a .h) (at .loop .i) (levelWords (a .d) (a .v) (a .s) (a .h) (a .table .now)) (c .before .before .loop-test .taken)))))
 
 add-i : tie.Need-add-i Inv-loop μ-loop
 add-i c = search needs
@@ -46,13 +49,13 @@ loop-less c = search needs
 
 loop-again : tie.Need-loop-again Inv-loop μ-loop
 loop-again c =
-    let at = c .before .before .before .before .before in
-    let start = at .before .before .before in
+    let at = c .before .before .before .before .before .before in
+    let start = at .before .before .before .before in
     let a = start .args in
     let call = c .before .before .write-level in
     let more =
         placed-record (a .h) (0) (at .loop .i) (at .loop .next) (call .result) (levelWords (a .d) (a .v) (a .s) (a .h) (a .table .now)) (a .out .now) (at .loop .out) _
-        (omega (arith, c .before .before .before .before .loop-test .taken)) (room start) (at .loop .inv .1) (at .loop .inv .3) (call .ensures .0) (call .ensures .1) in
+        (omega (arith, c .before .before .before .before .before .loop-test .taken)) (room start) (at .loop .inv .1) (at .loop .inv .3) (call .ensures .0) (call .ensures .1) in
     (omega arith, more .place, more .long, more .words)
 
 same-length : tie.Need-same-length Inv-loop μ-loop
@@ -61,7 +64,7 @@ same-length c = search needs
 returns : tie.Need-returns Inv-loop μ-loop
 returns c =
     let at = c .before in
-    let a = at .before .before .before .args in
+    let a = at .before .before .before .before .args in
     let all : at .loop .i ≡ a .h = omega arith in
     let words = ap (λ (m : ℕ). concat (tabulate m (levelWords (a .d) (a .v) (a .s) (a .h) (a .table .now)))) all ∙ sym (all-is (a .d) (a .v) (a .s) (a .h) (a .table .now)) in
     (omega (arith, at .loop .inv .1, ap length words), at .loop .inv .3 ∙ ap (λ (l : List ℕ). placed (0) l (a .out .now)) words)
@@ -72,6 +75,7 @@ write-swept-spec =
     (tie.spec
     Inv-loop
     μ-loop
+    side-cells-requires
     loop-holds
     write-level-requires
     add-i

@@ -5,8 +5,8 @@ use borrow.Author.Needs.{needs}
 use Rattle.rules.specs.Limits.{sweptVertices}
 use Rattle.sweep.specs.Cells.{atLevel}
 use Rattle.sweep.proofs.Bounds.{vertex-inside}
-use Rattle.sweep.proofs.writing.lift.Statement.{statement}
-use Rattle.sweep.proofs.writing.lift.Tie as tie
+use Rattle.sweep.proofs.record.lift.Statement.{statement}
+use Rattle.sweep.proofs.record.lift.Tie as tie
 
 below : (c : tie.Start) → atLevel (c .args .v) (c .args .i) (c .args .x) < sweptVertices (c .args .v) (c .args .h)
 below c = vertex-inside (c .args .v) (c .args .h) (c .args .i) (c .args .x) (c .pre .1) (c .pre .2)

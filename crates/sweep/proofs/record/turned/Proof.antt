@@ -2,8 +2,8 @@
 use mathlib.Core.Path.{refl}
 use borrow.Author.Tests.{eq-eqb, ne-eqb}
 use Rattle.sweep.proofs.WingWords.{even-plus, odd-minus}
-use Rattle.sweep.proofs.writing.turned.Statement.{statement}
-use Rattle.sweep.proofs.writing.turned.Tie as tie
+use Rattle.sweep.proofs.record.turned.Statement.{statement}
+use Rattle.sweep.proofs.record.turned.Tie as tie
 
 returns : tie.Need-returns
 returns c = rw (even-plus _ (c .before .if1 .taken), eq-eqb _ _ (c .if2 .taken)) refl
