@@ -92,32 +92,30 @@ fn face_first(d: usize, v: usize, s: usize, h: usize, table: &[u16], i: usize, p
 }
 
 // Both for each face of cell p.
-pub fn face_rows(d: usize, v: usize, s: usize, h: usize, table: &[u16], p: usize) -> [usize; 8]
+pub fn face_rows(d: usize, v: usize, s: usize, h: usize, table: &[u16], p: usize, rows: &mut [usize; 8])
     requires ready { ⌜ Ready d v s h (now table) ⌝ }
     requires at { ⌜ p < s ⌝ }
-    ensures { λ r. ⌜ Holds (suc d) (faceRow d (solidWing d s (now (table .entry))) p) r ⌝ }
+    requires long { ⌜ length (now rows) ≡ 8 ⌝ }
+    ensures { λ _. ⌜ Holds (suc d) (faceRow d (solidWing d s (now (table .entry))) p) (now (rows .exit)) ⌝ }
 {
-    let mut rows = [0usize; 8];
     let mut a: usize = 0;
     while a <= d {
         rows[a] = face_row(d, v, s, h, table, p, a);
         a += 1;
     }
-    rows
 }
 
-pub fn face_firsts(d: usize, v: usize, s: usize, h: usize, table: &[u16], i: usize, p: usize) -> [usize; 8]
+pub fn face_firsts(d: usize, v: usize, s: usize, h: usize, table: &[u16], i: usize, p: usize, firsts: &mut [usize; 8])
     requires ready { ⌜ Ready d v s h (now table) ⌝ }
     requires at { ⌜ (i < h) × (p < s) ⌝ }
-    ensures { λ r. ⌜ Holds (suc d) (faceFirst d s (solidWing d s (now (table .entry))) i p) r ⌝ }
+    requires long { ⌜ length (now firsts) ≡ 8 ⌝ }
+    ensures { λ _. ⌜ Holds (suc d) (faceFirst d s (solidWing d s (now (table .entry))) i p) (now (firsts .exit)) ⌝ }
 {
-    let mut firsts = [0usize; 8];
     let mut a: usize = 0;
     while a <= d {
         firsts[a] = face_first(d, v, s, h, table, i, p, a);
         a += 1;
     }
-    firsts
 }
 
 // The cell of side pair n, eight places a face; the last eight are for no neighbour.

@@ -30,8 +30,10 @@ fn write_prism(
     ensures place { λ r. ⌜ r ≡ at + length (prismWords d v s h (now (table .entry)) i p) ⌝ }
     ensures words { λ r. ⌜ now (out .exit) ≡ placed at (prismWords d v s h (now (table .entry)) i p) (now (out .entry)) ⌝ }
 {
-    let firsts = face_firsts(d, v, s, h, table, i, p);
-    let rows = face_rows(d, v, s, h, table, p);
+    let mut firsts = [0usize; 8];
+    let mut rows = [0usize; 8];
+    face_firsts(d, v, s, h, table, i, p, &mut firsts);
+    face_rows(d, v, s, h, table, p, &mut rows);
     let mut next = at;
     let mut k: usize = 0;
     while k <= d {

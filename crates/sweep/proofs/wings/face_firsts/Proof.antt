@@ -1,5 +1,5 @@
 -- The loop holds the numbers below a. Assumes nothing.
-use mathlib.Core.Path.{_≡_, refl, _∙_}
+use mathlib.Core.Path.{_≡_, _∙_}
 use Prim.Native.Nat.{_+_, _-_, _≤_}
 use native.Mathlib.Omega.{arith}
 use native.Mathlib.Nat.{not-suc-le-zero}
@@ -18,7 +18,7 @@ abbrev μ-loop : tie.MeasureT-loop
 μ-loop d v s h table i p firsts₀ a₀ firsts a = d + 1 - a
 
 loop-holds : tie.Need-loop-holds Inv-loop μ-loop
-loop-holds c = (omega arith, refl, λ j l. absurd (not-suc-le-zero l))
+loop-holds c = (omega arith, c .before .pre .1 .1, λ j l. absurd (not-suc-le-zero l))
 
 face-first-requires : tie.Need-face-first-requires Inv-loop μ-loop
 face-first-requires c κs = search needs
@@ -26,8 +26,8 @@ face-first-requires c κs = search needs
 mul-firsts : tie.Need-mul-firsts Inv-loop μ-loop
 mul-firsts c = search needs
 
-array-write-firsts : tie.Need-array-write-firsts Inv-loop μ-loop
-array-write-firsts c = search needs
+element-write-firsts : tie.Need-element-write-firsts Inv-loop μ-loop
+element-write-firsts c = search needs
 
 add-a : tie.Need-add-a Inv-loop μ-loop
 add-a c = search needs
@@ -54,7 +54,7 @@ face-firsts-spec =
     loop-holds
     face-first-requires
     mul-firsts
-    array-write-firsts
+    element-write-firsts
     add-a
     loop-less
     loop-again

@@ -1,5 +1,5 @@
 -- The loop holds the numbers below a. Assumes nothing.
-use mathlib.Core.Path.{_≡_, refl, _∙_}
+use mathlib.Core.Path.{_≡_, _∙_}
 use Prim.Native.Nat.{_+_, _-_, _≤_}
 use native.Mathlib.Omega.{arith}
 use native.Mathlib.Nat.{not-suc-le-zero}
@@ -18,7 +18,7 @@ abbrev μ-loop : tie.MeasureT-loop
 μ-loop d v s h table p rows₀ a₀ rows a = d + 1 - a
 
 loop-holds : tie.Need-loop-holds Inv-loop μ-loop
-loop-holds c = (omega arith, refl, λ j l. absurd (not-suc-le-zero l))
+loop-holds c = (omega arith, c .before .pre .1 .1, λ j l. absurd (not-suc-le-zero l))
 
 face-row-requires : tie.Need-face-row-requires Inv-loop μ-loop
 face-row-requires c κs = search needs
@@ -26,8 +26,8 @@ face-row-requires c κs = search needs
 mul-rows : tie.Need-mul-rows Inv-loop μ-loop
 mul-rows c = search needs
 
-array-write-rows : tie.Need-array-write-rows Inv-loop μ-loop
-array-write-rows c = search needs
+element-write-rows : tie.Need-element-write-rows Inv-loop μ-loop
+element-write-rows c = search needs
 
 add-a : tie.Need-add-a Inv-loop μ-loop
 add-a c = search needs
@@ -54,7 +54,7 @@ face-rows-spec =
     loop-holds
     face-row-requires
     mul-rows
-    array-write-rows
+    element-write-rows
     add-a
     loop-less
     loop-again

@@ -7,7 +7,6 @@ use borrow.Author.Needs.{needs}
 use lib.ListN.{length}
 use Rattle.words.specs.Records.{tabulate, concat}
 use Rattle.words.specs.Placed.{placed}
-use Rattle.sweep.specs.Across.{Across}
 use Rattle.sweep.specs.Written.{recordWords}
 use Rattle.words.proofs.Placed.{placed-none, concat-fits, placed-record}
 use Rattle.sweep.proofs.SweptWords.{prism-is}
@@ -36,15 +35,14 @@ face-rows-requires : tie.Need-face-rows-requires Inv-loop μ-loop
 face-rows-requires c κs = search needs
 
 loop-holds : tie.Need-loop-holds Inv-loop μ-loop
-loop-holds c = let a = c .before .before .before .before .args in (omega arith, omega arith, omega arith, sym (placed-none (a .at) (a .out .now)))
+loop-holds c = let a = c .before .before .before .before .before .before .args in (omega arith, omega arith, omega arith, sym (placed-none (a .at) (a .out .now)))
 
 write-record-requires : tie.Need-write-record-requires Inv-loop μ-loop
 write-record-requires c κs =
     let at = c .before .before .before .before in
-    let start = at .before .before .before .before .before in
+    let start = at .before .before .before .before .before .before .before in
     let a = start .args in
-    let across : Across (a .d) (a .s) (a .table .now) (a .i) (a .p) (at .before .before .face-firsts .result) (at .before .face-rows .result) (a .cells .now) = record { first = at .before .before .face-firsts .ensures; row = at .before .face-rows .ensures; cell = start .pre .1 .0 } in
-    (start .pre .0, ((start .pre .1 .1 .0 .0, start .pre .1 .1 .0 .1, c .before .before .before .loop-test .taken), (across
+    (start .pre .0, ((start .pre .1 .1 .0 .0, start .pre .1 .1 .0 .1, c .before .before .before .loop-test .taken), (record { first = at .before .before .before .face-firsts .ensures; row = at .before .face-rows .ensures; cell = start .pre .1 .0 }
     , omega (arith, room start, at .loop .inv .1, at .loop .inv .2
       , concat-fits (a .d + 1) (at .loop .k) (recordWords (a .d) (a .v) (a .s) (a .h) (a .table .now) (a .i) (a .p)) (omega (arith, c .before .before .before .loop-test .taken))))))
 
@@ -57,7 +55,7 @@ loop-less c = search needs
 loop-again : tie.Need-loop-again Inv-loop μ-loop
 loop-again c =
     let at = c .before .before .before .before .before .before .before in
-    let start = at .before .before .before .before .before in
+    let start = at .before .before .before .before .before .before .before in
     let a = start .args in
     let call = c .before .before .write-record in
     let more =
@@ -71,7 +69,7 @@ same-length c = search needs
 returns : tie.Need-returns Inv-loop μ-loop
 returns c =
     let at = c .before in
-    let a = at .before .before .before .before .before .args in
+    let a = at .before .before .before .before .before .before .before .args in
     let all : at .loop .k ≡ a .d + 1 = omega arith in
     let words = ap (λ (m : ℕ). concat (tabulate m (recordWords (a .d) (a .v) (a .s) (a .h) (a .table .now) (a .i) (a .p)))) all ∙ sym (prism-is (a .d) (a .v) (a .s) (a .h) (a .table .now) (a .i) (a .p)) in
     (at .loop .inv .1 ∙ ap (λ (l : List ℕ). a .at + length l) words, at .loop .inv .3 ∙ ap (λ (l : List ℕ). placed (a .at) l (a .out .now)) words)
