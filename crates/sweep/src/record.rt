@@ -87,11 +87,11 @@ fn side_word(a: usize, l: usize, firsts: &[usize; 8], rows: &[usize; 8], cells: 
     (firsts[a] + cells[row + l]) as u16
 }
 
-// Sides at place l, over n faces from a on.
+// Sides at place l, over count faces from a on.
 fn write_sides(
     d: usize,
     a: usize,
-    n: usize,
+    count: usize,
     l: usize,
     firsts: &[usize; 8],
     rows: &[usize; 8],
@@ -100,12 +100,12 @@ fn write_sides(
     out: &mut [u16],
 )
     requires fit { ⌜ SidesFit d (now firsts) (now rows) (now cells) ⌝ }
-    requires over { ⌜ (d ≤ 6) × (a + n ≤ d + 1) × (0 < n → l < d) ⌝ }
-    requires room { ⌜ at + n ≤ length (now out) ⌝ }
-    ensures { λ _. ⌜ now (out .exit) ≡ placed at (tabulate n (λ j. sideWord (now (firsts .entry)) (now (rows .entry)) (now (cells .entry)) (a + j) l)) (now (out .entry)) ⌝ }
+    requires over { ⌜ (d ≤ 6) × (a + count ≤ d + 1) × (0 < count → l < d) ⌝ }
+    requires room { ⌜ at + count ≤ length (now out) ⌝ }
+    ensures { λ _. ⌜ now (out .exit) ≡ placed at (tabulate count (λ j. sideWord (now (firsts .entry)) (now (rows .entry)) (now (cells .entry)) (a + j) l)) (now (out .entry)) ⌝ }
 {
     let mut j: usize = 0;
-    while j < n {
+    while j < count {
         out[at + j] = side_word(a + j, l, firsts, rows, cells);
         j += 1;
     }

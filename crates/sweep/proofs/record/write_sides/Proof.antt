@@ -15,17 +15,17 @@ use Rattle.sweep.proofs.record.write_sides.Statement.{statement}
 use Rattle.sweep.proofs.record.write_sides.Tie as tie
 
 abbrev Inv-loop : tie.InvT-loop
-Inv-loop d a n l firsts rows cells at out₀ j₀ out j =
-    (j ≤ n) × (length out ≡ length out₀) × (out ≡ placed at (take j (tabulate n (λ j. sideWord firsts rows cells (a + j) l))) out₀)
+Inv-loop d a count l firsts rows cells at out₀ j₀ out j =
+    (j ≤ count) × (length out ≡ length out₀) × (out ≡ placed at (take j (tabulate count (λ j. sideWord firsts rows cells (a + j) l))) out₀)
 
 abbrev μ-loop : tie.MeasureT-loop
-μ-loop d a n l firsts rows cells at out₀ j₀ out j = n - j
+μ-loop d a count l firsts rows cells at out₀ j₀ out j = count - j
 
 abbrev words : tie.Start Inv-loop μ-loop → List ℕ
-words c = let a = c .args in tabulate (a .n) (λ j. sideWord (a .firsts .now) (a .rows .now) (a .cells .now) (a .a + j) (a .l))
+words c = let a = c .args in tabulate (a .count) (λ j. sideWord (a .firsts .now) (a .rows .now) (a .cells .now) (a .a + j) (a .l))
 
-long : (c : tie.Start Inv-loop μ-loop) → length (words c) ≡ c .args .n
-long c = let a = c .args in tabulate-length (a .n) (λ j. sideWord (a .firsts .now) (a .rows .now) (a .cells .now) (a .a + j) (a .l))
+long : (c : tie.Start Inv-loop μ-loop) → length (words c) ≡ c .args .count
+long c = let a = c .args in tabulate-length (a .count) (λ j. sideWord (a .firsts .now) (a .rows .now) (a .cells .now) (a .a + j) (a .l))
 
 loop-holds : tie.Need-loop-holds Inv-loop μ-loop
 loop-holds c = let a = c .before .args in (omega arith, omega arith, sym (placed-none (a .at) (a .out .now)))
@@ -65,7 +65,7 @@ loop-again c =
     (omega arith, length-set (at .loop .out) _ _ ∙ at .loop .inv .1
     , placed-word (a .at) (at .loop .j) _ (words start) (a .out .now) (at .loop .out)
       (omega (arith, long start)) (omega (arith, long start)) (at .loop .inv .2)
-      (c .side-word .ensures ∙ sym (tabulate-at (a .n) f (at .loop .j) 0 (omega arith))))
+      (c .side-word .ensures ∙ sym (tabulate-at (a .count) f (at .loop .j) 0 (omega arith))))
 
 same-length : tie.Need-same-length Inv-loop μ-loop
 same-length c = search needs
