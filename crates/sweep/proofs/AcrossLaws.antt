@@ -1,12 +1,12 @@
 -- The sides of a swept cell from the lists of the cells across.
---   side-word, sides-fit      a side over face a at place l is what the definition says, and a word
---   wing-first, wing-low, wing-high, wing-last    the wings by place: above, over faces k + 1 to d, over 0 to k - 1, below
---   wing-word                 they are the wings of the definition
+--   side-is, sides-fit                a side over face a at place l is what the definition says, and a word
+--   wing-word                         with it a wing is what the definition says
+--   wing-low, wing-high, wing-last    the wings by place: over faces k + 1 to d, over faces 0 to k - 1, below
 -- Assumes nothing.
 use mathlib.Core.Path.{_≡_, refl, sym, ap, ap₂, _∙_}
 use mathlib.Core.Bool.{Bool, true, false, cond}
 use mathlib.Core.List.{List}
-use Prim.Native.Nat.{ℕ, zero, suc, _+_, _-_, _*_, _/_, _%_, _≤_, _<_}
+use Prim.Native.Nat.{ℕ, suc, _+_, _-_, _*_, _/_, _%_, _≤_, _<_}
 use native.Mathlib.Omega.{arith}
 use lib.Dec.{eqb}
 use lib.ListN.{getD}
@@ -18,7 +18,7 @@ use Rattle.sweep.specs.Wings.{cellNumber, backTo, wingAside, wingAbove, 
 use Rattle.sweep.specs.Written.{solidWing, Ready}
 use Rattle.sweep.specs.Across.{SidesFit, Across, sideCell, sideWord, wingWord}
 use Rattle.sweep.proofs.Bounds.{number-inside}
-use Rattle.sweep.proofs.SideLaws.{SideAt, side-of-position, side-bounds}
+use Rattle.sweep.proofs.SideLaws.{side-of-position, side-bounds}
 use Rattle.sweep.proofs.WingWords.{pair-cell}
 
 -- the pair at place l over face b, and the row of no neighbour

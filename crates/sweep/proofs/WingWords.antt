@@ -1,7 +1,6 @@
--- Steps of the search for the position back, and the wing over a full side.
+-- Steps of the search for the position back, the cell of a side pair, and signs by the rest of a number.
 --   back-here, back-next, back-end    the search at position b: found there, or go on, or past the last
 --   pair-cell                         the cell of a side pair that is in the table
---   aside-full                        the wing of a side over a full wing
 --   even-plus, odd-minus              (-1)^n by the rest of n
 -- Assumes nothing.
 use mathlib.Core.Path.{_≡_, refl, sym, ap, ap₂, _∙_}
@@ -11,13 +10,12 @@ use native.Mathlib.Numerals.{add-one}
 use native.Mathlib.Omega.{arith}
 use lib.Dec.{eqb}
 use borrow.Author.Tests.{eq-eqb, ne-eqb, le-leb, lt-ltb}
-use Rattle.rules.specs.Limits.{empty, maxSource}
+use Rattle.rules.specs.Limits.{maxSource}
 use Rattle.simplex.specs.Cell.{alternating}
 use Rattle.simplex.proofs.Signs.{not-not}
 use Rattle.sweep.specs.Sides.{sidePair}
 use Rattle.sweep.specs.SideTable.{sidePairOf}
-use Rattle.sweep.specs.Wings.{cellNumber, backFrom, backTo, wingAside}
-use Rattle.sweep.proofs.SideLaws.{side-bounds}
+use Rattle.sweep.specs.Wings.{backFrom, backTo}
 
 module _ (wing : ℕ → ℕ → ℕ) (p q d b : ℕ) where
   left-is : b ≤ d → d + 1 - b ≡ suc (d - b)
@@ -40,21 +38,6 @@ back-start wing p q d = let all : suc d ≡ d + 1 - 0 = omega arith in ap (backF
 pub pair-cell : (d b l : ℕ) → d ≤ maxSource → b ≤ d → l < d → sidePairOf d b l .cell ≡ sidePair d b l .cell
 unfolding sidePairOf
 pair-cell d b l hd hb hl = rw (le-leb d maxSource hd, le-leb b d hb, lt-ltb l d hl) refl
-
-module _ (d s h i p a l : ℕ) (wing : ℕ → ℕ → ℕ) (hd : d ≤ maxSource) (hl : l < d) (hb : backTo wing p (wing p a) d ≤ d) where
-  -- q is across, b the position back and k the cell of the pair there
-  module _ (q b k : ℕ) (q-is : q ≡ wing p a) (b-is : b ≡ backTo wing p q d) (k-is : k ≡ sidePairOf d b l .cell) where
-    back-is : b ≡ backTo wing p (wing p a) d
-    back-is = b-is ∙ ap (λ n. backTo wing p n d) q-is
-
-    cell-is : k ≡ sidePair d (backTo wing p (wing p a) d) l .cell
-    cell-is = k-is ∙ pair-cell d b l hd (omega (arith, back-is)) hl ∙ ap (λ n. sidePair d n l .cell) back-is
-
-    pub cell-small : k ≤ d
-    cell-small = omega (arith, cell-is, side-bounds d (backTo wing p (wing p a) d) l hb hl .cell)
-
-    pub aside-full : (wing p a ≡ empty → ⊥) → cellNumber d s i q k ≡ wingAside d s h wing i p a l
-    aside-full full = rw (ne-eqb (wing p a) empty full) (ap₂ (cellNumber d s i) q-is cell-is)
 
 alternating-rest : (n : ℕ) → alternating n ≡ eqb (n % 2) 0
 alternating-rest zero = refl

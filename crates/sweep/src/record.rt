@@ -1,6 +1,6 @@
 // The record of cell k over cell p at level i, written from place `at` of the lent buffer on.
 ghost use mathlib.Core.Path.{_≡_};
-ghost use Prim.Native.Nat.{_+_, _-_, _*_, _<_, _≤_};
+ghost use Prim.Native.Nat.{_+_, _-_, _<_, _≤_};
 ghost use lib.ListN.{length, take, getD};
 ghost use Rattle.rules.specs.Limits.{maxCells, maxVertices, sweptVertices};
 ghost use Rattle.words.specs.Records.{tabulate};

@@ -1,8 +1,8 @@
 // The wings of swept cells: cell k over cell p at level i, in a sweep of h steps of s cells.
 ghost use mathlib.Core.Path.{_≡_};
-ghost use Prim.Native.Nat.{suc, _+_, _<_, _≤_};
+ghost use Prim.Native.Nat.{suc, _<_, _≤_};
 ghost use lib.ListN.{length};
-ghost use Rattle.rules.specs.Limits.{empty, maxCells};
+ghost use Rattle.rules.specs.Limits.{maxCells};
 ghost use Rattle.complex.specs.Layout.{tableLength};
 ghost use Rattle.sweep.specs.Sweep.{sweptCells};
 ghost use Rattle.sweep.specs.Across.{Holds, faceRow, faceFirst, sideCell};
