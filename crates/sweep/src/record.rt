@@ -111,6 +111,7 @@ fn write_sides(
     }
 }
 
+// One less, or 0.
 fn less_one(k: usize) -> usize
     ensures { λ r. ⌜ r ≡ k - 1 ⌝ }
 {

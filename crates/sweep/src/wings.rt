@@ -1,4 +1,4 @@
-// The wings of swept cells: cell k over cell p at level i, in a sweep of h steps of s cells.
+// The wings of swept cells: cell k over cell p at level i, in a sweep of h steps of s cells; and what is across the faces of p.
 ghost use mathlib.Core.Path.{_≡_};
 ghost use Prim.Native.Nat.{suc, _<_, _≤_};
 ghost use lib.ListN.{length};
@@ -65,7 +65,7 @@ fn back(d: usize, s: usize, table: &[u16], p: usize, q: usize) -> usize
     b
 }
 
-// Where the side pairs over the face across face a stand in the row of side cells; 56 if the wing is empty.
+// Where the side cells of the face across face a start; 56 if the wing is empty.
 fn face_row(d: usize, v: usize, s: usize, h: usize, table: &[u16], p: usize, a: usize) -> usize
     requires ready { ⌜ Ready d v s h (now table) ⌝ }
     requires at { ⌜ (p < s) × (a ≤ d) ⌝ }
@@ -91,7 +91,7 @@ fn face_first(d: usize, v: usize, s: usize, h: usize, table: &[u16], i: usize, p
     wide(cell_number(d, s, h, i, wide(w), 0))
 }
 
-// Both for each face of cell p.
+// That of each face of cell p.
 pub fn face_rows(d: usize, v: usize, s: usize, h: usize, table: &[u16], p: usize, rows: &mut [usize; 8])
     requires ready { ⌜ Ready d v s h (now table) ⌝ }
     requires at { ⌜ p < s ⌝ }
@@ -105,6 +105,7 @@ pub fn face_rows(d: usize, v: usize, s: usize, h: usize, table: &[u16], p: usize
     }
 }
 
+// The first cells over the cells across each face.
 pub fn face_firsts(d: usize, v: usize, s: usize, h: usize, table: &[u16], i: usize, p: usize, firsts: &mut [usize; 8])
     requires ready { ⌜ Ready d v s h (now table) ⌝ }
     requires at { ⌜ (i < h) × (p < s) ⌝ }
@@ -118,7 +119,7 @@ pub fn face_firsts(d: usize, v: usize, s: usize, h: usize, table: &[u16], i: usi
     }
 }
 
-// The cell of side pair n, eight places a face; the last eight are for no neighbour.
+// Side cell n: the cell of the pair at place n % 8 over face n / 8; from 56 on, none.
 fn side_cell(d: usize, n: usize) -> usize
     ensures { λ r. ⌜ r ≡ sideCell d n ⌝ }
 {
@@ -128,6 +129,7 @@ fn side_cell(d: usize, n: usize) -> usize
     side_pair(d, n / 8, n % 8).cell
 }
 
+// All of them.
 pub fn side_cells(d: usize) -> [usize; 64]
     ensures { λ r. ⌜ Holds 64 (sideCell d) r ⌝ }
 {
