@@ -5,13 +5,12 @@ use mathlib.Core.List.{List}
 use Prim.Native.Nat.{ℕ}
 use lib.ListN.{length, replicate, length-replicate, getD-replicate}
 use borrow.Author.Tests.{eq-eqb, ne-eqb}
-use Rattle.words.specs.Records.{tabulate}
 use Rattle.rules.specs.Calls.{firstRefusal}
 use Rattle.rules.specs.Limits.{maxDimension}
 use Rattle.rules.specs.Shapes.{shapeOk}
 use Rattle.simplex.specs.Cell.{Sign, sameRow}
 use Rattle.complex.specs.Accept.{acceptable, solidRules}
-use Rattle.complex.specs.Held.{Blank, Taken, recordList, tableWord}
+use Rattle.complex.specs.Held.{Blank, Taken, heldWords, recordList}
 use Rattle.complex.specs.Layout.{recordSize, tableLength}
 use Rattle.complex.specs.Table.{ownTable, sound}
 use Rattle.complex.proofs.WingCases.{limits-of, taken-table}
@@ -35,7 +34,7 @@ module _ (d v s : ℕ) (ws : List ℕ) where
       unsound-refused n = rw (ok, eq-eqb (length ws) (tableLength d s) len, ne-eqb (firstRefusal solidRules (recordList (recordSize d) d v s ws)) 0 (λ e. n (found ∙ e))) refl
 
       pub sound-same : (rows : List ℕ) (signs : List Sign) (wings : List ℕ) (r : Bool) → k ≡ 0 → Taken (recordList (recordSize d) d v s ws) rows signs wings →
-          r ≡ sameRow ws (tabulate (tableLength d s) (tableWord d rows signs wings)) → r ≡ sound d v s ws
+          r ≡ sameRow ws (heldWords d s rows signs wings) → r ≡ sound d v s ws
       unfolding sound ownTable acceptable
       sound-same rows signs wings r z t e =
           let lim = limits-of d v s ok in

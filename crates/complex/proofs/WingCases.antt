@@ -8,8 +8,8 @@ use native.Mathlib.Omega.{arith}
 use lib.Dec.{leb, ltb}
 use lib.ListN.{length, drop}
 use borrow.Author.Tests.{eq-eqb, ne-eqb, lt-ltb, le-ltb, leb-true}
-use Rattle.words.specs.Records.{tabulate}
-use Rattle.words.proofs.Records.{tabulate-length}
+use Rattle.words.specs.Placed.{placed}
+use Rattle.words.proofs.Placed.{placed-first}
 use Rattle.rules.specs.Calls.{accepted, firstRefusal, onPart, refuse, refused, written}
 use Rattle.rules.specs.Limits.{maxCells, maxDimension, sizesOk, verticesOk, within}
 use Rattle.rules.specs.Shapes.{shapeOk}
@@ -18,7 +18,7 @@ use Rattle.rules.proofs.Tests.{and-parts}
 use Rattle.simplex.specs.Cell.{Sign}
 use Rattle.simplex.specs.Faces.{facets}
 use Rattle.complex.specs.Accept.{Listed, badSign, cellTwice, crowdedFace, equalSigns, listedCells, solidOf, solidRules, vertexBeyond, vertexTwice}
-use Rattle.complex.specs.Held.{Taken, recordList, tableWord}
+use Rattle.complex.specs.Held.{Taken, heldWords, recordList}
 use Rattle.complex.specs.Layout.{listSize, tableLength, tableWords}
 use Rattle.complex.specs.Table.{tableOf, tableOfList}
 use Rattle.complex.specs.Wing.{WingInput, wingBuffer, wingInput, wingOutcome, wingRules}
@@ -105,14 +105,14 @@ module _ (d v s : ℕ) (cells : List ℕ) (room : ℕ) where
 
 -- the table of what was taken
 pub taken-table : (l : Listed) (rows : List ℕ) (signs : List Sign) (wings : List ℕ) → l .d ≤ 7 → l .s ≤ 4096 → Taken l rows signs wings →
-    tableOfList l ≡ tabulate (tableLength (l .d) (l .s)) (tableWord (l .d) rows signs wings)
+    tableOfList l ≡ heldWords (l .d) (l .s) rows signs wings
 unfolding tableOfList
 taken-table l rows signs wings hd hs t = ap (λ cs. tableWords (tableOf cs)) (t .cells) ∙ table-words (l .d) (l .s) rows signs wings hd hs (t .wide) (t .winged)
 
 -- what is written of it is what wing writes
 pub taken-written : (d v s : ℕ) (cells rows : List ℕ) (signs : List Sign) (wings out : List ℕ) → d ≤ 7 → s ≤ 4096 → length cells ≡ s * listSize d →
     Taken (recordList (listSize d) d v s cells) rows signs wings →
-    tabulate (tableLength d s) (tableWord d rows signs wings) ++ drop (tableLength d s) out ≡ written (tableOfList (record { d = d; v = v; s = s; words = cells })) out
+    placed 0 (heldWords d s rows signs wings) out ≡ written (tableOfList (record { d = d; v = v; s = s; words = cells })) out
 taken-written d v s cells rows signs wings out hd hs len t =
-    ap (λ n. tabulate (tableLength d s) (tableWord d rows signs wings) ++ drop n out) (sym (tabulate-length (tableLength d s) (tableWord d rows signs wings)))
+    placed-first (heldWords d s rows signs wings) out
     ∙ ap (λ (xs : List ℕ). xs ++ drop (length xs) out) (sym (taken-table (recordList (listSize d) d v s cells) rows signs wings hd hs t) ∙ ap tableOfList (whole-list d v s cells len))

@@ -8,21 +8,22 @@
 --   falls d rows p                whether the row of cell p does not ascend
 --   faults cs                     the number of the first of rows 9 to 11 that refuses them, 0 if none does
 --   Taken l rows signs wings      what is held is the list's cells in ascending order, and their wings
---   tableWord d rows signs wings j        word j of the table of what is held; wordAt .. p a is word a of its record p
+--   run n at xs                   the n words of a list from a place on
+--   recordHeld d rows signs wings p       record p of the table of what is held; heldWords d s rows signs wings are the words of the table
 --   Winged d cs W                 the words W are the neighbours of the cells
 --   Blank W                       32,768 empty wings
 use mathlib.Core.Bool.{Bool, true, false, cond}
-use mathlib.Core.List.{List, []}
+use mathlib.Core.List.{List, [], _∷_, _++_}
 use mathlib.Core.Path.{_≡_}
-use Prim.Native.Nat.{ℕ, suc, _+_, _*_, _-_, _/_, _%_, _<_}
-use lib.Dec.{eqb, leb, ltb}
+use Prim.Native.Nat.{ℕ, suc, _+_, _*_, _<_}
+use lib.Dec.{leb, ltb}
 use lib.ListN.{length, take, getD}
 use Rattle.words.specs.Records.{tabulate, part, concat}
 use Rattle.rules.specs.Limits.{empty}
 use Rattle.simplex.specs.Cell.{Sign, Cell, cell}
 use Rattle.simplex.specs.Order.{ascending}
 use Rattle.simplex.specs.Faces.{without, facets}
-use Rattle.complex.specs.Layout.{listSize, recordSize, signWord, cellOf}
+use Rattle.complex.specs.Layout.{listSize, signWord, cellOf}
 use Rattle.complex.specs.Scan.{anyBelow}
 use Rattle.complex.specs.Accept.{Listed, solidOf, cellTwice, crowdedFace, equalSigns}
 use Rattle.complex.specs.Wings.{neighbour}
@@ -68,10 +69,11 @@ pub record Taken (l : Listed) (rows : List ℕ) (signs : List Sign) (wings : Lis
   pub cells : solidOf l ≡ heldCells (l .d) (l .s) rows signs
   pub winged : Winged (l .d) (heldCells (l .d) (l .s) rows signs) wings
 
-abbrev pub wordAt : ℕ → List ℕ → List Sign → List ℕ → ℕ → ℕ → ℕ
-wordAt d rows signs wings p a =
-    cond (eqb a 0) (signWord (getD signs p false))
-    (cond (leb a (d + 1)) (getD rows (p * 8 + (a - 1)) 0) (getD wings (p * (d + 1) + (a - (d + 2))) 0))
+abbrev pub run : ℕ → ℕ → List ℕ → List ℕ
+run n at xs = tabulate n (λ j. getD xs (at + j) 0)
 
-abbrev pub tableWord : ℕ → List ℕ → List Sign → List ℕ → ℕ → ℕ
-tableWord d rows signs wings j = wordAt d rows signs wings (j / recordSize d) (j % recordSize d)
+unfoldable pub recordHeld : ℕ → List ℕ → List Sign → List ℕ → ℕ → List ℕ
+recordHeld d rows signs wings p = signWord (getD signs p false) ∷ (run (d + 1) (p * 8) rows ++ run (d + 1) (p * (d + 1)) wings)
+
+unfoldable pub heldWords : ℕ → ℕ → List ℕ → List Sign → List ℕ → List ℕ
+heldWords d s rows signs wings = concat (tabulate s (recordHeld d rows signs wings))

@@ -1,12 +1,11 @@
-// The table of what is held: its words, written or compared.
-ghost use mathlib.Core.List.{_++_};
+// The table of what is held: its records, written or compared. A record is a sign word, d + 1 vertices and d + 1 wings.
 ghost use mathlib.Core.Path.{_≡_};
 ghost use Prim.Native.Nat.{_+_, _*_, _<_, _≤_};
-ghost use lib.ListN.{length, drop};
-ghost use Rattle.words.specs.Records.{tabulate};
+ghost use lib.ListN.{length};
+ghost use Rattle.words.specs.Placed.{placed};
 ghost use Rattle.simplex.specs.Cell.{sameRow};
-ghost use Rattle.complex.specs.Layout.{signWord, tableLength};
-ghost use Rattle.complex.specs.Held.{wordAt, tableWord};
+ghost use Rattle.complex.specs.Layout.{signWord, recordSize, tableLength};
+ghost use Rattle.complex.specs.Held.{run, recordHeld, heldWords};
 
 fn sign_word(s: bool) -> u16
     ensures { λ r. ⌜ r ≡ signWord s ⌝ }
@@ -14,34 +13,35 @@ fn sign_word(s: bool) -> u16
     if s { 0 } else { 1 }
 }
 
-// Word a of record p.
-fn word_at(
+// Writes n of the words, from place `from` on, to place `to` of the table and on.
+fn copy_run(n: usize, from: usize, words: &[u16; 32768], to: usize, table: &mut [u16])
+    requires { ⌜ (from + n ≤ 32768) × (to + n ≤ length (now table)) ⌝ }
+    ensures { λ _. ⌜ now (table .exit) ≡ placed to (run n from (now (words .entry))) (now (table .entry)) ⌝ }
+{
+    let mut j: usize = 0;
+    while j < n {
+        table[to + j] = words[from + j];
+        j += 1;
+    }
+}
+
+// Writes record p to place `at` of the table and on.
+fn write_record(
     d: usize,
     p: usize,
-    a: usize,
+    at: usize,
     rows: &[u16; 32768],
     signs: &[bool; 4096],
     wings: &[u16; 32768],
-) -> u16
-    requires { ⌜ (d ≤ 7) × (p < 4096) × (a < d + d + 3) ⌝ }
-    ensures { λ r. ⌜ r ≡ wordAt d (now (rows .entry)) (now (signs .entry)) (now (wings .entry)) p a ⌝ }
+    table: &mut [u16],
+)
+    requires { ⌜ (d ≤ 7) × (p < 4096) × (at + recordSize d ≤ length (now table)) ⌝ }
+    ensures { λ _. ⌜ now (table .exit) ≡ placed at (recordHeld d (now (rows .entry)) (now (signs .entry)) (now (wings .entry)) p) (now (table .entry)) ⌝ }
 {
-    if a == 0 {
-        return sign_word(signs[p]);
-    }
-    if a <= d + 1 {
-        return rows[p * 8 + (a - 1)];
-    }
-    wings[p * (d + 1) + (a - (d + 2))]
-}
-
-// Word j of the table.
-fn word(d: usize, j: usize, rows: &[u16; 32768], signs: &[bool; 4096], wings: &[u16; 32768]) -> u16
-    requires { ⌜ (d ≤ 7) × (j < 4096 * (d + d + 3)) ⌝ }
-    ensures { λ r. ⌜ r ≡ tableWord d (now (rows .entry)) (now (signs .entry)) (now (wings .entry)) j ⌝ }
-{
-    let size = d + d + 3;
-    word_at(d, j / size, j % size, rows, signs, wings)
+    let k = d + 1;
+    table[at] = sign_word(signs[p]);
+    copy_run(k, p * 8, rows, at + 1, table);
+    copy_run(k, p * k, wings, at + 1 + k, table);
 }
 
 // Writes the table of s cells from the start, and no further.
@@ -54,14 +54,53 @@ pub fn fill(
     table: &mut [u16],
 )
     requires { ⌜ (d ≤ 7) × (s ≤ 4096) × (tableLength d s ≤ length (now table)) ⌝ }
-    ensures { λ _. ⌜ now (table .exit) ≡ tabulate (tableLength d s) (tableWord d (now (rows .entry)) (now (signs .entry)) (now (wings .entry))) ++ drop (tableLength d s) (now (table .entry)) ⌝ }
+    ensures { λ _. ⌜ now (table .exit) ≡ placed 0 (heldWords d s (now (rows .entry)) (now (signs .entry)) (now (wings .entry))) (now (table .entry)) ⌝ }
 {
-    let n = s * (d + d + 3);
+    let mut at: usize = 0;
+    let mut p: usize = 0;
+    while p < s {
+        write_record(d, p, at, rows, signs, wings, table);
+        at += d + d + 3;
+        p += 1;
+    }
+}
+
+// Whether n of the words, from place `from` on, are those of the table from place `to` on.
+fn same_run(n: usize, from: usize, words: &[u16; 32768], to: usize, table: &[u16]) -> bool
+    requires { ⌜ (from + n ≤ 32768) × (to + n ≤ length (now table)) ⌝ }
+    ensures { λ r. ⌜ r ≡ sameRow (run n to (now (table .entry))) (run n from (now (words .entry))) ⌝ }
+{
     let mut j: usize = 0;
     while j < n {
-        table[j] = word(d, j, rows, signs, wings);
+        if table[to + j] != words[from + j] {
+            return false;
+        }
         j += 1;
     }
+    true
+}
+
+// Whether record p is that of the table at place `at`.
+fn same_record(
+    d: usize,
+    p: usize,
+    at: usize,
+    rows: &[u16; 32768],
+    signs: &[bool; 4096],
+    wings: &[u16; 32768],
+    table: &[u16],
+) -> bool
+    requires { ⌜ (d ≤ 7) × (p < 4096) × (at + recordSize d ≤ length (now table)) ⌝ }
+    ensures { λ r. ⌜ r ≡ sameRow (run (recordSize d) at (now (table .entry))) (recordHeld d (now (rows .entry)) (now (signs .entry)) (now (wings .entry)) p) ⌝ }
+{
+    let k = d + 1;
+    if table[at] != sign_word(signs[p]) {
+        return false;
+    }
+    if same_run(k, p * 8, rows, at + 1, table) {
+        return same_run(k, p * k, wings, at + 1 + k, table);
+    }
+    false
 }
 
 // Whether the words are that table.
@@ -74,15 +113,16 @@ pub fn same(
     table: &[u16],
 ) -> bool
     requires { ⌜ (d ≤ 7) × (s ≤ 4096) × (length (now table) ≡ tableLength d s) ⌝ }
-    ensures { λ r. ⌜ r ≡ sameRow (now (table .entry)) (tabulate (tableLength d s) (tableWord d (now (rows .entry)) (now (signs .entry)) (now (wings .entry)))) ⌝ }
+    ensures { λ r. ⌜ r ≡ sameRow (now (table .entry)) (heldWords d s (now (rows .entry)) (now (signs .entry)) (now (wings .entry))) ⌝ }
 {
-    let all = s * (d + d + 3);
-    let mut j: usize = 0;
-    while j < all {
-        if table[j] != word(d, j, rows, signs, wings) {
+    let mut at: usize = 0;
+    let mut p: usize = 0;
+    while p < s {
+        if !same_record(d, p, at, rows, signs, wings, table) {
             return false;
         }
-        j += 1;
+        at += d + d + 3;
+        p += 1;
     }
     true
 }

@@ -1,68 +1,76 @@
--- The loop's invariant: the words passed are written, the rest is as it was. Assumes nothing.
-use mathlib.Core.List.{_++_}
-use mathlib.Core.Path.{_≡_, ap, _∙_}
-use Prim.Native.Nat.{ℕ, _+_, _-_, _≤_}
-use native.Mathlib.Nat.{mul-le-mul-right}
+-- The loop has written the first p records. Assumes nothing.
+use mathlib.Core.List.{List}
+use mathlib.Core.Path.{_≡_, sym, ap, _∙_}
+use Prim.Native.Nat.{ℕ, _+_, _*_, _-_, _≤_}
 use native.Mathlib.Omega.{arith}
-use lib.ListN.{length, drop, length-set}
 use borrow.Author.Needs.{needs}
-use Rattle.complex.specs.Held.{tableWord}
-use Rattle.complex.specs.Layout.{tableLength}
-use Rattle.words.specs.Records.{tabulate}
-use Rattle.complex.proofs.Filling.{written-more}
+use lib.ListN.{length}
+use Rattle.words.specs.Placed.{placed}
+use Rattle.words.specs.Records.{concat, tabulate}
+use Rattle.words.proofs.Placed.{placed-none, placed-record}
+use Rattle.complex.specs.Held.{heldWords, recordHeld}
+use Rattle.complex.specs.Layout.{recordSize}
+use Rattle.complex.proofs.Filling.{record-fits, record-long, record-next, records-length}
 use Rattle.complex.proofs.table.fill.Statement.{statement}
 use Rattle.complex.proofs.table.fill.Tie as tie
 
 abbrev Inv-loop : tie.InvT-loop
-Inv-loop d s rows signs wings table₀ n j₀ table j = (j ≤ n) × (n ≡ tableLength d s) × (length table ≡ length table₀) × (table ≡ tabulate j (tableWord d rows signs wings) ++ drop j table₀)
+Inv-loop d s rows signs wings table₀ at₀ p₀ table at p =
+    (p ≤ s) × (at ≡ p * recordSize d) × (length table ≡ length table₀)
+    × (table ≡ placed 0 (concat (tabulate p (recordHeld d rows signs wings))) table₀)
 
 abbrev μ-loop : tie.MeasureT-loop
-μ-loop d s rows signs wings table₀ n j₀ table j = n - j
-
-add-n : tie.Need-add-n Inv-loop μ-loop
-add-n c = search needs
-
-add-n-2 : tie.Need-add-n-2 Inv-loop μ-loop
-add-n-2 c = search needs
-
-mul-n : tie.Need-mul-n Inv-loop μ-loop
-mul-n c = search needs
+μ-loop d s rows signs wings table₀ at₀ p₀ table at p = s - p
 
 loop-holds : tie.Need-loop-holds Inv-loop μ-loop
-loop-holds c = search needs
+loop-holds c = (omega arith, omega arith, omega arith, sym (placed-none 0 (c .before .args .table .now)))
 
-word-requires : tie.Need-word-requires Inv-loop μ-loop
-word-requires c κs =
-    let a = c .before .before .before .args in
-    (omega arith, omega (arith, mul-le-mul-right {m = a .s} {n = 4096} (a .d + a .d + 3) (omega arith)))
+write-record-requires : tie.Need-write-record-requires Inv-loop μ-loop
+write-record-requires c κs =
+    let l = c .before .before .loop in
+    let a = c .before .before .before .before .args in
+    (omega arith, omega arith, omega (arith, record-fits (recordSize (a .d)) (l .p) (a .s) (c .before .loop-test .taken), l .inv .2))
 
-mul-table : tie.Need-mul-table Inv-loop μ-loop
-mul-table c = search needs
+add-at : tie.Need-add-at Inv-loop μ-loop
+add-at c = search needs
 
-slice-write-table : tie.Need-slice-write-table Inv-loop μ-loop
-slice-write-table c = search needs
+add-at-2 : tie.Need-add-at-2 Inv-loop μ-loop
+add-at-2 c = search needs
 
-add-j : tie.Need-add-j Inv-loop μ-loop
-add-j c = search needs
+add-at-3 : tie.Need-add-at-3 Inv-loop μ-loop
+add-at-3 c =
+    let l = c .before .before .before .before .before .loop in
+    let a = c .before .before .before .before .before .before .before .args in
+    omega (arith, record-fits (recordSize (a .d)) (l .p) (a .s) (c .before .before .before .before .loop-test .taken))
+
+add-p : tie.Need-add-p Inv-loop μ-loop
+add-p c = search needs
 
 loop-less : tie.Need-loop-less Inv-loop μ-loop
 loop-less c = search needs
 
 loop-again : tie.Need-loop-again Inv-loop μ-loop
 loop-again c =
-    let a = c .before .before .before .before .args in
-    let l = c .before .before .loop in
-    (omega arith, l .inv .1, length-set (l .table) (l .j) _ ∙ l .inv .2, written-more (l .j) (tableWord (a .d) (a .rows .now) (a .signs .now) (a .wings .now)) (a .table .now) (l .table) (c .word .result) (omega arith) (l .inv .3) (c .word .ensures))
+    let l = c .before .before .before .before .before .loop in
+    let s = c .before .before .before .before .before .before .before in
+    let a = s .args in
+    let f : ℕ → List ℕ = recordHeld (a .d) (a .rows .now) (a .signs .now) (a .wings .now) in
+    let more =
+    placed-record (a .s) 0 (l .p) (l .at) (l .at + recordSize (a .d)) f (a .table .now) (l .table) _ (omega (arith, c .before .before .before .before .loop-test .taken))
+    (omega (arith, records-length (a .d) (a .rows .now) (a .signs .now) (a .wings .now) (a .s), s .pre .2)) (omega (arith, l .inv .1, records-length (a .d) (a .rows .now) (a .signs .now) (a .wings .now) (l .p))) (l .inv .3)
+    (omega (arith, record-long (a .d) (a .rows .now) (a .signs .now) (a .wings .now) (l .p))) (c .before .before .write-record .ensures) in
+    (omega arith, omega (arith, record-next (recordSize (a .d)) (l .p)), more .long, more .words)
 
 same-length : tie.Need-same-length Inv-loop μ-loop
 same-length c = search needs
 
 returns : tie.Need-returns Inv-loop μ-loop
+unfolding heldWords
 returns c =
-    let a = c .before .before .before .args in
     let l = c .before .loop in
-    let all : l .j ≡ tableLength (a .d) (a .s) = omega arith in
-    l .inv .3 ∙ ap (λ (m : ℕ). tabulate m (tableWord (a .d) (a .rows .now) (a .signs .now) (a .wings .now)) ++ drop m (a .table .now)) all
+    let a = c .before .before .before .args in
+    let all : l .p ≡ a .s = omega arith in
+    l .inv .3 ∙ ap (λ (m : ℕ). placed 0 (concat (tabulate m (recordHeld (a .d) (a .rows .now) (a .signs .now) (a .wings .now)))) (a .table .now)) all
 
 pub fill-spec : {M : Type 1} → statement M
 fill-spec =
@@ -70,14 +78,12 @@ fill-spec =
     (tie.spec
     Inv-loop
     μ-loop
-    add-n
-    add-n-2
-    mul-n
     loop-holds
-    word-requires
-    mul-table
-    slice-write-table
-    add-j
+    write-record-requires
+    add-at
+    add-at-2
+    add-at-3
+    add-p
     loop-less
     loop-again
     same-length

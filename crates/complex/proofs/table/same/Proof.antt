@@ -1,64 +1,73 @@
--- The loop's invariant: the words passed are the table's. Assumes nothing.
-use mathlib.Core.Path.{_≡_, refl, sym, _∙_}
-use Prim.Native.Nat.{ℕ, _+_, _-_, _≤_, _<_}
-use native.Mathlib.Nat.{mul-le-mul-right}
+-- The loop has found the first p records the same. Assumes nothing.
+use mathlib.Core.Path.{_≡_, sym, ap, _∙_}
+use Prim.Native.Nat.{ℕ, _*_, _-_, _≤_, _<_}
 use native.Mathlib.Omega.{arith}
-use lib.ListN.{getD}
 use borrow.Author.Count.{below-none, below-more}
 use borrow.Author.Needs.{needs}
-use Rattle.complex.specs.Held.{tableWord}
-use Rattle.complex.specs.Layout.{tableLength}
-use Rattle.complex.proofs.Filling.{same-tabulated, other-tabulated}
+use borrow.Author.Tests.{not-true, not-false}
+use Rattle.simplex.proofs.Rows.{sameRow-true}
+use Rattle.simplex.specs.Cell.{sameRow}
+use Rattle.complex.specs.Held.{recordHeld, run}
+use Rattle.complex.specs.Layout.{recordSize}
+use Rattle.complex.proofs.Filling.{record-fits, record-next, table-other, table-same}
 use Rattle.complex.proofs.table.same.Statement.{statement}
 use Rattle.complex.proofs.table.same.Tie as tie
 
 abbrev Inv-loop : tie.InvT-loop
-Inv-loop d s rows signs wings table all j₀ j = (j ≤ all) × (all ≡ tableLength d s) × ((k : ℕ) → k < j → getD table k 0 ≡ tableWord d rows signs wings k)
+Inv-loop d s rows signs wings table at₀ p₀ at p = (p ≤ s) × (at ≡ p * recordSize d) × ((q : ℕ) → q < p → run (recordSize d) (q * recordSize d) table ≡ recordHeld d rows signs wings q)
 
 abbrev μ-loop : tie.MeasureT-loop
-μ-loop d s rows signs wings table all j₀ j = all - j
-
-add-all : tie.Need-add-all Inv-loop μ-loop
-add-all c = search needs
-
-add-all-2 : tie.Need-add-all-2 Inv-loop μ-loop
-add-all-2 c = search needs
-
-mul-all : tie.Need-mul-all Inv-loop μ-loop
-mul-all c = search needs
+μ-loop d s rows signs wings table at₀ p₀ at p = s - p
 
 loop-holds : tie.Need-loop-holds Inv-loop μ-loop
-loop-holds c = (search needs, refl, below-none _)
+loop-holds c = (omega arith, omega arith, below-none _)
 
-mul-if1 : tie.Need-mul-if1 Inv-loop μ-loop
-mul-if1 c = search needs
-
-shared-slice-read-if1 : tie.Need-shared-slice-read-if1 Inv-loop μ-loop
-shared-slice-read-if1 c = search needs
-
-word-requires : tie.Need-word-requires Inv-loop μ-loop
-word-requires c κs =
-    let a = c .before .before .before .before .args in
-    (omega arith, omega (arith, mul-le-mul-right {m = a .s} {n = 4096} (a .d + a .d + 3) (omega arith)))
+same-record-requires : tie.Need-same-record-requires Inv-loop μ-loop
+same-record-requires c κs =
+    let l = c .before .loop in
+    let a = c .before .before .before .args in
+    (omega arith, omega arith, omega (arith, record-fits (recordSize (a .d)) (l .p) (a .s) (c .loop-test .taken)))
 
 returns : tie.Need-returns Inv-loop μ-loop
 returns c =
-    let a = c .before .before .before .before .before .before .args in
-    sym (other-tabulated (tableLength (a .d) (a .s)) (tableWord (a .d) (a .rows .now) (a .signs .now) (a .wings .now)) (a .table .now) (c .before .before .before .before .loop .j) (omega arith) (λ e. c .if1 .taken (e ∙ sym (c .before .word .ensures))))
+    let l = c .before .before .before .loop in
+    let a = c .before .before .before .before .before .args in
+    sym (table-other (a .d) (a .rows .now) (a .signs .now) (a .wings .now) (a .s) (a .table .now) (c .before .before .before .before .before .pre .2) (l .p) (c .before .before .loop-test .taken)
+    (ap (λ (i : ℕ). sameRow (run (recordSize (a .d)) i (a .table .now)) (recordHeld (a .d) (a .rows .now) (a .signs .now) (a .wings .now) (l .p))) (sym (l .inv .1)) ∙ sym (c .before .same-record .ensures) ∙ not-true _ (c .if1 .taken)))
 
-add-j : tie.Need-add-j Inv-loop μ-loop
-add-j c = search needs
+add-at : tie.Need-add-at Inv-loop μ-loop
+add-at c = search needs
+
+add-at-2 : tie.Need-add-at-2 Inv-loop μ-loop
+add-at-2 c = search needs
+
+add-at-3 : tie.Need-add-at-3 Inv-loop μ-loop
+add-at-3 c =
+    let l = c .before .before .before .loop in
+    let a = c .before .before .before .before .before .args in
+    omega (arith, record-fits (recordSize (a .d)) (l .p) (a .s) (c .before .before .loop-test .taken), c .before .before .before .before .before .pre .2)
+
+add-p : tie.Need-add-p Inv-loop μ-loop
+add-p c = search needs
 
 loop-less : tie.Need-loop-less Inv-loop μ-loop
 loop-less c = search needs
 
 loop-again : tie.Need-loop-again Inv-loop μ-loop
-loop-again c = (omega arith, c .before .before .before .before .loop .inv .1, below-more _ _ (c .before .before .before .before .loop .inv .2) (c .if1 .left ∙ c .before .word .ensures))
+loop-again c =
+    let l = c .before .before .before .loop in
+    let a = c .before .before .before .before .before .args in (
+      omega arith,
+      omega (arith, record-next (recordSize (a .d)) (l .p)),
+      below-more _ (l .p) (l .inv .2)
+          (ap (λ (i : ℕ). run (recordSize (a .d)) i (a .table .now)) (sym (l .inv .1))
+          ∙ sameRow-true (run (recordSize (a .d)) (l .at) (a .table .now)) (recordHeld (a .d) (a .rows .now) (a .signs .now) (a .wings .now) (l .p)) (sym (c .before .same-record .ensures) ∙ not-false _ (c .if1 .left))),
+    )
 
 returns-2 : tie.Need-returns-2 Inv-loop μ-loop
 returns-2 c =
     let a = c .before .before .before .args in
-    sym (same-tabulated (tableLength (a .d) (a .s)) (tableWord (a .d) (a .rows .now) (a .signs .now) (a .wings .now)) (a .table .now) (c .before .before .before .pre .2) (λ k l. c .before .loop .inv .2 k (omega arith)))
+    sym (table-same (a .d) (a .rows .now) (a .signs .now) (a .wings .now) (a .s) (a .table .now) (c .before .before .before .pre .2) (λ q h. c .before .loop .inv .2 q (omega arith)))
 
 pub same-spec : {M : Type 1} → statement M
 same-spec =
@@ -66,15 +75,13 @@ same-spec =
     (tie.spec
     Inv-loop
     μ-loop
-    add-all
-    add-all-2
-    mul-all
     loop-holds
-    mul-if1
-    shared-slice-read-if1
-    word-requires
+    same-record-requires
     returns
-    add-j
+    add-at
+    add-at-2
+    add-at-3
+    add-p
     loop-less
     loop-again
     returns-2)

@@ -1,0 +1,89 @@
+-- The loop has written the first j words. Assumes nothing.
+use mathlib.Core.List.{List}
+use mathlib.Core.Path.{_≡_, sym, ap, _∙_}
+use Prim.Native.Nat.{ℕ, _+_, _-_, _≤_}
+use native.Mathlib.Omega.{arith}
+use borrow.Author.Needs.{needs}
+use lib.ListN.{length, getD, take, length-set}
+use lib.Seq.{take-length}
+use Rattle.words.specs.Placed.{placed}
+use Rattle.words.proofs.Placed.{placed-none, placed-word}
+use Rattle.words.proofs.Records.{tabulate-at, tabulate-length}
+use Rattle.complex.specs.Held.{run}
+use Rattle.complex.proofs.table.copy_run.Statement.{statement}
+use Rattle.complex.proofs.table.copy_run.Tie as tie
+
+abbrev Inv-loop : tie.InvT-loop
+Inv-loop n from words to table₀ j₀ table j = (j ≤ n) × (length table ≡ length table₀) × (table ≡ placed to (take j (run n from words)) table₀)
+
+abbrev μ-loop : tie.MeasureT-loop
+μ-loop n from words to table₀ j₀ table j = n - j
+
+loop-holds : tie.Need-loop-holds Inv-loop μ-loop
+loop-holds c = (omega arith, omega arith, sym (placed-none (c .args .to) (c .args .table .now)))
+
+add-table : tie.Need-add-table Inv-loop μ-loop
+add-table c = search needs
+
+mul-table : tie.Need-mul-table Inv-loop μ-loop
+mul-table c = search needs
+
+element-copy-out-table : tie.Need-element-copy-out-table Inv-loop μ-loop
+element-copy-out-table c = search needs
+
+add-table-2 : tie.Need-add-table-2 Inv-loop μ-loop
+add-table-2 c = search needs
+
+mul-table-2 : tie.Need-mul-table-2 Inv-loop μ-loop
+mul-table-2 c = search needs
+
+slice-write-table : tie.Need-slice-write-table Inv-loop μ-loop
+slice-write-table c = omega (arith, c .before .before .loop .inv .1)
+
+add-j : tie.Need-add-j Inv-loop μ-loop
+add-j c = search needs
+
+loop-less : tie.Need-loop-less Inv-loop μ-loop
+loop-less c = search needs
+
+loop-again : tie.Need-loop-again Inv-loop μ-loop
+loop-again c =
+    let l = c .before .before .loop in
+    let s = c .before .before .before in
+    let a = s .args in
+    let f : ℕ → ℕ = λ j. getD (a .words .now) (a .from + j) 0 in (
+      omega arith,
+      length-set (l .table) _ _ ∙ l .inv .1,
+      placed-word (a .to) (l .j) _ (run (a .n) (a .from) (a .words .now)) (a .table .now) (l .table)
+          (omega (arith, tabulate-length (a .n) f)) (omega (arith, tabulate-length (a .n) f)) (l .inv .2) (sym (tabulate-at (a .n) f (l .j) 0 (omega arith))),
+    )
+
+same-length : tie.Need-same-length Inv-loop μ-loop
+same-length c = search needs
+
+returns : tie.Need-returns Inv-loop μ-loop
+returns c =
+    let l = c .before .loop in
+    let a = c .before .before .args in
+    let X : List ℕ = run (a .n) (a .from) (a .words .now) in
+    let all : l .j ≡ length X = omega (arith, tabulate-length (a .n) (λ (j : ℕ). getD (a .words .now) (a .from + j) 0)) in
+    l .inv .2 ∙ ap (λ (t : List ℕ). placed (a .to) t (a .table .now)) (ap (λ (n : ℕ). take n X) all ∙ take-length X)
+
+pub copy-run-spec : {M : Type 1} → statement M
+copy-run-spec =
+    tie.close
+    (tie.spec
+    Inv-loop
+    μ-loop
+    loop-holds
+    add-table
+    mul-table
+    element-copy-out-table
+    add-table-2
+    mul-table-2
+    slice-write-table
+    add-j
+    loop-less
+    loop-again
+    same-length
+    returns)
