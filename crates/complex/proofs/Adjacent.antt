@@ -5,7 +5,7 @@ use mathlib.Core.List.{List, []}
 use Prim.Native.Nat.{ℕ, zero, suc, _*_, _/_, _%_, _≤_, _<_, _+_}
 use native.Mathlib.Omega.{arith}
 use native.Mathlib.Numerals.{add-one}
-use native.Mathlib.Nat.{mul-le-mul}
+use native.Mathlib.Nat.{add-zero, mul-le-mul}
 use lib.ListN.{length, getD, take}
 use lib.Dec.{leb}
 use lib.Seq.{length-take-le}
@@ -20,7 +20,7 @@ use Rattle.simplex.proofs.Rows.{Long}
 use Rattle.complex.specs.Accept.{cellTwice, crowdedFace, equalSigns}
 use Rattle.complex.specs.Held.{Blank, Winged, cellHeld, falls, heldCells}
 use Rattle.complex.specs.Matching.{earlier}
-use Rattle.complex.specs.Pairing.{faceCount, keySign, paired}
+use Rattle.complex.specs.Pairing.{faceCount, keySign, paired, twinAt}
 use Rattle.complex.specs.Scan.{anyBelow, seenAt, seenLike, seenTwice}
 use Rattle.complex.proofs.Below.{below-ext, below-not}
 use Rattle.complex.proofs.Codec.{part-length}
@@ -30,6 +30,7 @@ use Rattle.complex.proofs.Repeats.{Prev, crowded-seen, equal-seen, twic
 use Rattle.complex.proofs.SortedTests.{falls-not, fallsIn}
 use Rattle.complex.proofs.Tables.{cellAt}
 use Rattle.complex.proofs.Tests.{few-of}
+use Rattle.complex.proofs.Twins.{Heads, twins-seen}
 use Rattle.complex.proofs.Winged.{facets-few, paired-winged}
 
 all-tabulated : (R : Row → Type 0) (n : ℕ) (f : ℕ → Cell) → ((p : ℕ) → p < n → R (f p .row)) → All R (tabulate n f)
@@ -114,6 +115,21 @@ module _ (d s : ℕ) (rows : List ℕ) (signs : List Sign) (hd : d ≤ 7) (hs : 
           equal-seen (facets cs) P few seen meet (keySign (suc d) signs) signs-of
           ∙ ap (λ n. anyBelow n (seenLike n P (keySign (suc d) signs))) count
           ∙ ap (λ k. anyBelow (faceCount d s) (seenLike (faceCount d s) P (keySign k signs))) (sym e)
+
+      -- row 9, where there are faces
+      pub faces-twins : (d ≡ 0 → ⊥) → cellTwice (heldCells d s rows signs) ≡ anyBelow (faceCount d s) (twinAt k (faceCount d s) rows P)
+      faces-twins some =
+          twins d some held-long
+          ∙ ap (λ k. anyBelow (faceCount d s) (twinAt k (faceCount d s) rows P)) (sym e)
+        where
+          heads : Heads rows (heldCells d s rows signs)
+          heads p l =
+              ap (λ i. getD rows i 0) (sym (add-zero (p * 8))) ∙ held-vertex p 0 (omega arith)
+              ∙ ap (λ (c : Cell). getD (c .row) 0 0) (sym (held-at p (subst (λ n. p < n) held-length l)))
+          twins : (c : ℕ) → (c ≡ 0 → ⊥) → All (Long (suc c)) (heldCells d s rows signs) →
+              cellTwice (heldCells d s rows signs) ≡ anyBelow (faceCount d s) (twinAt (suc c) (faceCount d s) rows P)
+          twins zero ne long = absurd (ne refl)
+          twins (suc c) ne long = twins-seen c rows cs P long heads few seen meet ∙ ap (λ n. anyBelow n (twinAt (suc (suc c)) n rows P)) count
 
       pub faces-paired : (W : List ℕ) → anyBelow s (falls d rows) ≡ false → Blank W → Winged d (heldCells d s rows signs) (paired k (faceCount d s) P (faceCount d s) W)
       faces-paired W up blank =

@@ -2,7 +2,7 @@
 --   Solid Neighbours Symmetric Tables Codec Tests     solids, their wings, and their words
 --   Accepted OwnTable                                 what is accepted, and the table of a solid
 --   Weights Kept Quotients Earlier Links LastBelow    the kernel: keys that are equal
---   Below Spots Repeats                               rows that stand twice or three times
+--   Below Spots Repeats Twins                         rows that stand twice or three times
 --   FaceKeys Mates Winged                             faces as keys, and the wings that pairing them leaves
 --   Seeing Adjacent Faults                            rows 9 to 11 and wings, as the code finds them
 --   Reading Stored SortedTests Refusing               cells read and sorted; rows 6 to 8
@@ -26,6 +26,7 @@ pub mod Below
 pub mod Spots
 pub mod Repeats
 pub mod FaceKeys
+pub mod Twins
 pub mod Mates
 pub mod Winged
 pub mod Seeing

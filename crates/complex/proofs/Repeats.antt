@@ -36,7 +36,7 @@ Prev L P = (g : ℕ) → g < length L → getD P g 0 ≡ prevIn L g
 pub same-rows : (v w : Row) → v ≡ w → sameRow v w ≡ true
 same-rows v w e = subst (λ x. sameRow v x ≡ true) e (sameRow-refl v)
 
-and-both : (a b : Bool) → a ≡ true → b ≡ true → (a && b) ≡ true
+pub and-both : (a b : Bool) → a ≡ true → b ≡ true → (a && b) ≡ true
 and-both a b e k = rw (e, k) refl
 
 pub times-self : (s : Sign) → times s s ≡ true

@@ -87,14 +87,14 @@ fn same_key(k: usize, rows: &[u16; 32768], p: usize, a: usize, q: usize, b: usiz
 }
 
 // The cell of a key and its number among the keys of that cell.
-struct Place {
-    cell: usize,
-    at: usize,
+pub struct Place {
+    pub cell: usize,
+    pub at: usize,
 }
 
 // The place of key f, of w keys a cell. The quotient f / w is taken by a product with part, a part of
 // 1048576 cut into w and one more.
-fn place_of(f: usize, w: usize, part: usize) -> Place
+pub fn place_of(f: usize, w: usize, part: usize) -> Place
     requires { ⌜ (f < 32768) × (0 < w) × (w ≤ 8) × (part ≡ 1048576 / w + 1) ⌝ }
     ensures { λ r. ⌜ (r .cell ≡ f / w) × (r .at ≡ f % w) ⌝ }
 {
