@@ -140,8 +140,3 @@ module _ (d s : ℕ) (rows : List ℕ) (signs : List Sign) (hd : d ≤ 7) (hs : 
 pub face-count : (d s : ℕ) → (d ≡ 0 → ⊥) → faceCount d s ≡ s * (d + 1)
 face-count zero s h = absurd (h refl)
 face-count (suc d) s h = ap (λ n. s * n) (sym (add-one (suc d)))
-
--- there are no more faces than d + 1 a cell
-pub face-most : (d s : ℕ) → faceCount d s ≤ s * (d + 1)
-face-most zero s = omega arith
-face-most (suc d) s = omega (arith, face-count (suc d) s (λ e. omega arith))

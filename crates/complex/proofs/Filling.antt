@@ -10,7 +10,7 @@ use native.Mathlib.Omega.{arith}
 use native.Mathlib.Nat.{add-comm, add-mul, add-zero, mul-le-mul-right, one-mul, suc-mul, zero-mul}
 use lib.Dec.{eqb}
 use lib.ListN.{length, set, drop, take, getD, length-append, length-drop, take-append-drop}
-use lib.Seq.{drop-drop, ext-getD, getD-drop, getD-take, take-take}
+use lib.Seq.{drop-drop, ext-getD, getD-drop, getD-take, take-all, take-take}
 use Rattle.words.specs.Placed.{placed}
 use Rattle.words.specs.Records.{concat, part, tabulate}
 use Rattle.words.proofs.Placed.{concat-tabulate-length, placed-length, placed-none, placed-then, placed-word}
@@ -37,6 +37,21 @@ parts-of n (suc s) ws e =
     (λ p h. ap (λ (t : List ℕ). take n (take n t)) (ap (λ m. drop m ws) (suc-mul p n ∙ add-comm (p * n) n) ∙ sym (drop-drop (p * n) n ws))))
     ∙ parts-of n s (drop n ws) (omega (arith, length-drop n ws, suc-mul s n)))
     ∙ take-append-drop n ws
+
+-- the first j words of a run written
+module _ (n from to j : ℕ) (words buf old new : List ℕ) (room : to + n ≤ length buf) (e : old ≡ placed to (take j (run n from words)) buf) where
+  many : length (run n from words) ≡ n
+  many = tabulate-length n (λ i. getD words (from + i) 0)
+
+  -- one more, and none where all n are
+  pub run-more : j < n → new ≡ set old (to + j) (getD words (from + j) 0) → new ≡ placed to (take (j + 1) (run n from words)) buf
+  run-more l k =
+      k ∙ placed-word to j (getD words (from + j) 0) (run n from words) buf old (omega (arith, many)) (omega (arith, many)) e
+      (sym (tabulate-at n (λ i. getD words (from + i) 0) j 0 l))
+
+  pub run-no-more : n ≤ j → new ≡ old → new ≡ placed to (take (j + 1) (run n from words)) buf
+  run-no-more l k =
+      k ∙ e ∙ ap (λ (t : List ℕ). placed to t buf) (take-all j (run n from words) (omega (arith, many)) ∙ sym (take-all (j + 1) (run n from words) (omega (arith, many))))
 
 -- two runs compared
 module _ (n from to : ℕ) (xs ys : List ℕ) where

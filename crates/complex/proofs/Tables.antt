@@ -20,6 +20,7 @@ use Rattle.simplex.proofs.Rows.{Long}
 use Rattle.complex.specs.Layout.{Entry}
 use Rattle.complex.specs.Table.{entriesFrom, entryAt, tableOf, wingAt}
 use Rattle.complex.specs.Wings.{neighbour, neighbourFrom, wingsOf}
+use Rattle.complex.proofs.Kept.{without-length}
 use Rattle.complex.proofs.Neighbours.{Wing, has-is, neighbour-is}
 use Rattle.complex.proofs.Solid.{all-at, rowAt}
 
@@ -55,11 +56,6 @@ map-faces g s (x ∷ w) = ap {B = List ℕ} (λ r. g w ∷ r) (shift (faces (not
 -- the wings of a cell, by position
 pub wings-tabulated : (cs : List Cell) (p : ℕ) (c : Cell) → wingsOf cs p c ≡ tabulate (length (c .row)) (λ j. neighbour p (without j (c .row)) cs)
 wings-tabulated cs p c = map-faces (λ w. neighbour p w cs) (c .sign) (c .row)
-
-without-length : (a : ℕ) (w : Row) → a < length w → suc (length (without a w)) ≡ length w
-without-length a [] h = absurd (not-suc-le-zero h)
-without-length zero (x ∷ w) h = refl
-without-length (suc a) (x ∷ w) h = ap suc (without-length a w (le-of-suc-le-suc h))
 
 pub without-none : (a : ℕ) (w : Row) → length w ≤ a → without a w ≡ w
 without-none a [] h = refl

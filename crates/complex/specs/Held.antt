@@ -5,7 +5,7 @@
 --   Gathered ..                   rows and signs with cell p read, put in ascending order, and stored; the cells before it as they were
 --   badAt size ws p               whether the sign word of record p is neither 0 nor 1
 --   beyondAt d v rows p           whether the last vertex of the row of cell p is v or above
---   falls d rows p                whether the row of cell p does not ascend
+--   falls d rows p                whether the row of cell p does not ascend; fallsAt rows p j at vertices j and j + 1
 --   faults cs                     the number of the first of rows 9 to 11 that refuses them, 0 if none does
 --   Taken l rows signs wings      what is held is the list's cells in ascending order, and their wings
 --   run n at xs                   the n words of a list from a place on
@@ -52,8 +52,11 @@ badAt size ws p = ltb 1 (getD ws (p * size) 0)
 abbrev pub beyondAt : ℕ → ℕ → List ℕ → ℕ → Bool
 beyondAt d v rows p = leb v (getD rows (p * 8 + d) 0)
 
+abbrev pub fallsAt : List ℕ → ℕ → ℕ → Bool
+fallsAt rows p j = leb (getD rows (p * 8 + j + 1) 0) (getD rows (p * 8 + j) 0)
+
 abbrev pub falls : ℕ → List ℕ → ℕ → Bool
-falls d rows p = anyBelow d (λ j. leb (getD rows (p * 8 + j + 1) 0) (getD rows (p * 8 + j) 0))
+falls d rows p = anyBelow d (fallsAt rows p)
 
 unfoldable pub faults : List Cell → ℕ
 faults cs = cond (cellTwice cs) 9 (cond (crowdedFace (facets cs)) 10 (cond (equalSigns (facets cs)) 11 0))

@@ -9,17 +9,19 @@ ghost use lib.ListN.{length, take, drop};
 ghost use lib.Seq.{paste};
 ghost use Rattle.simplex.specs.Order.{ascending};
 ghost use Rattle.complex.specs.Scan.{anyBelow};
-ghost use Rattle.complex.specs.Held.{Gathered, cellHeld, cellRead, badAt, beyondAt, falls};
+ghost use Rattle.complex.specs.Held.{Gathered, cellHeld, cellRead, badAt, beyondAt, fallsAt, falls};
 
-// The first n words from at.
+// The first n words from at. There are always eight turns, which the compiler writes out.
 fn read_row(n: usize, at: usize, words: &[u16]) -> [u16; 8]
     requires { ⌜ (n ≤ 8) × (at + n ≤ length (now words)) ⌝ }
     ensures { λ r. ⌜ (length r ≡ 8) × (take n r ≡ take n (drop at (now (words .entry)))) ⌝ }
 {
     let mut row = [0u16; 8];
     let mut j: usize = 0;
-    while j < n {
-        row[j] = words[at + j];
+    while j < 8 {
+        if j < n {
+            row[j] = words[at + j];
+        }
         j += 1;
     }
     row
@@ -108,17 +110,17 @@ pub fn beyond(d: usize, v: usize, s: usize, rows: &[u16; 32768]) -> bool
     false
 }
 
-// Whether the row of cell p does not ascend.
-fn row_falls(d: usize, p: usize, rows: &[u16; 32768]) -> bool
-    requires { ⌜ (d ≤ 7) × (p < 4096) ⌝ }
-    ensures { λ r. ⌜ r ≡ falls d (now (rows .entry)) p ⌝ }
+// Whether vertex j + 1 of a row is not above vertex j.
+fn column_falls(j: usize, s: usize, rows: &[u16; 32768]) -> bool
+    requires { ⌜ (j < 7) × (s ≤ 4096) ⌝ }
+    ensures { λ r. ⌜ r ≡ anyBelow s (λ p. fallsAt (now (rows .entry)) p j) ⌝ }
 {
-    let mut j: usize = 0;
-    while j < d {
+    let mut p: usize = 0;
+    while p < s {
         if rows[p * 8 + j + 1] <= rows[p * 8 + j] {
             return true;
         }
-        j += 1;
+        p += 1;
     }
     false
 }
@@ -128,12 +130,12 @@ pub fn any_falls(d: usize, s: usize, rows: &[u16; 32768]) -> bool
     requires { ⌜ (d ≤ 7) × (s ≤ 4096) ⌝ }
     ensures { λ r. ⌜ r ≡ anyBelow s (falls d (now (rows .entry))) ⌝ }
 {
-    let mut p: usize = 0;
-    while p < s {
-        if row_falls(d, p, rows) {
+    let mut j: usize = 0;
+    while j < d {
+        if column_falls(j, s, rows) {
             return true;
         }
-        p += 1;
+        j += 1;
     }
     false
 }

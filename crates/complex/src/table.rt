@@ -13,14 +13,17 @@ fn sign_word(s: bool) -> u16
     if s { 0 } else { 1 }
 }
 
-// Writes n of the words, from place `from` on, to place `to` of the table and on.
+// Writes n of the words, from place `from` on, to place `to` of the table and on. There are always eight turns, which
+// the compiler writes out.
 fn copy_run(n: usize, from: usize, words: &[u16; 32768], to: usize, table: &mut [u16])
-    requires { ⌜ (from + n ≤ 32768) × (to + n ≤ length (now table)) ⌝ }
+    requires { ⌜ (n ≤ 8) × (from + n ≤ 32768) × (to + n ≤ length (now table)) ⌝ }
     ensures { λ _. ⌜ now (table .exit) ≡ placed to (run n from (now (words .entry))) (now (table .entry)) ⌝ }
 {
     let mut j: usize = 0;
-    while j < n {
-        table[to + j] = words[from + j];
+    while j < 8 {
+        if j < n {
+            table[to + j] = words[from + j];
+        }
         j += 1;
     }
 }

@@ -1,21 +1,22 @@
--- The loop's invariant: the words passed are in the row. Assumes nothing.
-use mathlib.Core.Path.{_≡_, refl, sym, ap, _∙_}
-use Prim.Native.Nat.{ℕ, _-_, _≤_}
+-- The loop has read the first j words, of those that are to be read. Assumes nothing.
+use mathlib.Core.Logic.{⊎-elim}
+use mathlib.Core.Path.{refl}
+use Prim.Native.Nat.{_-_, _≤_}
+use native.Mathlib.Nat.{not-suc-le-zero}
 use native.Mathlib.Omega.{arith}
-use lib.ListN.{length, take, drop, length-set}
 use borrow.Author.Needs.{needs}
-use Rattle.complex.proofs.Reading.{read-more}
+use Rattle.complex.proofs.Reading.{Read, read-all, read-more, read-no-more}
 use Rattle.complex.proofs.gather.read_row.Statement.{statement}
 use Rattle.complex.proofs.gather.read_row.Tie as tie
 
 abbrev Inv-loop : tie.InvT-loop
-Inv-loop n at words row₀ j₀ row j = (j ≤ n) × (length row ≡ 8) × (take j row ≡ take j (drop at words))
+Inv-loop n at words row₀ j₀ row j = (j ≤ 8) × Read n at words j row
 
 abbrev μ-loop : tie.MeasureT-loop
-μ-loop n at words row₀ j₀ row j = n - j
+μ-loop n at words row₀ j₀ row j = 8 - j
 
 loop-holds : tie.Need-loop-holds Inv-loop μ-loop
-loop-holds c = (search needs, refl, refl)
+loop-holds c = (omega arith, (refl, λ i l m. absurd (not-suc-le-zero l)))
 
 add-row : tie.Need-add-row Inv-loop μ-loop
 add-row c = search needs
@@ -42,13 +43,15 @@ loop-again : tie.Need-loop-again Inv-loop μ-loop
 loop-again c =
     let l = c .before .before .loop in
     let a = c .before .before .before .args in
-    (omega arith, length-set (l .row) (l .j) _ ∙ l .inv .1, read-more (a .words .now) (l .row) (a .at) (l .j) (omega arith) (omega arith) (l .inv .2))
+    (omega arith, ⊎-elim (λ w. read-more (a .n) (a .at) (a .words .now) (l .j) (l .row) (c .if1 .row) (l .inv .1) (c .before .loop-test .taken) (w .2))
+    (λ w. read-no-more (a .n) (a .at) (a .words .now) (l .j) (l .row) (c .if1 .row) (l .inv .1) (w .0 .left) (w .1)) (c .if1 .came))
 
 returns : tie.Need-returns Inv-loop μ-loop
 returns c =
-    let a = c .before .before .args in
-    let all : c .before .loop .j ≡ a .n = omega arith in
-    (c .before .loop .inv .1, ap (λ (m : ℕ). take m (c .before .loop .row)) (sym all) ∙ c .before .loop .inv .2 ∙ ap (λ (m : ℕ). take m (drop (a .at) (a .words .now))) all)
+    let l = c .before .loop in
+    let s = c .before .before in
+    let a = s .args in
+    (l .inv .1 .0, read-all (a .n) (a .at) (a .words .now) (l .j) (l .row) (l .inv .1) (omega arith) (s .pre .0) (s .pre .1))
 
 pub read-row-spec : {M : Type 1} → statement M
 read-row-spec =

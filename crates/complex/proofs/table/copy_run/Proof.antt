@@ -1,23 +1,25 @@
--- The loop has written the first j words. Assumes nothing.
+-- The loop has written the first j words, of those that are to be written. Assumes nothing.
 use mathlib.Core.List.{List}
+use mathlib.Core.Logic.{⊎-elim}
 use mathlib.Core.Path.{_≡_, sym, ap, _∙_}
 use Prim.Native.Nat.{ℕ, _+_, _-_, _≤_}
 use native.Mathlib.Omega.{arith}
 use borrow.Author.Needs.{needs}
 use lib.ListN.{length, getD, take, length-set}
-use lib.Seq.{take-length}
+use lib.Seq.{take-all}
 use Rattle.words.specs.Placed.{placed}
-use Rattle.words.proofs.Placed.{placed-none, placed-word}
-use Rattle.words.proofs.Records.{tabulate-at, tabulate-length}
+use Rattle.words.proofs.Placed.{placed-none}
+use Rattle.words.proofs.Records.{tabulate-length}
 use Rattle.complex.specs.Held.{run}
+use Rattle.complex.proofs.Filling.{run-more, run-no-more}
 use Rattle.complex.proofs.table.copy_run.Statement.{statement}
 use Rattle.complex.proofs.table.copy_run.Tie as tie
 
 abbrev Inv-loop : tie.InvT-loop
-Inv-loop n from words to table₀ j₀ table j = (j ≤ n) × (length table ≡ length table₀) × (table ≡ placed to (take j (run n from words)) table₀)
+Inv-loop n from words to table₀ j₀ table j = (j ≤ 8) × (length table ≡ length table₀) × (table ≡ placed to (take j (run n from words)) table₀)
 
 abbrev μ-loop : tie.MeasureT-loop
-μ-loop n from words to table₀ j₀ table j = n - j
+μ-loop n from words to table₀ j₀ table j = 8 - j
 
 loop-holds : tie.Need-loop-holds Inv-loop μ-loop
 loop-holds c = (omega arith, omega arith, sym (placed-none (c .args .to) (c .args .table .now)))
@@ -38,7 +40,7 @@ mul-table-2 : tie.Need-mul-table-2 Inv-loop μ-loop
 mul-table-2 c = search needs
 
 slice-write-table : tie.Need-slice-write-table Inv-loop μ-loop
-slice-write-table c = omega (arith, c .before .before .loop .inv .1)
+slice-write-table c = omega (arith, c .before .before .before .loop .inv .1)
 
 add-j : tie.Need-add-j Inv-loop μ-loop
 add-j c = search needs
@@ -51,12 +53,10 @@ loop-again c =
     let l = c .before .before .loop in
     let s = c .before .before .before in
     let a = s .args in
-    let f : ℕ → ℕ = λ j. getD (a .words .now) (a .from + j) 0 in (
-      omega arith,
-      length-set (l .table) _ _ ∙ l .inv .1,
-      placed-word (a .to) (l .j) _ (run (a .n) (a .from) (a .words .now)) (a .table .now) (l .table)
-          (omega (arith, tabulate-length (a .n) f)) (omega (arith, tabulate-length (a .n) f)) (l .inv .2) (sym (tabulate-at (a .n) f (l .j) 0 (omega arith))),
-    )
+    (omega arith
+    , ⊎-elim (λ w. ap length (w .2) ∙ length-set (l .table) _ _ ∙ l .inv .1) (λ w. ap length (w .1) ∙ l .inv .1) (c .if1 .came)
+    , ⊎-elim (λ w. run-more (a .n) (a .from) (a .to) (l .j) (a .words .now) (a .table .now) (l .table) (c .if1 .table) (s .pre .2) (l .inv .2) (w .0 .taken) (w .2))
+      (λ w. run-no-more (a .n) (a .from) (a .to) (l .j) (a .words .now) (a .table .now) (l .table) (c .if1 .table) (s .pre .2) (l .inv .2) (w .0 .left) (w .1)) (c .if1 .came))
 
 same-length : tie.Need-same-length Inv-loop μ-loop
 same-length c = search needs
@@ -64,10 +64,10 @@ same-length c = search needs
 returns : tie.Need-returns Inv-loop μ-loop
 returns c =
     let l = c .before .loop in
-    let a = c .before .before .args in
-    let X : List ℕ = run (a .n) (a .from) (a .words .now) in
-    let all : l .j ≡ length X = omega (arith, tabulate-length (a .n) (λ (j : ℕ). getD (a .words .now) (a .from + j) 0)) in
-    l .inv .2 ∙ ap (λ (t : List ℕ). placed (a .to) t (a .table .now)) (ap (λ (n : ℕ). take n X) all ∙ take-length X)
+    let s = c .before .before in
+    let a = s .args in
+    l .inv .2 ∙ ap (λ (t : List ℕ). placed (a .to) t (a .table .now))
+    (take-all (l .j) (run (a .n) (a .from) (a .words .now)) (omega (arith, tabulate-length (a .n) (λ (j : ℕ). getD (a .words .now) (a .from + j) 0), s .pre .0)))
 
 pub copy-run-spec : {M : Type 1} → statement M
 copy-run-spec =

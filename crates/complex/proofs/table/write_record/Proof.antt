@@ -34,7 +34,7 @@ add-copy-run : tie.Need-add-copy-run
 add-copy-run c = search needs
 
 copy-run-requires : tie.Need-copy-run-requires
-copy-run-requires c κs = (omega arith, omega (arith, length-set (c .before .before .before .before .args .table .now) (c .before .before .before .before .args .at) (c .before .sign-word .result)))
+copy-run-requires c κs = (omega arith, omega arith, omega (arith, length-set (c .before .before .before .before .args .table .now) (c .before .before .before .before .args .at) (c .before .sign-word .result)))
 
 mul-copy-run-2 : tie.Need-mul-copy-run-2
 mul-copy-run-2 c =
@@ -51,7 +51,7 @@ copy-run-requires-2 : tie.Need-copy-run-requires-2
 copy-run-requires-2 c κs =
     let s = c .before .before .before .before .before .before .before .before in
     let a = s .args in
-    (omega (arith, mul-le-mul-right {m = a .p} {n = 4095} (a .d + 1) (omega arith)), omega (arith, part-room (a .d) (a .rows .now) (a .signs .now) (a .wings .now) (a .p) (a .at) (c .before .before .before .before .before .sign-word .result) (a .table .now) _ (s .pre .2) (c .before .before .before .before .before .sign-word .ensures) (c .before .before .before .copy-run .ensures)))
+    (omega arith, omega (arith, mul-le-mul-right {m = a .p} {n = 4095} (a .d + 1) (omega arith)), omega (arith, part-room (a .d) (a .rows .now) (a .signs .now) (a .wings .now) (a .p) (a .at) (c .before .before .before .before .before .sign-word .result) (a .table .now) _ (s .pre .2) (c .before .before .before .before .before .sign-word .ensures) (c .before .before .before .copy-run .ensures)))
 
 same-length : tie.Need-same-length
 same-length c =
