@@ -1,3 +1,5 @@
--- Laws of tests, and of what calls answer.
+-- Laws of tests, of shapes, and of what calls answer.
 pub mod Tests
+pub mod Shaping
 pub mod Answers
+pub mod Accepting

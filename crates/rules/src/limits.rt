@@ -1,6 +1,6 @@
-// The limits, as constants of a table's shape, and the constructor that tests them.
+// The limits, as constants of a table's shape, the constructor that tests them, and the test alone.
 ghost use mathlib.Core.Path.{_≡_};
-ghost use Rattle.rules.specs.Shapes.{shapeOf};
+ghost use Rattle.rules.specs.Shapes.{shapeOf, shapeOk};
 
 // Dimension, vertex count and cell count of a table.
 pub struct Shape {
@@ -44,5 +44,15 @@ impl Shape {
             return Shaped::Outside;
         }
         Shaped::Within(Shape { d, v, s })
+    }
+
+    // Whether the numbers make a shape.
+    pub fn within(top: usize, d: usize, v: usize, s: usize) -> bool
+        ensures { λ r. ⌜ r ≡ shapeOk top d v s ⌝ }
+    {
+        match Shape::new(top, d, v, s) {
+            Shaped::Within(_) => true,
+            Shaped::Outside => false,
+        }
     }
 }
