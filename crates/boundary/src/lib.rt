@@ -14,7 +14,7 @@ use crate::writing::write_faces;
 
 mod faces_of;
 mod limits;
-mod writing;
+pub mod writing;
 
 // Writes the faces from the start of out, a sign word and d vertices each, and answers their count, or says why not.
 pub fn faces(d: usize, v: usize, s: usize, table: &[u16], out: &mut [u16]) -> Answer

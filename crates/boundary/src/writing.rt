@@ -39,7 +39,7 @@ fn write_at(d: usize, entry: &[u16], a: usize, at: usize, out: &mut [u16]) -> us
 }
 
 // The boundary faces of one cell.
-fn write_cell(d: usize, entry: &[u16], at: usize, out: &mut [u16]) -> usize
+pub fn write_cell(d: usize, entry: &[u16], at: usize, out: &mut [u16]) -> usize
     requires of { ⌜ length (now entry) ≡ recordSize d ⌝ }
     requires room { ⌜ at + length (cellWordsOf d (entryOf d (now entry))) ≤ length (now out) ⌝ }
     ensures place { λ r. ⌜ r ≡ at + length (cellWordsOf d (entryOf d (now (entry .entry)))) ⌝ }
