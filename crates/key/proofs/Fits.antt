@@ -15,6 +15,7 @@ use lib.ListN.{length, take, length-append}
 use borrow.Author.Tests.{le-ltb}
 use Rattle.words.specs.Text.{ascii}
 use Rattle.rules.specs.Calls.{Outcome, accepted, refused, after}
+use Rattle.rules.proofs.Accepting.{front-of}
 use Rattle.complex.specs.Wing.{wingOutcome}
 use Rattle.sweep.specs.Sweep.{sweepOutcome}
 use Rattle.points.specs.Move.{moveOutcome}
@@ -22,8 +23,8 @@ use Rattle.file.specs.declared.Header.{Header}
 use Rattle.file.specs.Read.{readOutcome}
 use Rattle.listing.specs.Decimal.{digit, digits, digitsUpTo}
 use Rattle.listing.specs.Listing.{listText, listOutcome}
-use Rattle.winged.specs.Key.{inputLimit, byteRoom, thenCall, readIn, wingIn, sweepIn, moveIn, listIn, callsOn, keyOutcome, spoken, printed, textOutcome, textBuffer}
-use Rattle.winged.proofs.Staged.{front-of, list-long}
+use Rattle.marking.specs.Key.{inputLimit, byteRoom, thenCall, readIn, wingIn, sweepIn, moveIn, listIn, callsOn, keyOutcome, spoken, printed, textOutcome, textBuffer}
+use Rattle.marking.proofs.Staged.{list-long}
 
 digits-short : (k n : ℕ) → length (digitsUpTo k n) ≤ suc k
 digits-short zero n = omega arith

@@ -2,11 +2,11 @@
 ghost use mathlib.Core.Path.{_≡_};
 ghost use lib.ListN.{length, take};
 ghost use Rattle.io.specs.Counts.{Counts};
-ghost use Rattle.winged.specs.Key.{byteRoom, printed};
+ghost use Rattle.marking.specs.Key.{byteRoom, printed};
 use libc::STDIN_FILENO;
 use libc::STDOUT_FILENO;
+use marking::key::key_text;
 use rules::refusal::Answer;
-use winged::key::key_text;
 
 // Writes what is printed for the input from the start of the text, and answers the count of its bytes.
 fn print_to(input: &[u8], text: &mut [u8]) -> usize

@@ -14,8 +14,8 @@ use Rattle.file.specs.Read.{readRules, headerOf, fileWords, readOutcome, readCe
 use Rattle.listing.specs.Decimal.{digits, thousandths, coordinate}
 use Rattle.listing.specs.Lines.{firstLine, vertexLine, faceLine, keyText}
 use Rattle.listing.specs.Listing.{listText, listRules, listOutcome, listBuffer}
-use Rattle.winged.specs.Key.{keyOutcome, printed}
 use Rattle.winged.specs.Host.{hostWingOutcome, hostWing, hostWingBuffer, hostSweepOutcome, hostSweep, hostSweepBuffer, hostFacesOutcome, hostFaces, hostFacesBuffer}
+use Rattle.marking.specs.Key.{keyOutcome, printed}
 
 unfoldable pub computing : Unit {0}
 unfolding add sub mul neg lt le eq ofBits solidRules acceptable tableOfList ownTable sound wingRules wingOutcome wingBuffer allSides sweepRules sweptWords sweepOutcome sweepBuffer boundaryCells facesRules facesOutcome facesBuffer inRange onCircle stepFits addAt turned movedPoint movedLevels moveRules moveOutcome moveBuffer filePoints fileCells readRules headerOf fileWords readOutcome readCells readPoints digits thousandths coordinate firstLine vertexLine faceLine keyText listText listRules listOutcome listBuffer keyOutcome printed hostWingOutcome hostWing hostWingBuffer hostSweepOutcome hostSweep hostSweepBuffer hostFacesOutcome hostFaces hostFacesBuffer

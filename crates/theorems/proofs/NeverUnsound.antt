@@ -17,6 +17,7 @@ use Rattle.words.proofs.Records.{tabulate-length}
 use Rattle.rules.specs.Limits.{maxDimension, sweptVertices}
 use Rattle.rules.specs.Shapes.{shapeOk}
 use Rattle.rules.specs.Calls.{Rule, firstRefusal, Outcome, accepted, refused, outcome, decide}
+use Rattle.rules.proofs.Accepting.{accepted-by}
 use Rattle.simplex.specs.Order.{ascending}
 use Rattle.complex.specs.Accept.{listedCells, solidOf, solidRules}
 use Rattle.complex.specs.Layout.{cellOf, listSize, tableLength, tableWords}
@@ -30,9 +31,8 @@ use Rattle.points.specs.Move.{MoveInput, moveOutcome, moveRules, movedLength}
 use Rattle.file.specs.declared.Header.{Header}
 use Rattle.file.specs.Read.{ReadInput, headerOf, fileWords, readOutcome, readRules}
 use Rattle.listing.specs.Listing.{ListInput, listText, listOutcome, listRules}
-use Rattle.winged.specs.Key.{inputLimit, wordRoom, thenCall, readIn, wingIn, sweepIn, moveIn, listIn, callsOn, keyOutcome}
-use Rattle.winged.proofs.Hosting.{accepted-by}
-use Rattle.winged.proofs.Staged.{winged-front, swept-front}
+use Rattle.marking.specs.Key.{inputLimit, wordRoom, thenCall, readIn, wingIn, sweepIn, moveIn, listIn, callsOn, keyOutcome}
+use Rattle.marking.proofs.Staged.{winged-front, swept-front}
 use Rattle.third_term.specs.ThirdTerm.{Sitting, Unrefused, toWing, toSweep, tableWritten, sweptWritten}
 use Rattle.third_term.proofs.Acceptance.{winged-is}
 use Rattle.third_term.proofs.Run.{swept-sound}

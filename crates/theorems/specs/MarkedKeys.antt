@@ -14,7 +14,7 @@ use Rattle.sweep.specs.Sides.{side, sidePair}
 use Rattle.sweep.specs.Sweep.{sweepOutcome}
 use Rattle.boundary.specs.Faces.{facesOutcome, boundaryCells}
 use Rattle.listing.specs.Decimal.{coordinate}
-use Rattle.winged.specs.Key.{printed}
+use Rattle.marking.specs.Key.{printed}
 use Rattle.theorems.specs.Shorthand.{cellOf, entry, listed, toWing, swept, sweptEntries, facesOfSwept}
 
 -- d 0, n 1, V 1, S 1, h 1, slide on axis 0 by 1.0, point 0.5, cell plus 0

@@ -4,8 +4,8 @@
 --   wing-after            the buffer, as its outcome says
 --   wing-room             room beyond the largest table changes nothing
 --   wing-host             the answer and the lent bytes, as the host's definitions say
---   accepted-long, wing-long     the count is that of the answer's words
---   sweep-.., swept-long  the same of sweep
+--   wing-long             the count is that of the answer's words
+--   sweep-..              the same of sweep
 --   sweep-large           a table too long for its array is swept to too many cells
 -- Assumes nothing.
 use mathlib.Core.Path.{_≡_, refl, sym, ap, _∙_}
@@ -14,34 +14,29 @@ use mathlib.Core.List.{List, _++_}
 use Prim.Native.Nat.{ℕ, suc, _+_, _*_, _≤_, _<_}
 use native.Mathlib.Nat.{mul-add, mul-le-mul, mul-le-mul-right, mul-suc, one-mul}
 use native.Mathlib.Omega.{arith}
-use lib.Dec.{eqb, leb, ltb}
-use lib.ListN.{length, take, length-map, length-append}
+use lib.Dec.{leb, ltb}
+use lib.ListN.{length, take, length-append}
 use lib.Seq.{take-at}
-use borrow.Author.Tests.{eq-eqb, eqb-true, leb-true, lt-ltb, ne-eqb, not-false}
+use borrow.Author.Tests.{eq-eqb, leb-true, lt-ltb, ne-eqb}
 use Rattle.words.specs.Bytes.{words16, bytesOf}
-use Rattle.words.specs.Records.{part}
 use Rattle.words.proofs.Bytes.{words-count}
-use Rattle.words.proofs.Records.{tabulate-length}
 use Rattle.rules.specs.Limits.{maxCells, maxDimension, maxSource, maxSteps, maxVertices, stepsOk, sweptVertices}
 use Rattle.rules.specs.Shapes.{shapeOk}
 use Rattle.rules.specs.Calls.{Outcome, accepted, refused, after}
 use Rattle.rules.proofs.Tests.{and-parts}
-use Rattle.simplex.specs.Order.{ascending}
-use Rattle.complex.specs.Accept.{Listed, listedCells, solidOf, solidRules}
-use Rattle.complex.specs.Layout.{cellOf, listSize, recordSize, tableLength}
-use Rattle.complex.specs.Table.{tableOf, tableOfList}
+use Rattle.complex.specs.Accept.{solidRules}
+use Rattle.complex.specs.Layout.{listSize, recordSize, tableLength}
+use Rattle.complex.specs.Table.{tableOfList}
 use Rattle.complex.specs.Wing.{WingInput, wingInput, wingOutcome, wingBuffer, wingRules}
-use Rattle.complex.proofs.Accepted.{accepted-solid, passes}
-use Rattle.complex.proofs.OwnTable as own
 use Rattle.complex.proofs.WingCases.{limits-of, outcome-refused, outside, wrong-length}
-use Rattle.sweep.specs.Sweep.{SweepInput, sweepOutcome, sweepBuffer, sweepRules, sweptCells, sweptLength, sweptWords}
+use Rattle.sweep.specs.Sweep.{SweepInput, sweepOutcome, sweepBuffer, sweepRules, sweptCells, sweptWords}
 use Rattle.sweep.specs.Written.{sweepInput}
 use Rattle.sweep.proofs.InLimits.{limits-are}
 use Rattle.sweep.proofs.Outcomes.{tooLarge, large-not, refused-at-2, refused-at-3, refused-at-12}
-use Rattle.sweep.proofs.SweptWords.{all-long, all-words}
 use Rattle.winged.specs.Host.{hosted, hostAnswer, wordsIn, hostList, hostWing, hostWingOutcome, hostWingBuffer, hostSweepInput, hostSweep, hostSweepOutcome, hostSweepBuffer}
 use Rattle.winged.specs.Sent.{lesser, tableRoom, wingRead, sweepRead}
-use Rattle.winged.proofs.Hosting.{accepted-by, hosted-accepted, hosted-right, hosted-wrong}
+use Rattle.winged.proofs.Hosting.{hosted-accepted, hosted-right, hosted-wrong}
+use Rattle.winged.proofs.Lengths.{accepted-long, swept-long}
 use Rattle.winged.proofs.Outward.{room-cut}
 
 pub decoded-front : (cells w rest : List ℕ) (n : ℕ) → w ≡ words16 cells ++ rest → length cells ≡ n * 2 → (n ≤ length w) × (take n w ≡ words16 cells)
@@ -94,22 +89,6 @@ wing-same d v s ws x = go (shapeOk maxDimension d v s) refl
 pub wing-room : (d v s : ℕ) (cells : List ℕ) (x : ℕ) → wingRead d v s cells (lesser x tableRoom) ≡ wingRead d v s cells x
 unfolding wingRead
 wing-room d v s cells x = rw (wing-same d v s (words16 cells) x) refl
-
--- the table of an accepted list
-pub accepted-long : (l : Listed) (x k : ℕ) → wingOutcome (record { list = l; room = x }) ≡ accepted k → k ≡ length (tableOfList l)
-unfolding wingOutcome wingRules solidRules tableOfList
-accepted-long l x k e =
-    let by = accepted-by wingRules (λ i. tableLength (i .list .d) (i .list .s)) (record { list = l; room = x }) k refl e in
-    let none = by .1 .1 in
-    let six = none .1 in
-    let words = eqb-true (length (l .words)) (l .s * listSize (l .d)) (not-false (eqb (length (l .words)) (l .s * listSize (l .d))) (none .0)) in
-    let ok =
-        passes l
-        (record {
-          sign = six .0; vertex = six .1 .0; twice = six .1 .1 .0; cell = six .1 .1 .1 .0; crowded = six .1 .1 .1 .1 .0; equal = six .1 .1 .1 .1 .1 .0 }) in
-    let solid = accepted-solid l words ok in
-    let count : length (solidOf l) ≡ l .s = length-map (listedCells l) ascending ∙ tabulate-length (l .s) (λ p. cellOf (part (listSize (l .d)) p (l .words))) in
-    by .0 ∙ ap (tableLength (l .d)) (sym count) ∙ sym (own.words-length (l .d) (l .v) (solidOf l) (solid .0) (solid .1))
 
 pub wing-long : (d v s : ℕ) (cells : List ℕ) (x k : ℕ) → wingRead d v s cells x ≡ accepted k →
     k ≡ length (tableOfList (record { d = d; v = v; s = s; words = words16 cells }))
@@ -177,13 +156,6 @@ sweep-same d v s h ws x = go (shapeOk maxSource d v s && stepsOk h) refl (tooLar
 pub sweep-room : (d v s h : ℕ) (table : List ℕ) (x : ℕ) → sweepRead d v s h table (lesser x tableRoom) ≡ sweepRead d v s h table x
 unfolding sweepRead
 sweep-room d v s h table x = rw (sweep-same d v s h (words16 table) x) refl
-
-pub swept-long : (d v s h : ℕ) (ws : List ℕ) (x k : ℕ) → sweepOutcome (sweepInput d v s h ws x) ≡ accepted k → k ≡ length (sweptWords (sweepInput d v s h ws x))
-unfolding sweepOutcome sweepRules
-swept-long d v s h ws x k e =
-    let by = accepted-by sweepRules sweptLength (sweepInput d v s h ws x) k refl e in
-    let words = eqb-true (length ws) (tableLength d s) (not-false (eqb (length ws) (tableLength d s)) (by .1 .1 .0)) in
-    by .0 ∙ sym (all-long d v s h ws words x) ∙ ap length (sym (all-words d v s h ws x))
 
 pub sweep-long : (d v s h : ℕ) (table : List ℕ) (x k : ℕ) → sweepRead d v s h table x ≡ accepted k →
     k ≡ length (sweptWords (sweepInput d v s h (words16 table) x))

@@ -1,8 +1,7 @@
--- Laws of the C interface, and of the text that the program prints.
+-- Laws of the C interface.
 pub mod Outward
 pub mod Hosting
+pub mod Lengths
 pub mod Inward
 pub mod FaceBytes
 pub mod FaceOutcomes
-pub mod Staged
-pub mod Printed

@@ -1,5 +1,3 @@
--- What the program key prints, and what a host in C gets.
-pub mod Key
-pub mod Stages
+-- What a host in C gets.
 pub mod Host
 pub mod Sent

@@ -11,13 +11,13 @@ ghost use Rattle.words.specs.Placed.{placed};
 ghost use Rattle.boundary.specs.Written.{cellWordsOf, allWords};
 ghost use Rattle.winged.specs.Host.{hostFaces, hostFacesBuffer};
 ghost use Rattle.winged.specs.Sent.{tableRoom, facesAnswer, facesAfter};
+use boundary::writing::count_faces;
+use boundary::writing::write_cell;
 use complex::sound::is_sound;
-use crate::reading::within_limits;
+use rules::limits::Shape;
 use words::copy::decode;
 use words::copy::encode;
 use crate::sending::minus;
-use crate::writing::count_faces;
-use crate::writing::write_cell;
 
 // The boundary faces of one cell as bytes from `at` on; the place behind them.
 fn cell_bytes(d: usize, entry: &[u16], at: usize, out: &mut [u8]) -> usize
@@ -72,7 +72,7 @@ pub fn faces_bytes(d: usize, v: usize, s: usize, table: &[u8], words: &mut [u16]
     ensures answer { λ r. ⌜ r ≡ hostFaces d v s (now (table .entry)) (now (faces .entry)) ⌝ }
     ensures buffer { λ _. ⌜ now (faces .exit) ≡ hostFacesBuffer d v s (now (table .entry)) (now (faces .entry)) ⌝ }
 {
-    if !within_limits(d, v, s) {
+    if !Shape::within(Shape::MAX_DIMENSION, d, v, s) {
         return minus(2);
     }
     let n = s * (d + d + 3);

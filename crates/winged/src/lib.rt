@@ -1,5 +1,4 @@
 // Winged solids for a host in C: numbers and lent bytes in, a count of words or minus a refusal's number out.
-// The module key has the text that the program key prints.
 ghost use mathlib.Core.Path.{_≡_};
 ghost use Rattle.winged.specs.Host.{hostWing, hostWingBuffer, hostSweep, hostSweepBuffer, hostFaces, hostFacesBuffer};
 use crate::faces::faces_bytes;
@@ -7,13 +6,9 @@ use crate::host::sweep_bytes;
 use crate::host::wing_bytes;
 
 mod faces;
-mod faces_of;
 mod host;
-pub mod key;
 mod reading;
 mod sending;
-mod stages;
-mod writing;
 
 #[no_mangle]
 pub extern "C" fn winged_wing(d: u32, v: u32, s: u32, cells: &[u8], table: &mut [u8]) -> i64

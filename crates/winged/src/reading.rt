@@ -3,7 +3,7 @@ ghost use mathlib.Core.Path.{_≡_};
 ghost use mathlib.Core.Bool.{_&&_};
 ghost use lib.ListN.{length};
 ghost use Rattle.words.specs.Bytes.{words16};
-ghost use Rattle.rules.specs.Limits.{maxDimension, maxSource, stepsOk};
+ghost use Rattle.rules.specs.Limits.{maxSource, stepsOk};
 ghost use Rattle.rules.specs.Numbers.{outcomeOf};
 ghost use Rattle.rules.specs.Shapes.{shapeOk};
 ghost use Rattle.rules.specs.Calls.{after};
@@ -14,27 +14,16 @@ ghost use Rattle.winged.specs.Host.{hostList};
 ghost use Rattle.winged.specs.Sent.{wingRead, sweepRead};
 use complex::wing::wing;
 use rules::limits::Shape;
-use rules::limits::Shaped;
 use rules::refusal::Answer;
 use rules::refusal::Refusal;
 use sweep::sweep;
 use words::copy::decode;
 
-// Whether the numbers of a table are within the limits.
-pub fn within_limits(d: usize, v: usize, s: usize) -> bool
-    ensures { λ r. ⌜ r ≡ shapeOk maxDimension d v s ⌝ }
-{
-    match Shape::new(Shape::MAX_DIMENSION, d, v, s) {
-        Shaped::Within(_) => true,
-        Shaped::Outside => false,
-    }
-}
-
 pub fn wing_words(d: usize, v: usize, s: usize, cells: &[u8], out: &mut [u16]) -> Answer
     ensures answer { λ r. ⌜ outcomeOf r ≡ wingRead d v s (now (cells .entry)) (length (now (out .entry))) ⌝ }
     ensures buffer { λ r. ⌜ now (out .exit) ≡ after (outcomeOf r) (tableOfList (hostList d v s (now (cells .entry)) (now (cells .entry)))) (now (out .entry)) ⌝ }
 {
-    if !within_limits(d, v, s) {
+    if !Shape::within(Shape::MAX_DIMENSION, d, v, s) {
         return Answer::Refused(Refusal::OutsideLimits);
     }
     let n = s * (d + 2);
@@ -56,10 +45,7 @@ fn sweep_within(d: usize, v: usize, s: usize, h: usize) -> bool
     if Shape::MAX_STEPS < h {
         return false;
     }
-    match Shape::new(Shape::MAX_SOURCE, d, v, s) {
-        Shaped::Within(_) => true,
-        Shaped::Outside => false,
-    }
+    Shape::within(Shape::MAX_SOURCE, d, v, s)
 }
 
 pub fn sweep_words(d: usize, v: usize, s: usize, h: usize, table: &[u8], out: &mut [u16]) -> Answer

@@ -25,7 +25,7 @@ abbrev start : tie.Else1 → tie.Start
 start c = c .before .before .before .before .before
 
 inside : (c : tie.Else1) → shapeOk maxDimension (start c .args .d) (start c .args .v) (start c .args .s) ≡ true
-inside c = sym (c .before .within-limits .ensures) ∙ not-false _ (c .if1 .left)
+inside c = sym (c .before .within .ensures) ∙ not-false _ (c .if1 .left)
 
 -- the largest table
 few : (c : tie.Else1) → (start c .args .d ≤ 7) × (tableLength (start c .args .d) (start c .args .s) ≤ tableRoom)
@@ -45,8 +45,8 @@ front : (c : tie.After-decode) →
     (count (c .before .before) ≤ length (c .decode .last .1 .0)) × (take (count (c .before .before)) (c .decode .last .1 .0) ≡ words16 (table (c .before .before)))
 front c = decoded-front (table (c .before .before)) (c .decode .last .1 .0) _ (count (c .before .before)) (c .decode .ensures) (c .before .before .if2 .left)
 
-within-limits-requires : tie.Need-within-limits-requires
-within-limits-requires c κs = search needs
+within-requires : tie.Need-within-requires
+within-requires c κs = search needs
 
 minus-requires : tie.Need-minus-requires
 minus-requires c κs = search needs
@@ -55,7 +55,7 @@ returns : tie.Need-returns
 returns c =
     let one = c .before .before in
     let a = one .before .before .before .before .args in
-    let host = host-outside (a .d) (a .v) (a .s) (a .table .now) (a .faces .now) (sym (one .within-limits .ensures) ∙ not-true _ (c .before .if1 .taken)) in
+    let host = host-outside (a .d) (a .v) (a .s) (a .table .now) (a .faces .now) (sym (one .within .ensures) ∙ not-true _ (c .before .if1 .taken)) in
     (toZ-ofZ w64 _ (search needs) ∙ c .minus .ensures ∙ host .0, host .1)
 
 add-n : tie.Need-add-n
@@ -117,7 +117,7 @@ pub faces-bytes-spec : {M : Type 1} → statement M
 faces-bytes-spec =
     tie.close
     (tie.spec
-    within-limits-requires
+    within-requires
     minus-requires
     returns
     add-n

@@ -22,7 +22,7 @@ abbrev start : tie.Else1 → tie.Start
 start c = c .before .before .before .before
 
 inside : (c : tie.Else1) → shapeOk maxDimension (start c .args .d) (start c .args .v) (start c .args .s) ≡ true
-inside c = sym (c .before .within-limits .ensures) ∙ not-false _ (c .if1 .left)
+inside c = sym (c .before .within .ensures) ∙ not-false _ (c .if1 .left)
 
 -- the largest list
 few : (c : tie.Else1) → (start c .args .d ≤ 7) × (start c .args .s * (start c .args .d + 2) ≤ 36864)
@@ -38,13 +38,13 @@ cells c = start (c .before) .args .cells .now
 abbrev count : tie.Else2 → ℕ
 count c = start (c .before) .args .s * (start (c .before) .args .d + 2)
 
-within-limits-requires : tie.Need-within-limits-requires
-within-limits-requires c κs = search needs
+within-requires : tie.Need-within-requires
+within-requires c κs = search needs
 
 returns : tie.Need-returns
 returns c =
     let a = c .before .before .before .before .args in
-    (wing-outside (a .d) (a .v) (a .s) (a .cells .now) (length (a .out .now)) (sym (c .before .within-limits .ensures) ∙ not-true _ (c .if1 .taken)), refl)
+    (wing-outside (a .d) (a .v) (a .s) (a .cells .now) (length (a .out .now)) (sym (c .before .within .ensures) ∙ not-true _ (c .if1 .taken)), refl)
 
 add-n : tie.Need-add-n
 add-n c = omega (arith, few c .0)
@@ -99,7 +99,7 @@ pub wing-words-spec : {M : Type 1} → statement M
 wing-words-spec =
     tie.close
     (tie.spec
-    within-limits-requires
+    within-requires
     returns
     add-n
     mul-n

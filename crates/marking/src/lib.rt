@@ -1,0 +1,3 @@
+// What the program key prints, from a file's bytes.
+pub mod key;
+mod stages;
