@@ -10,11 +10,9 @@ use mathlib.Core.List.{List, _++_}
 use Prim.Native.Nat.{ℕ, suc}
 use lib.Dec.{ltb}
 use lib.ListN.{length}
-use lib.Ieee.{Float}
 use Rattle.words.specs.Text.{ascii}
 use Rattle.rules.specs.Limits.{sweptVertices}
 use Rattle.rules.specs.Calls.{Outcome, accepted, refused, after}
-use Rattle.complex.specs.Accept.{Listed}
 use Rattle.complex.specs.Table.{tableOfList}
 use Rattle.complex.specs.Wing.{WingInput, wingOutcome}
 use Rattle.sweep.specs.Sweep.{SweepInput, sweptWords, sweptCells, sweepOutcome}

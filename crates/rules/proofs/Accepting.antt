@@ -13,7 +13,7 @@ use lib.Dec.{leb}
 use lib.ListN.{length, take, drop, length-append}
 use lib.Seq.{take-at}
 use borrow.Author.Tests.{leb-true}
-use Rattle.rules.specs.Calls.{Rule, firstRefusal, Outcome, accepted, refused, outcome, decide, written}
+use Rattle.rules.specs.Calls.{Rule, firstRefusal, accepted, outcome, decide, written}
 use Rattle.rules.proofs.Answers.{allNumbered}
 use Rattle.rules.proofs.Tests.{and-parts}
 

@@ -1,12 +1,12 @@
 -- The row for an input of the wrong length in bytes.
 --   hosted-right          an even length is no refusal by itself
 --   hosted-wrong          a wrong length in bytes is odd, or wrong in words
---   hosted-accepted       an accepted input's length is even
+--   hosted-accepted       what is accepted with that row, the call accepted
 -- Assumes nothing.
 use mathlib.Core.Path.{_≡_, refl}
 use mathlib.Core.Bool.{Bool, true, false, cond, _&&_, and-false}
 use mathlib.Core.List.{List}
-use Prim.Native.Nat.{ℕ, _*_, _/_, _%_}
+use Prim.Native.Nat.{ℕ, _*_, _%_}
 use native.Mathlib.Omega.{arith}
 use lib.Dec.{eqb}
 use lib.ListN.{length}
