@@ -1,47 +1,23 @@
--- Bounds on the lengths of pieces and lines.
---   minus-short           a minus sign is one byte at most
---   coordinate-length     a coordinate has at most 25
+-- Bounds on the lengths of lines.
 --   points-length         a line's rest of k coordinates has at most 26 k + 1
 --   vertex-length         a vertex line of at most 8 axes has at most 256
---   fields-length         k fields have at most 21 k
 --   vertices-length       the vertex lines have at most 256 each
 --   first-sum             the length of the first line
 --   lines-length          n lines of at most k bytes have at most n k
 -- Assumes nothing.
 use mathlib.Core.Path.{_≡_}
-use mathlib.Core.Bool.{Bool, true, false, cond, _&&_}
-use mathlib.Core.List.{List, [], _∷_, _++_, map}
-use Prim.Native.Nat.{ℕ, zero, suc, _+_, _*_, _/_, _≤_}
+use mathlib.Core.List.{List, [], _∷_, map}
+use Prim.Native.Nat.{ℕ, zero, suc, _+_, _*_, _≤_}
 use native.Mathlib.Nat.{suc-mul, min-le-left}
 use native.Mathlib.Omega.{arith}
-use lib.Dec.{ltb}
 use lib.Ieee.{Float}
 use lib.ListN.{length, drop, length-append, length-take}
 use Rattle.words.specs.Records.{tabulate, part, concat}
-use Rattle.words.specs.Text.{ascii}
-use Rattle.listing.specs.Decimal.{digits, thousandths, negative, minusOf, coordinate}
-use Rattle.listing.specs.Lines.{restOfLine, firstLine, vertexLine, vertexLines}
-use Rattle.listing.specs.Placed.{minusText, decimalsText, fields}
-use Rattle.listing.proofs.Digits.{digits-length}
-
-one-at-most : (b : Bool) → length (cond b (ascii "-") []) ≤ 1
-one-at-most true = omega arith
-one-at-most false = omega arith
-
-pub minus-short : (s : Bool) (t : ℕ) → length (minusText s t) ≤ 1
-minus-short s t = one-at-most (s && ltb 0 t)
-
-pub coordinate-length : (x : Float) → length (coordinate x) ≤ 25
-unfolding coordinate
-coordinate-length x =
-    let t = thousandths x in
-    omega (
-      arith,
-      length-append (minusOf x) (digits (t / 1000) ++ decimalsText t),
-      length-append (digits (t / 1000)) (decimalsText t),
-      minus-short (negative x) t,
-      digits-length (t / 1000),
-    )
+use Rattle.printing.specs.Decimal.{digits, coordinate}
+use Rattle.printing.specs.Fields.{restOfLine}
+use Rattle.printing.proofs.Digits.{digits-length}
+use Rattle.printing.proofs.Bounds.{coordinate-length}
+use Rattle.listing.specs.Lines.{firstLine, vertexLine, vertexLines}
 
 pub points-length : (xs : List Float) → length (restOfLine (map coordinate xs)) ≤ 26 * length xs + 1
 points-length [] = omega arith
@@ -52,10 +28,6 @@ unfolding vertexLine
 vertex-length n ps p h =
     let xs = part n p ps in
     omega (arith, length-append (digits p) (restOfLine (map coordinate xs)), digits-length p, points-length xs, length-take n (drop (p * n) ps), min-le-left n (length (drop (p * n) ps)))
-
-pub fields-length : (ws : List ℕ) → length (fields ws) ≤ 21 * length ws
-fields-length [] = omega arith
-fields-length (w ∷ ws) = omega (arith, length-append (digits w) (fields ws), digits-length w, fields-length ws)
 
 pub lines-length : (k n : ℕ) (f : ℕ → List ℕ) → ((p : ℕ) → length (f p) ≤ k) → length (concat (tabulate n f)) ≤ n * k
 lines-length k zero f h = omega arith

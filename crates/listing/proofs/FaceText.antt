@@ -16,12 +16,12 @@ use lib.Seq.{take-nil, slice, length-slice, take-take, drop-drop, getD-take, get
 use Rattle.simplex.specs.Cell.{Row, Sign, times, alternating}
 use Rattle.simplex.specs.Faces.{without, face}
 use Rattle.complex.specs.Layout.{signOf, recordSize}
-use Rattle.listing.specs.Decimal.{digits}
-use Rattle.listing.specs.Lines.{restOfLine, signText, faceLine}
-use Rattle.listing.specs.Placed.{field, fields}
+use Rattle.printing.specs.Decimal.{digits}
+use Rattle.printing.specs.Fields.{field, fields, restOfLine}
+use Rattle.printing.proofs.Bounds.{fields-length}
+use Rattle.listing.specs.Lines.{signText, faceLine}
 use Rattle.listing.specs.Parts.{recordAt, RecordOf}
 use Rattle.listing.proofs.Runs.{line-of-fields}
-use Rattle.listing.proofs.Bounds.{fields-length}
 
 pub cut : (b m : ℕ) (l : List ℕ) → take m (drop b l) ≡ drop b (take (b + m) l)
 cut zero m l = ap (λ (k : ℕ). take k l) (sym (zero-add m))

@@ -9,8 +9,8 @@ use native.Mathlib.Omega.{arith}
 use lib.Ieee.{Float}
 use lib.ListN.{length}
 use Rattle.simplex.specs.Cell.{Cell}
+use Rattle.printing.specs.Advanced.{numberLine}
 use Rattle.listing.specs.Lines.{keyWord, firstLine, vertexLines, faceLines, keyText}
-use Rattle.listing.specs.Advanced.{numberLine}
 
 module _ (d n v : ℕ) (ps : List Float) (fs : List Cell) (f : ℕ) (e : f ≡ length fs) where
   pub key-pieces : keyText d n v ps fs ≡ keyWord ++ (numberLine d n v f ++ (vertexLines n v ps ++ faceLines fs))

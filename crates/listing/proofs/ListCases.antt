@@ -6,13 +6,13 @@
 -- Assumes nothing.
 use mathlib.Core.Path.{_≡_, sym, ap, _∙_}
 use mathlib.Core.Bool.{Bool, true, false, _&&_}
-use mathlib.Core.List.{List, _++_}
-use Prim.Native.Nat.{ℕ, _+_, _*_, _≤_}
-use native.Mathlib.Nat.{zero-add}
+use mathlib.Core.List.{List}
+use Prim.Native.Nat.{ℕ, _*_, _≤_}
 use lib.Dec.{eqb, leb, ltb}
-use lib.ListN.{length, drop}
+use lib.ListN.{length}
 use borrow.Author.Tests.{leb-true, eqb-true}
 use Rattle.words.specs.Records.{allOf}
+use Rattle.words.proofs.Placed.{placed-first}
 use Rattle.rules.specs.Limits.{axesOk, verticesOk, within, maxCells}
 use Rattle.rules.specs.Shapes.{shapeOk}
 use Rattle.rules.specs.Calls.{Outcome, accepted, refused, after}
@@ -20,7 +20,7 @@ use Rattle.rules.proofs.Tests.{and-parts}
 use Rattle.complex.specs.Layout.{tableLength}
 use Rattle.complex.specs.Table.{sound}
 use Rattle.points.specs.Step.{inRange}
-use Rattle.listing.specs.Placed.{placed, Put}
+use Rattle.printing.specs.Put.{Put}
 use Rattle.listing.specs.Parts.{Points, Table}
 use Rattle.listing.specs.Listing.{ListInput, listText, listRules, listOutcome, listBuffer}
 
@@ -97,8 +97,8 @@ module _ (i : ListInput) where
   kept n out e = sym (ap (λ (o : Outcome ℕ). after o (listText i) out) e)
 
   pub written-text : (out : List ℕ) (next : ℕ) (new : List ℕ) → listOutcome i ≡ accepted (length (listText i)) → Put 0 (listText i) out next new → new ≡ listBuffer i out
-  unfolding listBuffer placed
+  unfolding listBuffer
   written-text out next new e p =
       p .bytes
-      ∙ ap (λ (k : ℕ). listText i ++ drop k out) (zero-add (length (listText i)))
+      ∙ placed-first (listText i) out
       ∙ sym (ap (λ (o : Outcome ℕ). after o (listText i) out) e)

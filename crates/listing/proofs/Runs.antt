@@ -1,30 +1,26 @@
 -- What is left of a list, one element further.
 --   lines-rest, lines-end         of the lines f 0, f 1, ..
---   rest-of, rest-end             of a text
 --   point-within                  point p is among the floats
 --   points-rest, points-end       of the coordinates of point p
 --   fields-rest, fields-end       of the fields of the words up to `to`
 --   line-of-fields                a line of numbers is its fields and the line feed
---   all-at                        a test that passes at each element passes at one
 --   sign-even, sign-odd           the signs of faces alternate
 -- Assumes nothing.
 use mathlib.Core.Path.{_≡_, refl, sym, ap, _∙_, subst}
-use mathlib.Core.Bool.{Bool, true, false, not}
+use mathlib.Core.Bool.{true, false, not}
 use mathlib.Core.List.{List, [], _∷_, _++_, map, append-assoc}
 use Prim.Native.Nat.{ℕ, zero, suc, _+_, _-_, _*_, _%_, _≤_, _<_}
-use native.Mathlib.Nat.{not-suc-le-zero, le-of-suc-le-suc, suc-mul, mul-le-mul-right}
+use native.Mathlib.Nat.{suc-mul, mul-le-mul-right}
 use native.Mathlib.Numerals.{add-one}
 use native.Mathlib.Omega.{arith}
 use lib.ListN.{length, take, drop, getD, length-drop, drop-of-length-le}
 use lib.Ieee.{Float, nan}
 use lib.Seq.{slice, slice-cons, drop-cons, length-take-le, getD-take, getD-drop}
-use Rattle.words.specs.Records.{tabulate, part, concat, allOf}
+use Rattle.words.specs.Records.{tabulate, part, concat}
 use Rattle.words.proofs.Records.{tabulate-length, tabulate-at}
-use Rattle.rules.proofs.Tests.{and-parts}
 use Rattle.simplex.specs.Cell.{alternating}
-use Rattle.listing.specs.Decimal.{digits, coordinate}
-use Rattle.listing.specs.Lines.{restOfLine}
-use Rattle.listing.specs.Placed.{field, fields, pointField}
+use Rattle.printing.specs.Decimal.{digits, coordinate}
+use Rattle.printing.specs.Fields.{field, fields, pointField, restOfLine}
 
 module _ (n : ℕ) (f : ℕ → List ℕ) where
   pub lines-rest : (p : ℕ) → p < n → concat (drop p (tabulate n f)) ≡ f p ++ concat (drop (p + 1) (tabulate n f))
@@ -35,12 +31,6 @@ module _ (n : ℕ) (f : ℕ → List ℕ) where
 
   pub lines-end : (p : ℕ) → n ≤ p → concat (drop p (tabulate n f)) ≡ []
   lines-end p h = ap concat (drop-of-length-le (tabulate n f) (subst (λ (k : ℕ). k ≤ p) (sym (tabulate-length n f)) h))
-
-pub rest-of : (xs : List ℕ) (i : ℕ) → i < length xs → drop i xs ≡ getD xs i 0 ∷ drop (i + 1) xs
-rest-of xs i h = drop-cons xs i 0 h ∙ ap (λ (k : ℕ). getD xs i 0 ∷ drop k xs) (sym (add-one i))
-
-pub rest-end : (xs : List ℕ) (i : ℕ) → length xs ≤ i → drop i xs ≡ []
-rest-end xs i h = drop-of-length-le xs h
 
 module _ {A : Type 0} (z : A) (n p : ℕ) (xs : List A) where
   part-length : p * n + n ≤ length xs → length (part n p xs) ≡ n
@@ -81,11 +71,6 @@ line-of-fields [] = refl
 line-of-fields (w ∷ ws) =
     ap (λ (l : List ℕ). 32 ∷ (digits w ++ l)) (line-of-fields ws)
     ∙ ap (λ (l : List ℕ). 32 ∷ l) (sym (append-assoc (digits w) (fields ws) (10 ∷ [])))
-
-pub all-at : {A : Type 0} (q : A → Bool) (z : A) (xs : List A) → allOf q xs ≡ true → (k : ℕ) → k < length xs → q (getD xs k z) ≡ true
-all-at q z [] e k l = absurd (not-suc-le-zero l)
-all-at q z (x ∷ xs) e zero l = and-parts (q x) (allOf q xs) e .0
-all-at q z (x ∷ xs) e (suc k) l = all-at q z xs (and-parts (q x) (allOf q xs) e .1) k (le-of-suc-le-suc l)
 
 alternates : (i : ℕ) → (i % 2 ≡ 0 → alternating i ≡ true) × ((i % 2 ≡ 0 → ⊥) → alternating i ≡ false)
 alternates zero = (λ e. refl, λ e. absurd (e refl))

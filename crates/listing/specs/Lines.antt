@@ -1,5 +1,4 @@
--- The lines of the key: one space between fields, a line feed after each line.
---   line fields                   a line of these fields
+-- The lines of the key.
 --   firstLine d n v f             "key", dimension, axes, vertices, faces
 --   vertexLines n v ps            for each vertex "v", its number, its coordinates
 --   faceLines fs                  for each face "+" or "-", and its vertices
@@ -12,15 +11,8 @@ use lib.ListN.{length}
 use Rattle.words.specs.Records.{tabulate, part, concat}
 use Rattle.words.specs.Text.{ascii}
 use Rattle.simplex.specs.Cell.{Sign, Cell}
-use Rattle.listing.specs.Decimal.{digits, coordinate}
-
--- fields after the first, each with a space before it, and the line feed
-abbrev pub restOfLine : List (List ℕ) → List ℕ
-restOfLine [] = 10 ∷ []
-restOfLine (f ∷ fs) = 32 ∷ (f ++ restOfLine fs)
-
-abbrev pub line : List ℕ → List (List ℕ) → List ℕ
-line f fs = f ++ restOfLine fs
+use Rattle.printing.specs.Decimal.{digits, coordinate}
+use Rattle.printing.specs.Fields.{line}
 
 abbrev pub keyWord : List ℕ
 keyWord = ascii "key"

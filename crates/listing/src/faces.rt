@@ -1,8 +1,8 @@
 // The lines of the boundary faces: their count and lengths, and written. `base` is the word at which a table's record
 // begins: sign word, d + 1 vertices, d + 1 wings.
-use crate::lengths::digits_len;
-use crate::writing::put_byte;
-use crate::writing::put_field;
+use printing::lengths::digits_len;
+use printing::writing::put_byte;
+use printing::writing::put_field;
 ghost use mathlib.Core.Path.{_≡_};
 ghost use mathlib.Core.List.{[], _∷_};
 ghost use Prim.Native.Nat.{_+_, _≤_};
@@ -11,8 +11,9 @@ ghost use lib.Seq.{slice};
 ghost use Rattle.simplex.specs.Cell.{times, alternating};
 ghost use Rattle.simplex.specs.Faces.{face};
 ghost use Rattle.complex.specs.Layout.{signOf};
+ghost use Rattle.printing.specs.Fields.{fields};
+ghost use Rattle.printing.specs.Put.{Put};
 ghost use Rattle.listing.specs.Lines.{signText, faceLine, faceLines};
-ghost use Rattle.listing.specs.Placed.{Put, fields};
 ghost use Rattle.listing.specs.Parts.{recordAt, boundaryFaces, RecordOf, FaceOf, SizeOf, Table, facesOf};
 
 // How many faces, and how many bytes their lines have.

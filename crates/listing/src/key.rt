@@ -2,16 +2,16 @@
 use crate::faces::Size;
 use crate::faces::faces_size;
 use crate::faces::put_faces;
-use crate::lengths::digits_len;
-use crate::line_writer::number_line;
 use crate::vertices::put_vertices;
 use crate::vertices::vertices_len;
-use crate::writing::put_text;
+use printing::lengths::digits_len;
+use printing::line_writer::number_line;
+use printing::writing::put_text;
 ghost use mathlib.Core.Path.{_≡_};
 ghost use Prim.Native.Nat.{_≤_};
 ghost use lib.ListN.{length};
+ghost use Rattle.printing.specs.Put.{Put};
 ghost use Rattle.listing.specs.Lines.{firstLine, keyText};
-ghost use Rattle.listing.specs.Placed.{Put};
 ghost use Rattle.listing.specs.Parts.{Points, Table, facesOf, KeySize};
 
 fn first_len(d: usize, n: usize, v: usize, faces: usize) -> usize

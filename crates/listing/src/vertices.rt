@@ -1,14 +1,14 @@
 // The lines of the vertices: their lengths, and written.
-use crate::lengths::coordinate_len;
-use crate::lengths::digits_len;
-use crate::writing::put_byte;
-use crate::writing::put_field;
-use crate::writing::put_point;
+use printing::lengths::coordinate_len;
+use printing::lengths::digits_len;
+use printing::writing::put_byte;
+use printing::writing::put_field;
+use printing::writing::put_point;
 ghost use mathlib.Core.Path.{_≡_};
 ghost use Prim.Native.Nat.{_+_, _≤_};
 ghost use lib.ListN.{length};
+ghost use Rattle.printing.specs.Put.{Put};
 ghost use Rattle.listing.specs.Lines.{vertexLine, vertexLines};
-ghost use Rattle.listing.specs.Placed.{Put};
 ghost use Rattle.listing.specs.Parts.{VertexOf, Points};
 
 fn vertex_len(n: usize, p: usize, points: &[f64]) -> usize

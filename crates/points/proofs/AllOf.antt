@@ -1,5 +1,5 @@
 -- Whether a test passes at every element.
---   allOf-true, allOf-false, allOf-at     told by the elements at each index
+--   allOf-true, allOf-false               told by the elements at each index
 --   allOf-append, allOf-concat            of joined lists
 --   allOf-tabulate, allOf-tabulate-false, allOf-tabulate-at   of a tabulated list
 --   and-one                               true is no further condition
@@ -44,11 +44,6 @@ module _ {ℓ} {A : Type ℓ} (q : A → Bool) where
   allOf-false z [] k l e = absurd (not-suc-le-zero l)
   allOf-false z (x ∷ xs) zero l e = rw e
   allOf-false z (x ∷ xs) (suc k) l e = and-false (q x) (allOf q xs) (allOf-false z xs k (le-of-suc-le-suc l) e)
-
-  pub allOf-at : (z : A) (xs : List A) → allOf q xs ≡ true → (k : ℕ) → k < length xs → q (getD xs k z) ≡ true
-  allOf-at z [] e k l = absurd (not-suc-le-zero l)
-  allOf-at z (x ∷ xs) e zero l = and-parts (q x) (allOf q xs) e .0
-  allOf-at z (x ∷ xs) e (suc k) l = allOf-at z xs (and-parts (q x) (allOf q xs) e .1) k (le-of-suc-le-suc l)
 
   pub allOf-append : (xs ys : List A) → allOf q (xs ++ ys) ≡ (allOf q xs && allOf q ys)
   allOf-append [] ys = refl

@@ -1,7 +1,8 @@
 -- Words written one after the other, and records written one after the other.
 --   placed-first          from the start of the buffer
+--   placed-none, placed-length    nothing written; the buffer keeps its length
 --   placed-then           a second list behind the first
---   placed-word           one word more of a list
+--   placed-one, placed-word       one word; one word more of a list
 --   concat-more           n + 1 lists one after the other are n and the last
 --   concat-fits           record k of n ends within all n
 --   placed-record         one record more of n
@@ -57,7 +58,7 @@ placed-then at xs ys buf h =
         ∙ ap (λ n. drop n buf) ends
 
 -- a store is a list of one word
-placed-one : (at x : ℕ) (buf : List ℕ) → at < length buf → set buf at x ≡ placed at (x ∷ []) buf
+pub placed-one : (at x : ℕ) (buf : List ℕ) → at < length buf → set buf at x ≡ placed at (x ∷ []) buf
 unfolding placed
 placed-one at x buf h = set-split buf at x h ∙ ap (λ n. take at buf ++ x ∷ drop n buf) (sym (add-one at))
 

@@ -5,9 +5,9 @@ use native.Mathlib.Omega.{arith}
 use lib.Seq.{slice, length-slice}
 use lib.ListN.{length-append, length, getD}
 use borrow.Author.Needs.{needs}
-use Rattle.listing.specs.Placed.{field, fields}
-use Rattle.listing.proofs.Digits.{digits-length}
-use Rattle.listing.proofs.Bounds.{fields-length}
+use Rattle.printing.specs.Fields.{field, fields}
+use Rattle.printing.proofs.Digits.{digits-length}
+use Rattle.printing.proofs.Bounds.{fields-length}
 use Rattle.listing.proofs.Runs.{fields-rest, fields-end}
 use Rattle.listing.proofs.faces.fields_len.Statement.{statement}
 use Rattle.listing.proofs.faces.fields_len.Tie as tie

@@ -4,9 +4,9 @@ use Prim.Native.Nat.{_≤_, _-_, _+_}
 use native.Mathlib.Omega.{arith}
 use borrow.Author.Needs.{needs}
 use Rattle.simplex.specs.Faces.{face}
+use Rattle.printing.proofs.Placing.{Left, left-start, left-step, left-fits, left-done, left-as, put-as}
 use Rattle.listing.specs.Parts.{recordAt, boundaryFaces}
 use Rattle.listing.specs.Lines.{faceLine, faceLines}
-use Rattle.listing.proofs.Placing.{Left, left-start, left-step, left-fits, left-done, left-as, put-as}
 use Rattle.listing.proofs.TableFaces.{facesLeft, face-here, face-skipped, faces-over}
 use Rattle.listing.proofs.faces.put_cell.Statement.{statement}
 use Rattle.listing.proofs.faces.put_cell.Tie as tie

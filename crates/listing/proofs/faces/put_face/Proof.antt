@@ -7,8 +7,8 @@ use lib.ListN.{length, getD}
 use borrow.Author.Needs.{needs}
 use Rattle.simplex.specs.Cell.{times, alternating}
 use Rattle.complex.specs.Layout.{signOf}
+use Rattle.printing.proofs.Placing.{left-start, left-step, left-last, left-fits}
 use Rattle.listing.specs.Lines.{signText}
-use Rattle.listing.proofs.Placing.{left-start, left-step, left-last, left-fits}
 use Rattle.listing.proofs.FaceText.{face-pieces, lowFields, highFields}
 use Rattle.listing.proofs.faces.put_face.Statement.{statement}
 use Rattle.listing.proofs.faces.put_face.Tie as tie

@@ -5,9 +5,9 @@ use lib.ListN.{drop}
 use borrow.Author.Needs.{needs}
 use Rattle.complex.specs.Layout.{recordSize, entriesOf}
 use Rattle.boundary.specs.Boundary.{boundaryOf}
+use Rattle.printing.proofs.Placing.{Left, left-start, left-step, left-fits, left-done, put-nothing}
 use Rattle.listing.specs.Parts.{recordAt, boundaryFaces, facesOf}
 use Rattle.listing.specs.Lines.{faceLines}
-use Rattle.listing.proofs.Placing.{Left, left-start, left-step, left-fits, left-done, put-nothing}
 use Rattle.listing.proofs.TableFaces.{entries-rest, entries-over, flat-none, lines-append, record-within}
 use Rattle.listing.proofs.faces.put_faces.Statement.{statement}
 use Rattle.listing.proofs.faces.put_faces.Tie as tie

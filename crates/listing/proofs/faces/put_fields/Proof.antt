@@ -4,8 +4,8 @@ use native.Mathlib.Omega.{arith}
 use lib.Seq.{slice}
 use lib.ListN.{getD}
 use borrow.Author.Needs.{needs}
-use Rattle.listing.specs.Placed.{field, fields}
-use Rattle.listing.proofs.Placing.{Left, left-start, left-step, left-fits, left-done}
+use Rattle.printing.specs.Fields.{field, fields}
+use Rattle.printing.proofs.Placing.{Left, left-start, left-step, left-fits, left-done}
 use Rattle.listing.proofs.Runs.{fields-rest, fields-end}
 use Rattle.listing.proofs.faces.put_fields.Statement.{statement}
 use Rattle.listing.proofs.faces.put_fields.Tie as tie

@@ -2,7 +2,7 @@
 use Prim.Native.Nat.{_-_}
 use native.Mathlib.Omega.{arith}
 use borrow.Author.Needs.{needs}
-use Rattle.listing.proofs.Digits.{digits-length}
+use Rattle.printing.proofs.Digits.{digits-length}
 use Rattle.listing.proofs.Bounds.{first-sum}
 use Rattle.listing.proofs.key.first_len.Statement.{statement}
 use Rattle.listing.proofs.key.first_len.Tie as tie

@@ -3,11 +3,11 @@ use mathlib.Core.List.{_++_}
 use Prim.Native.Nat.{_-_, _+_}
 use lib.ListN.{length}
 use borrow.Author.Needs.{needs}
-use Rattle.listing.specs.Advanced.{numberLine}
+use Rattle.printing.specs.Advanced.{numberLine}
+use Rattle.printing.proofs.Placing.{left-start, left-step, left-last, left-fits}
 use Rattle.listing.specs.Parts.{facesOf}
 use Rattle.listing.specs.Lines.{keyWord, vertexLines, faceLines}
 use Rattle.listing.proofs.KeyText.{key-pieces, room-of}
-use Rattle.listing.proofs.Placing.{left-start, left-step, left-last, left-fits}
 use Rattle.listing.proofs.key.put_key.Statement.{statement}
 use Rattle.listing.proofs.key.put_key.Tie as tie
 

@@ -6,12 +6,13 @@ use lib.ListN.{drop, getD}
 use lib.Ieee.{nan}
 use borrow.Author.Needs.{needs}
 use Rattle.words.specs.Records.{part}
+use Rattle.words.proofs.Loops.{all-at}
 use Rattle.points.specs.Step.{inRange}
-use Rattle.listing.specs.Placed.{field, pointField}
-use Rattle.listing.specs.Lines.{restOfLine, vertexLine}
-use Rattle.listing.specs.Decimal.{coordinate}
-use Rattle.listing.proofs.Placing.{Left, left-start, left-step, left-last, left-fits}
-use Rattle.listing.proofs.Runs.{leftOf, points-rest, points-end, all-at}
+use Rattle.printing.specs.Decimal.{coordinate}
+use Rattle.printing.specs.Fields.{field, pointField, restOfLine}
+use Rattle.printing.proofs.Placing.{Left, left-start, left-step, left-last, left-fits}
+use Rattle.listing.specs.Lines.{vertexLine}
+use Rattle.listing.proofs.Runs.{leftOf, points-rest, points-end}
 use Rattle.listing.proofs.vertices.put_vertex.Statement.{statement}
 use Rattle.listing.proofs.vertices.put_vertex.Tie as tie
 
@@ -70,7 +71,7 @@ put-point-requires c κs =
     let j = turn .loop .j in
     let within = start .pre .0 .within in
     let x = getD ps (p * n + j) nan in (
-      all-at inRange nan ps (start .pre .0 .ranged) _ (omega (arith, within)),
+      all-at inRange nan ps _ (start .pre .0 .ranged) (omega (arith, within)),
       left-fits (pointField x) (leftOf n p ps within (j + 1)) (rw (points-rest n p ps within j (c .before .before .loop-test .taken)) at (turn .loop .inv .1)),
     )
 

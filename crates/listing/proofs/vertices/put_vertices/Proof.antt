@@ -4,8 +4,8 @@ use native.Mathlib.Omega.{arith}
 use lib.ListN.{drop}
 use borrow.Author.Needs.{needs}
 use Rattle.words.specs.Records.{tabulate, concat}
+use Rattle.printing.proofs.Placing.{Left, left-start, left-step, left-fits, left-done}
 use Rattle.listing.specs.Lines.{vertexLine, vertexLines}
-use Rattle.listing.proofs.Placing.{Left, left-start, left-step, left-fits, left-done}
 use Rattle.listing.proofs.Runs.{lines-rest, lines-end, point-within}
 use Rattle.listing.proofs.vertices.put_vertices.Statement.{statement}
 use Rattle.listing.proofs.vertices.put_vertices.Tie as tie

@@ -7,13 +7,15 @@ use lib.Ieee.{nan}
 use lib.ListN.{drop, length-append, length, getD}
 use borrow.Author.Needs.{needs}
 use Rattle.words.specs.Records.{part}
+use Rattle.words.proofs.Loops.{all-at}
 use Rattle.points.specs.Step.{inRange}
-use Rattle.listing.specs.Placed.{pointField}
-use Rattle.listing.specs.Lines.{restOfLine, vertexLine}
-use Rattle.listing.specs.Decimal.{digits, coordinate}
-use Rattle.listing.proofs.Digits.{digits-length}
-use Rattle.listing.proofs.Bounds.{vertex-length, coordinate-length}
-use Rattle.listing.proofs.Runs.{leftOf, points-rest, points-end, all-at}
+use Rattle.printing.specs.Decimal.{digits, coordinate}
+use Rattle.printing.specs.Fields.{pointField, restOfLine}
+use Rattle.printing.proofs.Digits.{digits-length}
+use Rattle.printing.proofs.Bounds.{coordinate-length}
+use Rattle.listing.specs.Lines.{vertexLine}
+use Rattle.listing.proofs.Bounds.{vertex-length}
+use Rattle.listing.proofs.Runs.{leftOf, points-rest, points-end}
 use Rattle.listing.proofs.vertices.vertex_len.Statement.{statement}
 use Rattle.listing.proofs.vertices.vertex_len.Tie as tie
 
@@ -51,7 +53,7 @@ shared-slice-read-coordinate-len c = search needs
 coordinate-len-requires : tie.Need-coordinate-len-requires Inv-loop μ-loop
 coordinate-len-requires c κs =
     let start = c .before .before .before .before .before in
-    all-at inRange nan (start .args .points .now) (start .pre .ranged) _ (omega (arith, start .pre .within))
+    all-at inRange nan (start .args .points .now) _ (start .pre .ranged) (omega (arith, start .pre .within))
 
 add-k-2 : tie.Need-add-k-2 Inv-loop μ-loop
 add-k-2 c =

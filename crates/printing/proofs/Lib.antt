@@ -1,0 +1,9 @@
+-- Laws of numbers in print, and of putting them into lent bytes.
+pub mod Rounding
+pub mod Digits
+pub mod Coordinate
+pub mod Fractions
+pub mod Bounds
+pub mod Placing
+pub mod Held
+pub mod Again
