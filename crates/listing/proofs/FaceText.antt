@@ -17,11 +17,11 @@ use Rattle.simplex.specs.Cell.{Row, Sign, times, alternating}
 use Rattle.simplex.specs.Faces.{without, face}
 use Rattle.complex.specs.Layout.{signOf, recordSize}
 use Rattle.printing.specs.Decimal.{digits}
-use Rattle.printing.specs.Fields.{field, fields, restOfLine}
+use Rattle.printing.specs.Fields.{fields, restOfLine}
 use Rattle.printing.proofs.Bounds.{fields-length}
+use Rattle.printing.proofs.FieldText.{fields-append, line-of-fields}
 use Rattle.listing.specs.Lines.{signText, faceLine}
 use Rattle.listing.specs.Parts.{recordAt, RecordOf}
-use Rattle.listing.proofs.Runs.{line-of-fields}
 
 pub cut : (b m : ℕ) (l : List ℕ) → take m (drop b l) ≡ drop b (take (b + m) l)
 cut zero m l = ap (λ (k : ℕ). take k l) (sym (zero-add m))
@@ -34,10 +34,6 @@ without-cut zero [] = refl
 without-cut (suc i) [] = refl
 without-cut zero (x ∷ w) = refl
 without-cut (suc i) (x ∷ w) = ap (λ (l : Row). x ∷ l) (without-cut i w)
-
-fields-append : (xs ys : List ℕ) → fields (xs ++ ys) ≡ fields xs ++ fields ys
-fields-append [] ys = refl
-fields-append (x ∷ xs) ys = ap (λ (l : List ℕ). field x ++ l) (fields-append xs ys) ∙ sym (append-assoc (field x) (fields xs) (fields ys))
 
 module _ (d base : ℕ) (ws : List ℕ) (r : RecordOf d base ws) where
   -- the row of the record's cell: the d + 1 words after the sign word

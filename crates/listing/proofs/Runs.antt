@@ -2,25 +2,23 @@
 --   lines-rest, lines-end         of the lines f 0, f 1, ..
 --   point-within                  point p is among the floats
 --   points-rest, points-end       of the coordinates of point p
---   fields-rest, fields-end       of the fields of the words up to `to`
---   line-of-fields                a line of numbers is its fields and the line feed
 --   sign-even, sign-odd           the signs of faces alternate
 -- Assumes nothing.
 use mathlib.Core.Path.{_≡_, refl, sym, ap, _∙_, subst}
 use mathlib.Core.Bool.{true, false, not}
-use mathlib.Core.List.{List, [], _∷_, _++_, map, append-assoc}
+use mathlib.Core.List.{List, [], _∷_, _++_, map}
 use Prim.Native.Nat.{ℕ, zero, suc, _+_, _-_, _*_, _%_, _≤_, _<_}
 use native.Mathlib.Nat.{suc-mul, mul-le-mul-right}
 use native.Mathlib.Numerals.{add-one}
 use native.Mathlib.Omega.{arith}
-use lib.ListN.{length, take, drop, getD, length-drop, drop-of-length-le}
+use lib.ListN.{length, drop, getD, length-drop, drop-of-length-le}
 use lib.Ieee.{Float, nan}
-use lib.Seq.{slice, slice-cons, drop-cons, length-take-le, getD-take, getD-drop}
+use lib.Seq.{drop-cons, length-take-le, getD-take, getD-drop}
 use Rattle.words.specs.Records.{tabulate, part, concat}
 use Rattle.words.proofs.Records.{tabulate-length, tabulate-at}
 use Rattle.simplex.specs.Cell.{alternating}
-use Rattle.printing.specs.Decimal.{digits, coordinate}
-use Rattle.printing.specs.Fields.{field, fields, pointField, restOfLine}
+use Rattle.printing.specs.Decimal.{coordinate}
+use Rattle.printing.specs.Fields.{pointField, restOfLine}
 
 module _ (n : ℕ) (f : ℕ → List ℕ) where
   pub lines-rest : (p : ℕ) → p < n → concat (drop p (tabulate n f)) ≡ f p ++ concat (drop (p + 1) (tabulate n f))
@@ -58,19 +56,6 @@ module _ (n p : ℕ) (ps : List Float) (within : p * n + n ≤ length ps) where
 
   pub points-end : (j : ℕ) → n ≤ j → leftOf j ≡ 10 ∷ []
   points-end j h = ap (λ (xs : List Float). restOfLine (map coordinate xs)) (part-end nan n p ps j h within)
-
-module _ (to : ℕ) (ws : List ℕ) (fit : to ≤ length ws) where
-  pub fields-rest : (k : ℕ) → k < to → fields (slice k to ws) ≡ field (getD ws k 0) ++ fields (slice (k + 1) to ws)
-  fields-rest k h = ap fields (slice-cons k to ws 0 h fit) ∙ ap (λ (i : ℕ). field (getD ws k 0) ++ fields (slice i to ws)) (sym (add-one k))
-
-  pub fields-end : (k : ℕ) → to ≤ k → fields (slice k to ws) ≡ []
-  fields-end k h = ap fields (drop-of-length-le (take to ws) (subst (λ (i : ℕ). i ≤ k) (sym (length-take-le to ws fit)) h))
-
-pub line-of-fields : (ws : List ℕ) → restOfLine (map digits ws) ≡ fields ws ++ 10 ∷ []
-line-of-fields [] = refl
-line-of-fields (w ∷ ws) =
-    ap (λ (l : List ℕ). 32 ∷ (digits w ++ l)) (line-of-fields ws)
-    ∙ ap (λ (l : List ℕ). 32 ∷ l) (sym (append-assoc (digits w) (fields ws) (10 ∷ [])))
 
 alternates : (i : ℕ) → (i % 2 ≡ 0 → alternating i ≡ true) × ((i % 2 ≡ 0 → ⊥) → alternating i ≡ false)
 alternates zero = (λ e. refl, λ e. absurd (e refl))

@@ -1,17 +1,15 @@
 // The lines of the boundary faces: their count and lengths, and written. `base` is the word at which a table's record
 // begins: sign word, d + 1 vertices, d + 1 wings.
-use printing::lengths::digits_len;
+use printing::fields::fields_len;
+use printing::fields::put_fields;
 use printing::writing::put_byte;
-use printing::writing::put_field;
 ghost use mathlib.Core.Path.{_≡_};
 ghost use mathlib.Core.List.{[], _∷_};
 ghost use Prim.Native.Nat.{_+_, _≤_};
 ghost use lib.ListN.{length};
-ghost use lib.Seq.{slice};
 ghost use Rattle.simplex.specs.Cell.{times, alternating};
 ghost use Rattle.simplex.specs.Faces.{face};
 ghost use Rattle.complex.specs.Layout.{signOf};
-ghost use Rattle.printing.specs.Fields.{fields};
 ghost use Rattle.printing.specs.Put.{Put};
 ghost use Rattle.listing.specs.Lines.{signText, faceLine, faceLines};
 ghost use Rattle.listing.specs.Parts.{recordAt, boundaryFaces, RecordOf, FaceOf, SizeOf, Table, facesOf};
@@ -20,40 +18,6 @@ ghost use Rattle.listing.specs.Parts.{recordAt, boundaryFaces, RecordOf,
 pub struct Size {
     pub count: usize,
     pub bytes: usize,
-}
-
-fn wide(x: u16) -> u64
-    ensures { λ r. ⌜ r ≡ x ⌝ }
-    ensures { λ r. ⌜ r ≤ 65535 ⌝ }
-{
-    x as u64
-}
-
-// The fields of the words from `from` up to `to`.
-fn fields_len(words: &[u16], from: usize, to: usize) -> usize
-    requires { ⌜ (from ≤ to) × (to ≤ from + 8) × (to ≤ length (now words)) ⌝ }
-    ensures { λ r. ⌜ r ≡ length (fields (slice from to (now (words .entry)))) ⌝ }
-{
-    let mut k: usize = 0;
-    let mut i = from;
-    while i < to {
-        k += 1 + digits_len(wide(words[i]));
-        i += 1;
-    }
-    k
-}
-
-fn put_fields(words: &[u16], from: usize, to: usize, buf: &mut [u8], at: usize) -> usize
-    requires { ⌜ (from ≤ to) × (to ≤ length (now words)) × (at + length (fields (slice from to (now words))) ≤ length (now buf)) ⌝ }
-    ensures { λ r. ⌜ Put at (fields (slice from to (now (words .entry)))) (now (buf .entry)) r (now (buf .exit)) ⌝ }
-{
-    let mut cur = at;
-    let mut i = from;
-    while i < to {
-        cur = put_field(buf, cur, wide(words[i]));
-        i += 1;
-    }
-    cur
 }
 
 // The sign of face i of a cell with this sign word.

@@ -4,6 +4,7 @@ pub mod Digits
 pub mod Coordinate
 pub mod Fractions
 pub mod Bounds
+pub mod FieldText
 pub mod Placing
 pub mod Held
 pub mod Again

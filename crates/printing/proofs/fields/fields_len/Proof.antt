@@ -1,16 +1,16 @@
--- `faces::fields_len` meets its contract: what is counted and what is left make the whole. Assumes nothing.
+-- `fields::fields_len` meets its contract: what is counted and what is left make the whole. Assumes nothing.
 use mathlib.Core.Path.{ap, _≡_}
 use Prim.Native.Nat.{_≤_, _-_, _+_}
 use native.Mathlib.Omega.{arith}
 use lib.Seq.{slice, length-slice}
 use lib.ListN.{length-append, length, getD}
 use borrow.Author.Needs.{needs}
 use Rattle.printing.specs.Fields.{field, fields}
 use Rattle.printing.proofs.Digits.{digits-length}
 use Rattle.printing.proofs.Bounds.{fields-length}
-use Rattle.listing.proofs.Runs.{fields-rest, fields-end}
-use Rattle.listing.proofs.faces.fields_len.Statement.{statement}
-use Rattle.listing.proofs.faces.fields_len.Tie as tie
+use Rattle.printing.proofs.FieldText.{fields-rest, fields-end}
+use Rattle.printing.proofs.fields.fields_len.Statement.{statement}
+use Rattle.printing.proofs.fields.fields_len.Tie as tie
 
 abbrev Inv-loop : tie.InvT-loop
 Inv-loop words from to k₀ i₀ k i = (i ≤ to) × (from ≤ i) × (k + length (fields (slice i to words)) ≡ length (fields (slice from to words)))

@@ -1,14 +1,14 @@
--- `faces::put_fields` meets its contract, field by field. Assumes nothing.
+-- `fields::put_fields` meets its contract, field by field. Assumes nothing.
 use Prim.Native.Nat.{_≤_, _-_, _+_}
 use native.Mathlib.Omega.{arith}
 use lib.Seq.{slice}
 use lib.ListN.{getD}
 use borrow.Author.Needs.{needs}
 use Rattle.printing.specs.Fields.{field, fields}
 use Rattle.printing.proofs.Placing.{Left, left-start, left-step, left-fits, left-done}
-use Rattle.listing.proofs.Runs.{fields-rest, fields-end}
-use Rattle.listing.proofs.faces.put_fields.Statement.{statement}
-use Rattle.listing.proofs.faces.put_fields.Tie as tie
+use Rattle.printing.proofs.FieldText.{fields-rest, fields-end}
+use Rattle.printing.proofs.fields.put_fields.Statement.{statement}
+use Rattle.printing.proofs.fields.put_fields.Tie as tie
 
 abbrev Inv-loop : tie.InvT-loop
 Inv-loop words from to buf₀ at cur₀ i₀ buf cur i = (i ≤ to) × (from ≤ i) × Left at (fields (slice from to words)) buf₀ cur (fields (slice i to words)) buf
