@@ -21,7 +21,7 @@ use Rattle.sweep.specs.Sweep.{sweepOutcome}
 use Rattle.points.specs.Move.{moveOutcome}
 use Rattle.file.specs.declared.Header.{Header}
 use Rattle.file.specs.Read.{readOutcome}
-use Rattle.listing.specs.Decimal.{digit, digits, digitsUpTo}
+use Rattle.printing.specs.Decimal.{digit, digits, digitsUpTo}
 use Rattle.listing.specs.Listing.{listText, listOutcome}
 use Rattle.marking.specs.Key.{inputLimit, byteRoom, thenCall, readIn, wingIn, sweepIn, moveIn, listIn, callsOn, keyOutcome, spoken, printed, textOutcome, textBuffer}
 use Rattle.marking.proofs.Staged.{list-long}

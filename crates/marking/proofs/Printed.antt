@@ -28,7 +28,8 @@ use Rattle.file.specs.Read.{numbersOk, headerOf, fileWords, readOutcome, readCe
 use Rattle.file.proofs.Outcomes.{right-length, rooms-parts}
 use Rattle.file.proofs.Parts.{points-length}
 use Rattle.file.proofs.Stores.{words-count}
-use Rattle.listing.specs.Placed.{Put, placed}
+use Rattle.words.specs.Placed.{placed}
+use Rattle.printing.specs.Put.{Put}
 use Rattle.marking.specs.Key.{inputLimit, byteRoom, wordRoom, floatRoom, readIn, keyOutcome, spoken, printed, textOutcome, textBuffer}
 use Rattle.marking.specs.Stages.{counted, left, listKey, movedKey, sweptKey, wingedKey}
 

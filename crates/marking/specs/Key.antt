@@ -21,7 +21,7 @@ use Rattle.file.specs.declared.Header.{Header}
 use Rattle.file.specs.File.{filePoints}
 use Rattle.file.specs.Read.{ReadInput, fileWords, readOutcome}
 use Rattle.listing.specs.Listing.{ListInput, listText, listOutcome}
-use Rattle.listing.specs.Decimal.{digits}
+use Rattle.printing.specs.Decimal.{digits}
 
 abbrev pub inputLimit : ℕ
 inputLimit = 65536

@@ -11,7 +11,7 @@ use Rattle.points.specs.Step.{inRange, onCircle, stepFits, addAt, turned, moved
 use Rattle.points.specs.Move.{movedLevels, moveRules, moveOutcome, moveBuffer}
 use Rattle.file.specs.File.{filePoints, fileCells}
 use Rattle.file.specs.Read.{readRules, headerOf, fileWords, readOutcome, readCells, readPoints}
-use Rattle.listing.specs.Decimal.{digits, thousandths, coordinate}
+use Rattle.printing.specs.Decimal.{digits, thousandths, coordinate}
 use Rattle.listing.specs.Lines.{firstLine, vertexLine, faceLine, keyText}
 use Rattle.listing.specs.Listing.{listText, listRules, listOutcome, listBuffer}
 use Rattle.winged.specs.Host.{hostWingOutcome, hostWing, hostWingBuffer, hostSweepOutcome, hostSweep, hostSweepBuffer, hostFacesOutcome, hostFaces, hostFacesBuffer}

@@ -13,7 +13,7 @@ use Rattle.complex.specs.Wing.{wingOutcome}
 use Rattle.sweep.specs.Sides.{side, sidePair}
 use Rattle.sweep.specs.Sweep.{sweepOutcome}
 use Rattle.boundary.specs.Faces.{facesOutcome, boundaryCells}
-use Rattle.listing.specs.Decimal.{coordinate}
+use Rattle.printing.specs.Decimal.{coordinate}
 use Rattle.marking.specs.Key.{printed}
 use Rattle.theorems.specs.Shorthand.{cellOf, entry, listed, toWing, swept, sweptEntries, facesOfSwept}
 

@@ -5,9 +5,9 @@ use native.Mathlib.Omega.{arith}
 use borrow.Author.Needs.{needs}
 use lib.ListN.{length-append}
 use Rattle.words.specs.Text.{ascii}
-use Rattle.listing.specs.Decimal.{digits}
-use Rattle.listing.proofs.Digits.{digits-length}
-use Rattle.listing.proofs.Placing.{Left, left-start, left-step, left-last, left-fits}
+use Rattle.printing.specs.Decimal.{digits}
+use Rattle.printing.proofs.Digits.{digits-length}
+use Rattle.printing.proofs.Placing.{Left, left-start, left-step, left-last, left-fits}
 use Rattle.marking.proofs.key.put_refused.Statement.{statement}
 use Rattle.marking.proofs.key.put_refused.Tie as tie
 
