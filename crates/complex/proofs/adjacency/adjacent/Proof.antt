@@ -30,7 +30,7 @@ returns-2 c =
     , λ z. found-wings (a .d) (a .s) (a .rows .now) (a .signs .now) (s .pre .0 .0) (s .pre .0 .1) (s .pre .0 .2) [] 0 (sym (ap (λ (d : ℕ). faceCount d (a .s)) (c .before .before .if1 .taken))) (λ g l. absurd (not-suc-le-zero l)) refl (a .wings .now) (a .wings .now) (s .pre .1) (s .pre .0 .3) refl)
 
 add-k : tie.Need-add-k
-add-k c = search needs
+add-k c = omega arith
 
 earlier-equal-requires : tie.Need-earlier-equal-requires
 earlier-equal-requires c κs =

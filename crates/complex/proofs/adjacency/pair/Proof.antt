@@ -4,7 +4,6 @@ use mathlib.Core.Path.{_≡_, refl, ap, _∙_, subst}
 use Prim.Native.Nat.{ℕ, _+_, _*_, _/_, _-_, _≤_, _<_}
 use native.Mathlib.Nat.{div-le-self, div-lt-iff-lt-mul}
 use native.Mathlib.Omega.{arith}
-use borrow.Author.Needs.{needs}
 use Rattle.complex.specs.Pairing.{Pairing}
 use Rattle.complex.proofs.Quotients.{cell-of-key}
 use Rattle.complex.proofs.Seeing.{pairing-long, pairing-more, pairing-none}
@@ -20,7 +19,7 @@ abbrev μ-loop : tie.MeasureT-loop
 μ-loop n k rows signs prev wings₀ part found₀ here₀ g₀ wings found here g = n - g
 
 div-part : tie.Need-div-part Inv-loop μ-loop
-div-part c = search needs
+div-part c = omega arith
 
 add-part : tie.Need-add-part Inv-loop μ-loop
 add-part c = omega (arith, div-le-self 1048576 (c .args .k))
@@ -53,10 +52,10 @@ next-requires c κs =
     (l .inv .2, s .pre .1, small (c .before .before))
 
 add-g : tie.Need-add-g Inv-loop μ-loop
-add-g c = search needs
+add-g c = omega arith
 
 loop-less : tie.Need-loop-less Inv-loop μ-loop
-loop-less c = search needs
+loop-less c = omega arith
 
 loop-again : tie.Need-loop-again Inv-loop μ-loop
 loop-again c =

@@ -11,10 +11,10 @@ use Rattle.complex.proofs.adjacency.pair_at.Statement.{statement}
 use Rattle.complex.proofs.adjacency.pair_at.Tie as tie
 
 mul-wide : tie.Need-mul-wide
-mul-wide c = search needs
+mul-wide c = omega arith
 
 element-copy-out-wide : tie.Need-element-copy-out-wide
-element-copy-out-wide c = search needs
+element-copy-out-wide c = omega arith
 
 wide-requires : tie.Need-wide-requires
 wide-requires c κs = search needs
@@ -44,19 +44,19 @@ cast-wings : tie.Need-cast-wings
 cast-wings c = omega (arith, other c)
 
 mul-wings : tie.Need-mul-wings
-mul-wings c = search needs
+mul-wings c = omega arith
 
 element-write-wings : tie.Need-element-write-wings
-element-write-wings c = search needs
+element-write-wings c = omega arith
 
 cast-wings-2 : tie.Need-cast-wings-2
 cast-wings-2 c = omega (arith, small (c .before .before .before .before))
 
 mul-wings-2 : tie.Need-mul-wings-2
-mul-wings-2 c = search needs
+mul-wings-2 c = omega arith
 
 element-write-wings-2 : tie.Need-element-write-wings-2
-element-write-wings-2 c = search needs
+element-write-wings-2 c = omega arith
 
 meet-requires : tie.Need-meet-requires
 meet-requires c κs = (small (c .before .before .before .before), other c, omega arith)

@@ -4,7 +4,6 @@ use mathlib.Core.Path.{_≡_, sym, _∙_}
 use Prim.Native.Nat.{ℕ, _-_, _≤_, _<_}
 use native.Mathlib.Omega.{arith}
 use borrow.Author.Count.{below-none, below-more}
-use borrow.Author.Needs.{needs}
 use Rattle.complex.specs.Held.{falls, fallsAt}
 use Rattle.complex.specs.Scan.{anyBelow}
 use Rattle.complex.proofs.Below.{any-below, below-not, none-below, some-below}
@@ -31,10 +30,10 @@ returns c =
     sym (any-below (falls (a .d) (a .rows .now)) (a .s) (f .0) (f .1) (any-below (fallsAt (a .rows .now) (f .0)) (a .d) j (c .before .before .loop-test .taken) (f .2)))
 
 add-j : tie.Need-add-j Inv-loop μ-loop
-add-j c = search needs
+add-j c = omega arith
 
 loop-less : tie.Need-loop-less Inv-loop μ-loop
-loop-less c = search needs
+loop-less c = omega arith
 
 loop-again : tie.Need-loop-again Inv-loop μ-loop
 loop-again c = (omega arith, below-more _ _ (c .before .before .before .loop .inv .1) (sym (c .before .column-falls .ensures) ∙ c .if1 .left))

@@ -3,7 +3,6 @@ use mathlib.Core.List.{List}
 use mathlib.Core.Path.{_≡_, sym, ap, _∙_}
 use Prim.Native.Nat.{ℕ, _+_, _*_, _-_, _≤_}
 use native.Mathlib.Omega.{arith}
-use borrow.Author.Needs.{needs}
 use lib.ListN.{length}
 use Rattle.words.specs.Placed.{placed}
 use Rattle.words.specs.Records.{concat, tabulate}
@@ -32,10 +31,10 @@ write-record-requires c κs =
     (omega arith, omega arith, omega (arith, record-fits (recordSize (a .d)) (l .p) (a .s) (c .before .loop-test .taken), l .inv .2))
 
 add-at : tie.Need-add-at Inv-loop μ-loop
-add-at c = search needs
+add-at c = omega arith
 
 add-at-2 : tie.Need-add-at-2 Inv-loop μ-loop
-add-at-2 c = search needs
+add-at-2 c = omega arith
 
 add-at-3 : tie.Need-add-at-3 Inv-loop μ-loop
 add-at-3 c =
@@ -44,10 +43,10 @@ add-at-3 c =
     omega (arith, record-fits (recordSize (a .d)) (l .p) (a .s) (c .before .before .before .before .loop-test .taken))
 
 add-p : tie.Need-add-p Inv-loop μ-loop
-add-p c = search needs
+add-p c = omega arith
 
 loop-less : tie.Need-loop-less Inv-loop μ-loop
-loop-less c = search needs
+loop-less c = omega arith
 
 loop-again : tie.Need-loop-again Inv-loop μ-loop
 loop-again c =
@@ -62,7 +61,7 @@ loop-again c =
     (omega arith, omega (arith, record-next (recordSize (a .d)) (l .p)), more .long, more .words)
 
 same-length : tie.Need-same-length Inv-loop μ-loop
-same-length c = search needs
+same-length c = omega arith
 
 returns : tie.Need-returns Inv-loop μ-loop
 unfolding heldWords

@@ -3,7 +3,6 @@ use mathlib.Core.Path.{_≡_, sym, ap, _∙_}
 use Prim.Native.Nat.{ℕ, _*_, _-_, _≤_, _<_}
 use native.Mathlib.Omega.{arith}
 use borrow.Author.Count.{below-none, below-more}
-use borrow.Author.Needs.{needs}
 use borrow.Author.Tests.{not-true, not-false}
 use Rattle.simplex.proofs.Rows.{sameRow-true}
 use Rattle.simplex.specs.Cell.{sameRow}
@@ -36,10 +35,10 @@ returns c =
     (ap (λ (i : ℕ). sameRow (run (recordSize (a .d)) i (a .table .now)) (recordHeld (a .d) (a .rows .now) (a .signs .now) (a .wings .now) (l .p))) (sym (l .inv .1)) ∙ sym (c .before .same-record .ensures) ∙ not-true _ (c .if1 .taken)))
 
 add-at : tie.Need-add-at Inv-loop μ-loop
-add-at c = search needs
+add-at c = omega arith
 
 add-at-2 : tie.Need-add-at-2 Inv-loop μ-loop
-add-at-2 c = search needs
+add-at-2 c = omega arith
 
 add-at-3 : tie.Need-add-at-3 Inv-loop μ-loop
 add-at-3 c =
@@ -48,10 +47,10 @@ add-at-3 c =
     omega (arith, record-fits (recordSize (a .d)) (l .p) (a .s) (c .before .before .loop-test .taken), c .before .before .before .before .before .pre .2)
 
 add-p : tie.Need-add-p Inv-loop μ-loop
-add-p c = search needs
+add-p c = omega arith
 
 loop-less : tie.Need-loop-less Inv-loop μ-loop
-loop-less c = search needs
+loop-less c = omega arith
 
 loop-again : tie.Need-loop-again Inv-loop μ-loop
 loop-again c =

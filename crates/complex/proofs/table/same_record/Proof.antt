@@ -13,16 +13,16 @@ use Rattle.complex.proofs.table.same_record.Statement.{statement}
 use Rattle.complex.proofs.table.same_record.Tie as tie
 
 add-k : tie.Need-add-k
-add-k c = search needs
+add-k c = omega arith
 
 mul-if1 : tie.Need-mul-if1
-mul-if1 c = search needs
+mul-if1 c = omega arith
 
 shared-slice-read-if1 : tie.Need-shared-slice-read-if1
-shared-slice-read-if1 c = search needs
+shared-slice-read-if1 c = omega arith
 
 element-copy-out-sign-word : tie.Need-element-copy-out-sign-word
-element-copy-out-sign-word c = search needs
+element-copy-out-sign-word c = omega arith
 
 sign-word-requires : tie.Need-sign-word-requires
 sign-word-requires c κs = search needs
@@ -33,10 +33,10 @@ returns c =
     sym (record-same (a .d) (a .rows .now) (a .signs .now) (a .wings .now) (a .p) (a .at) (a .table .now) ∙ rw (ne-eqb _ _ (λ e. c .if1 .taken (e ∙ sym (c .before .sign-word .ensures)))) refl)
 
 mul-same-run : tie.Need-mul-same-run
-mul-same-run c = search needs
+mul-same-run c = omega arith
 
 add-same-run : tie.Need-add-same-run
-add-same-run c = search needs
+add-same-run c = omega arith
 
 same-run-requires : tie.Need-same-run-requires
 same-run-requires c κs = search needs
@@ -47,10 +47,10 @@ mul-same-run-2 c =
     omega (arith, mul-le-mul-right {m = a .p} {n = 4095} (a .d + 1) (omega arith))
 
 add-same-run-2 : tie.Need-add-same-run-2
-add-same-run-2 c = search needs
+add-same-run-2 c = omega arith
 
 add-same-run-3 : tie.Need-add-same-run-3
-add-same-run-3 c = search needs
+add-same-run-3 c = omega arith
 
 same-run-requires-2 : tie.Need-same-run-requires-2
 same-run-requires-2 c κs =

@@ -13,25 +13,25 @@ use Rattle.complex.proofs.table.write_record.Statement.{statement}
 use Rattle.complex.proofs.table.write_record.Tie as tie
 
 add-k : tie.Need-add-k
-add-k c = search needs
+add-k c = omega arith
 
 element-copy-out-sign-word : tie.Need-element-copy-out-sign-word
-element-copy-out-sign-word c = search needs
+element-copy-out-sign-word c = omega arith
 
 sign-word-requires : tie.Need-sign-word-requires
 sign-word-requires c κs = search needs
 
 mul-table : tie.Need-mul-table
-mul-table c = search needs
+mul-table c = omega arith
 
 slice-write-table : tie.Need-slice-write-table
-slice-write-table c = search needs
+slice-write-table c = omega arith
 
 mul-copy-run : tie.Need-mul-copy-run
-mul-copy-run c = search needs
+mul-copy-run c = omega arith
 
 add-copy-run : tie.Need-add-copy-run
-add-copy-run c = search needs
+add-copy-run c = omega arith
 
 copy-run-requires : tie.Need-copy-run-requires
 copy-run-requires c κs = (omega arith, omega arith, omega (arith, length-set (c .before .before .before .before .args .table .now) (c .before .before .before .before .args .at) (c .before .sign-word .result)))
@@ -42,10 +42,10 @@ mul-copy-run-2 c =
     omega (arith, mul-le-mul-right {m = a .p} {n = 4095} (a .d + 1) (omega arith))
 
 add-copy-run-2 : tie.Need-add-copy-run-2
-add-copy-run-2 c = search needs
+add-copy-run-2 c = omega arith
 
 add-copy-run-3 : tie.Need-add-copy-run-3
-add-copy-run-3 c = search needs
+add-copy-run-3 c = omega arith
 
 copy-run-requires-2 : tie.Need-copy-run-requires-2
 copy-run-requires-2 c κs =
