@@ -1,14 +1,14 @@
 -- Two cells with the same row, told from their faces: where no face is in three cells, each face of the later one was
 -- seen before at the same face of the earlier one. The face at position 0 and the first vertex tell the row.
 --   Heads rows cs     record p of rows, eight words each, begins with the first vertex of cell p
-use mathlib.Core.Path.{_≡_, refl, sym, ap, ap₂, _∙_, subst}
-use mathlib.Core.Bool.{Bool, true, false, _&&_}
+use mathlib.Core.Path.{_≡_, refl, sym, ap, ap₂, _∙_}
+use mathlib.Core.Bool.{Bool, true, false}
 use mathlib.Core.List.{List, [], _∷_}
-use Prim.Native.Nat.{ℕ, zero, suc, _+_, _*_, _/_, _%_, _≤_, _<_}
+use Prim.Native.Nat.{ℕ, suc, _+_, _*_, _/_, _%_, _≤_, _<_}
 use native.Mathlib.Omega.{arith}
 use native.Mathlib.Decide.{decLt}
-use native.Mathlib.Nat.{add-zero, div-add-mod', mul-le-mul-right}
-use lib.Dec.{eqb, ltb}
+use native.Mathlib.Nat.{div-add-mod', mul-le-mul-right}
+use lib.Dec.{eqb}
 use lib.ListN.{length, getD}
 use borrow.Author.Tests.{eq-eqb, eqb-true}
 use Rattle.rules.proofs.Tests.{and-parts}

@@ -4,7 +4,7 @@ use crate::adjacency::product;
 use crate::adjacency::wide;
 use simplex::sort::sort_row;
 ghost use mathlib.Core.Path.{_≡_};
-ghost use Prim.Native.Nat.{ℕ, suc, _+_, _*_, _<_, _≤_};
+ghost use Prim.Native.Nat.{ℕ, _+_, _*_, _<_, _≤_};
 ghost use lib.ListN.{length, take, drop};
 ghost use lib.Seq.{paste};
 ghost use Rattle.simplex.specs.Order.{ascending};
