@@ -2,12 +2,10 @@
 --   lines-rest, lines-end         of the lines f 0, f 1, ..
 --   point-within                  point p is among the floats
 --   points-rest, points-end       of the coordinates of point p
---   sign-even, sign-odd           the signs of faces alternate
 -- Assumes nothing.
-use mathlib.Core.Path.{_≡_, refl, sym, ap, _∙_, subst}
-use mathlib.Core.Bool.{true, false, not}
+use mathlib.Core.Path.{_≡_, sym, ap, _∙_, subst}
 use mathlib.Core.List.{List, [], _∷_, _++_, map}
-use Prim.Native.Nat.{ℕ, zero, suc, _+_, _-_, _*_, _%_, _≤_, _<_}
+use Prim.Native.Nat.{ℕ, suc, _+_, _-_, _*_, _≤_, _<_}
 use native.Mathlib.Nat.{suc-mul, mul-le-mul-right}
 use native.Mathlib.Numerals.{add-one}
 use native.Mathlib.Omega.{arith}
@@ -16,7 +14,6 @@ use lib.Ieee.{Float, nan}
 use lib.Seq.{drop-cons, length-take-le, getD-take, getD-drop}
 use Rattle.words.specs.Records.{tabulate, part, concat}
 use Rattle.words.proofs.Records.{tabulate-length, tabulate-at}
-use Rattle.simplex.specs.Cell.{alternating}
 use Rattle.printing.specs.Decimal.{coordinate}
 use Rattle.printing.specs.Fields.{pointField, restOfLine}
 
@@ -56,19 +53,3 @@ module _ (n p : ℕ) (ps : List Float) (within : p * n + n ≤ length ps) where
 
   pub points-end : (j : ℕ) → n ≤ j → leftOf j ≡ 10 ∷ []
   points-end j h = ap (λ (xs : List Float). restOfLine (map coordinate xs)) (part-end nan n p ps j h within)
-
-alternates : (i : ℕ) → (i % 2 ≡ 0 → alternating i ≡ true) × ((i % 2 ≡ 0 → ⊥) → alternating i ≡ false)
-alternates zero = (λ e. refl, λ e. absurd (e refl))
-alternates (suc i) = (
-  λ e. ap not (alternates i .1 (λ h. omega arith)),
-  λ e. ap not (alternates i .0 (odd-next i e)),
-)
-  where
-    odd-next : (i : ℕ) → (suc i % 2 ≡ 0 → ⊥) → i % 2 ≡ 0
-    odd-next i e = omega arith
-
-pub sign-even : (i : ℕ) → i % 2 ≡ 0 → alternating i ≡ true
-sign-even i = alternates i .0
-
-pub sign-odd : (i : ℕ) → (i % 2 ≡ 0 → ⊥) → alternating i ≡ false
-sign-odd i = alternates i .1
