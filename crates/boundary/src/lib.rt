@@ -4,7 +4,7 @@ ghost use lib.ListN.{length};
 ghost use Rattle.rules.specs.Numbers.{outcomeOf};
 ghost use Rattle.boundary.specs.Faces.{facesOutcome, facesBuffer};
 ghost use Rattle.boundary.specs.Written.{facesInput};
-use complex::sound::is_sound;
+use adjacency::sound::is_sound;
 use rules::refusal::Answer;
 use rules::refusal::Refusal;
 use crate::limits::in_limits;

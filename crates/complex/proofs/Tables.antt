@@ -17,10 +17,10 @@ use Rattle.simplex.specs.Cell.{Cell, Row, Sign, cell}
 use Rattle.simplex.specs.Faces.{faces, prefixed, without}
 use Rattle.simplex.proofs.Counts.{All}
 use Rattle.simplex.proofs.Rows.{Long}
+use Rattle.simplex.proofs.Without.{without-length}
 use Rattle.complex.specs.Layout.{Entry}
 use Rattle.complex.specs.Table.{entriesFrom, entryAt, tableOf, wingAt}
 use Rattle.complex.specs.Wings.{neighbour, neighbourFrom, wingsOf}
-use Rattle.complex.proofs.Kept.{without-length}
 use Rattle.complex.proofs.Neighbours.{Wing, has-is, neighbour-is}
 use Rattle.complex.proofs.Solid.{all-at, rowAt}
 

@@ -1,8 +1,1 @@
-// Solids and their tables.
-mod adjacency;
-mod gather;
-mod matching;
-pub mod sound;
-mod table;
-mod take;
-pub mod wing;
+// Solids and their tables: definitions and laws, no code.

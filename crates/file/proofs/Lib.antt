@@ -6,4 +6,3 @@ pub mod Mark
 pub mod Stores
 pub mod Range
 pub mod StepKinds
-pub mod Outcomes

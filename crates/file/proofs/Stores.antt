@@ -20,7 +20,7 @@ use Rattle.words.proofs.Loops.{drop-next, sets-append}
 use Rattle.simplex.specs.Cell.{Cell}
 use Rattle.complex.specs.Layout.{listSize, cellWords, signWord}
 use Rattle.file.specs.File.{dimensionOf, cellCountOf, fileLength, fileCells}
-use Rattle.file.specs.Read.{cellsLength, fileWords}
+use Rattle.file.specs.Tests.{cellsLength, fileWords}
 use Rattle.file.proofs.Parts.{cellPlace, noCell, cells-length, words-at}
 
 -- a word is stored, and then others after it

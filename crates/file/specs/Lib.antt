@@ -1,3 +1,3 @@
 -- Files of solids, byte by byte, and the call read.
 pub mod File
-pub mod Read
+pub mod Tests

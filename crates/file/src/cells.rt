@@ -15,7 +15,7 @@ ghost use Rattle.rules.specs.Calls.{written};
 ghost use Rattle.complex.specs.Layout.{signWord};
 ghost use Rattle.complex.specs.Accept.{vertexBeyond, vertexTwice, repeats};
 ghost use Rattle.file.specs.File.{headerSize, dimensionOf, vertexCountOf, cellCountOf, cellsStart, cellBytes, fileLength, signBytes, fileCells};
-ghost use Rattle.file.specs.Read.{cellsLength, fileWords};
+ghost use Rattle.file.specs.Tests.{cellsLength, fileWords};
 
 // Where cell p stands.
 fn cell_at(b: &[u8], p: usize) -> usize

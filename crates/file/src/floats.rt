@@ -11,7 +11,7 @@ ghost use Rattle.words.specs.Bytes.{float64};
 ghost use Rattle.rules.specs.Calls.{written};
 ghost use Rattle.points.specs.Step.{inRange};
 ghost use Rattle.file.specs.File.{headerSize, amountOf, pointCount, fileLength, filePoints};
-ghost use Rattle.file.specs.Read.{floatsOk};
+ghost use Rattle.file.specs.Tests.{floatsOk};
 
 // Whether the float at a place is finite, and of magnitude below 1,048,576. An exponent field of 2047 is an infinity's
 // or a NaN's.

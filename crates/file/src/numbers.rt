@@ -9,7 +9,7 @@ ghost use lib.Dec.{eqb};
 ghost use lib.ListN.{length, getD, take};
 ghost use Rattle.simplex.specs.Cell.{sameRow};
 ghost use Rattle.file.specs.File.{headerSize, dimensionOf, axesOf, vertexCountOf, cellCountOf, stepsOf, pointCount, cellBytes, fileLength};
-ghost use Rattle.file.specs.Read.{notOurs, numbersFit, numbersOk};
+ghost use Rattle.file.specs.Tests.{notOurs, numbersFit, numbersOk};
 
 fn wide(x: u8) -> usize
     ensures { λ r. ⌜ (r ≡ x) × (r < 256) ⌝ }

@@ -16,11 +16,11 @@ use borrow.Author.Tests.{le-ltb}
 use Rattle.words.specs.Text.{ascii}
 use Rattle.rules.specs.Calls.{Outcome, accepted, refused, after}
 use Rattle.rules.proofs.Accepting.{front-of}
-use Rattle.complex.specs.Wing.{wingOutcome}
+use Rattle.wing.specs.Wing.{wingOutcome}
 use Rattle.sweep.specs.Sweep.{sweepOutcome}
-use Rattle.points.specs.Move.{moveOutcome}
-use Rattle.file.specs.declared.Header.{Header}
-use Rattle.file.specs.Read.{readOutcome}
+use Rattle.motion.specs.Move.{moveOutcome}
+use Rattle.read.specs.declared.Header.{Header}
+use Rattle.read.specs.Read.{readOutcome}
 use Rattle.printing.specs.Decimal.{digit, digits, digitsUpTo}
 use Rattle.listing.specs.Listing.{listText, listOutcome}
 use Rattle.marking.specs.Key.{inputLimit, byteRoom, thenCall, readIn, wingIn, sweepIn, moveIn, listIn, callsOn, keyOutcome, spoken, printed, textOutcome, textBuffer}

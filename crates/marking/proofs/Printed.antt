@@ -22,10 +22,11 @@ use Rattle.rules.specs.Shapes.{shapeOk}
 use Rattle.rules.specs.Calls.{Outcome, accepted, refused, after}
 use Rattle.rules.proofs.Accepting.{accepted-by, front-of}
 use Rattle.rules.proofs.Tests.{and-parts}
-use Rattle.file.specs.declared.Header.{Header}
+use Rattle.read.specs.declared.Header.{Header}
 use Rattle.file.specs.File.{dimensionOf, axesOf, vertexCountOf, cellCountOf, stepsOf, kindOf, filePoints}
-use Rattle.file.specs.Read.{numbersOk, headerOf, fileWords, readOutcome, readCells, readPoints, readRules}
-use Rattle.file.proofs.Outcomes.{right-length, rooms-parts}
+use Rattle.file.specs.Tests.{numbersOk, fileWords}
+use Rattle.read.specs.Read.{headerOf, readOutcome, readCells, readPoints, readRules}
+use Rattle.read.proofs.Outcomes.{right-length, rooms-parts}
 use Rattle.file.proofs.Parts.{points-length}
 use Rattle.file.proofs.Stores.{words-count}
 use Rattle.words.specs.Placed.{placed}

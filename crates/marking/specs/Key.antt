@@ -14,12 +14,14 @@ use Rattle.words.specs.Text.{ascii}
 use Rattle.rules.specs.Limits.{sweptVertices}
 use Rattle.rules.specs.Calls.{Outcome, accepted, refused, after}
 use Rattle.complex.specs.Table.{tableOfList}
-use Rattle.complex.specs.Wing.{WingInput, wingOutcome}
-use Rattle.sweep.specs.Sweep.{SweepInput, sweptWords, sweptCells, sweepOutcome}
-use Rattle.points.specs.Move.{MoveInput, movedLevels, moveOutcome}
-use Rattle.file.specs.declared.Header.{Header}
+use Rattle.wing.specs.Wing.{WingInput, wingOutcome}
+use Rattle.prism.specs.Swept.{sweptCells}
+use Rattle.sweep.specs.Sweep.{SweepInput, sweptWords, sweepOutcome}
+use Rattle.motion.specs.Move.{MoveInput, movedLevels, moveOutcome}
+use Rattle.read.specs.declared.Header.{Header}
 use Rattle.file.specs.File.{filePoints}
-use Rattle.file.specs.Read.{ReadInput, fileWords, readOutcome}
+use Rattle.file.specs.Tests.{fileWords}
+use Rattle.read.specs.Read.{ReadInput, readOutcome}
 use Rattle.listing.specs.Listing.{ListInput, listText, listOutcome}
 use Rattle.printing.specs.Decimal.{digits}
 

@@ -12,10 +12,11 @@ use lib.Ieee.{Float}
 use Rattle.rules.specs.Limits.{sweptVertices}
 use Rattle.rules.specs.Calls.{Outcome, accepted, refused, written}
 use Rattle.complex.specs.Table.{tableOfList}
-use Rattle.complex.specs.Wing.{wingInput, wingOutcome}
-use Rattle.sweep.specs.Sweep.{sweptWords, sweptCells, sweepOutcome}
+use Rattle.wing.specs.Wing.{wingInput, wingOutcome}
+use Rattle.prism.specs.Swept.{sweptCells}
+use Rattle.sweep.specs.Sweep.{sweptWords, sweepOutcome}
 use Rattle.sweep.specs.Written.{sweepInput}
-use Rattle.points.specs.Move.{moveInput, movedLevels, moveOutcome}
+use Rattle.motion.specs.Move.{moveInput, movedLevels, moveOutcome}
 use Rattle.points.specs.declared.step.Step.{Step}
 use Rattle.listing.specs.Listing.{ListInput, listInput, listText, listOutcome}
 use Rattle.marking.specs.Key.{wordRoom, floatRoom, thenCall}

@@ -5,4 +5,3 @@ pub mod Moved
 pub mod LevelLaws
 pub mod Writing
 pub mod Staying
-pub mod MoveRules

@@ -2,4 +2,3 @@
 pub mod Step
 pub mod Levels
 pub mod Stay
-pub mod Move

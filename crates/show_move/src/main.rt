@@ -6,7 +6,6 @@
 // as one. Every place of the answer's buffer holds a mark before the call.
 //
 // A case prints 'moved' and the count, or 'refused N', and then the bits of every float of the answer's buffer.
-use points::motion;
 use points::step::Step;
 use points::step::Turn;
 use rules::refusal;

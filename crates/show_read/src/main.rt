@@ -7,8 +7,8 @@
 //
 // A case prints 'refused N', or the header's numbers, the step, the words of the cells and the bits of the points. Its
 // last line says how many words and floats behind what was written no longer hold the mark.
-use file::Header;
-use file::ReadAnswer;
+use read::Header;
+use read::ReadAnswer;
 use points::step::Step;
 use rules::refusal;
 use words::little;
@@ -179,7 +179,7 @@ fn show(bytes: &mut [u8], cells: &mut [u16], points: &mut [f64]) -> bool {
     if got < bytes.len() {
         return false;
     }
-    let answer = file::read(bytes, cells, points);
+    let answer = read::read(bytes, cells, points);
     print_answer(answer, cells, points);
     true
 }

@@ -76,3 +76,8 @@ two-faces (x ∷ v) (y ∷ u) (suc b) (suc c) (suc a) zero sv su l hc ha hz e f 
 two-faces (x ∷ v) (y ∷ u) (suc b) (suc c) (suc a) (suc z) sv su l hc ha hz e f =
     ap₂ {C = Row} (λ a b. a ∷ b) (head-eq-of-cons-eq e)
     (two-faces v u b c a z (asc-tail x v sv) (asc-tail y u su) (le-of-suc-le-suc l) (le-of-suc-le-suc hc) (le-of-suc-le-suc ha) (le-of-suc-le-suc hz) (tail-eq-of-cons-eq e) (tail-eq-of-cons-eq f))
+
+pub without-length : (a : ℕ) (w : Row) → a < length w → suc (length (without a w)) ≡ length w
+without-length a [] h = absurd (not-suc-le-zero h)
+without-length zero (x ∷ w) h = refl
+without-length (suc a) (x ∷ w) h = ap suc (without-length a w (le-of-suc-le-suc h))

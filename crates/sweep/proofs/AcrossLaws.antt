@@ -12,13 +12,13 @@ use lib.Dec.{eqb}
 use lib.ListN.{getD}
 use borrow.Author.Tests.{eq-eqb, ne-eqb, le-ltb, lt-ltb, le-leb, lt-leb, eqb-true, eqb-false}
 use Rattle.rules.specs.Limits.{empty}
-use Rattle.sweep.specs.Sides.{sidePair, sideFace, sidePlace}
+use Rattle.prism.specs.Sides.{sidePair, sideFace, sidePlace}
 use Rattle.sweep.specs.SideTable.{sidePairOf}
-use Rattle.sweep.specs.Wings.{cellNumber, backTo, wingAside, wingAbove, wingBelow, sweptWing}
+use Rattle.prism.specs.Wings.{cellNumber, backTo, wingAside, wingAbove, wingBelow, sweptWing}
 use Rattle.sweep.specs.Written.{solidWing, Ready}
 use Rattle.sweep.specs.Across.{SidesFit, Across, sideCell, sideWord, wingWord}
 use Rattle.sweep.proofs.Bounds.{number-inside}
-use Rattle.sweep.proofs.SideLaws.{side-of-position, side-bounds}
+use Rattle.prism.proofs.SideLaws.{side-of-position, side-bounds}
 use Rattle.sweep.proofs.WingWords.{pair-cell}
 
 -- the pair at place l over face b, and the row of no neighbour

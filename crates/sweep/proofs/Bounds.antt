@@ -6,9 +6,9 @@ use Prim.Native.Nat.{ℕ, suc, _+_, _*_, _≤_, _<_}
 use native.Mathlib.Nat.{mul-le-mul-right, suc-mul}
 use native.Mathlib.Omega.{arith}
 use Rattle.rules.specs.Limits.{sweptVertices}
-use Rattle.sweep.specs.Cells.{atLevel}
-use Rattle.sweep.specs.Sweep.{sweptCells}
-use Rattle.sweep.specs.Wings.{cellNumber}
+use Rattle.prism.specs.Cells.{atLevel}
+use Rattle.prism.specs.Swept.{sweptCells}
+use Rattle.prism.specs.Wings.{cellNumber}
 use Rattle.sweep.proofs.TableWords.{inside}
 
 module _ (d s h i p k : ℕ) (hi : i < h) (hp : p < s) (hk : k ≤ d) where

@@ -1,26 +1,12 @@
--- Laws of the sweep.
-pub mod SideLaws
-pub mod SideTable
-pub mod Prism
-pub mod Level
-pub mod SweptSums
-pub mod PrismCounts
-pub mod Decode
-pub mod FaceBounds
-pub mod FaceKinds
-pub mod Pairs
-pub mod SweptRows
-pub mod Meeting
-pub mod SweptSolid
-pub mod SweptWings
-pub mod SweptTable
-pub mod TableWords
-pub mod Bounds
-pub mod WingWords
-pub mod RecordLaws
-pub mod SweptWords
-pub mod Pieces
+-- Laws of the words that sweep writes, and of its rules.
 pub mod AcrossLaws
-pub mod SoundTable
-pub mod Outcomes
+pub mod Bounds
 pub mod InLimits
+pub mod Outcomes
+pub mod Pieces
+pub mod RecordLaws
+pub mod SideTable
+pub mod SoundTable
+pub mod SweptWords
+pub mod TableWords
+pub mod WingWords

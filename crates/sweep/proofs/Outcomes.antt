@@ -17,7 +17,8 @@ use Rattle.rules.specs.Calls.{accepted, refused}
 use Rattle.complex.specs.Layout.{tableLength}
 use Rattle.complex.specs.Table.{sound}
 use Rattle.complex.proofs.Tests.{or-false}
-use Rattle.sweep.specs.Sweep.{SweepInput, sweptCells, sweptLength, sweepRules, sweepOutcome, sweepBuffer, sweptWords}
+use Rattle.prism.specs.Swept.{sweptCells}
+use Rattle.sweep.specs.Sweep.{SweepInput, sweptLength, sweepRules, sweepOutcome, sweepBuffer, sweptWords}
 
 -- the tests of the five rows
 module _ (i : SweepInput) where

@@ -18,8 +18,8 @@ use Rattle.words.proofs.Records.{tabulate-at, tabulate-length}
 use Rattle.simplex.specs.Cell.{Cell, Row, times, alternating}
 use Rattle.complex.specs.Layout.{Entry, recordSize, listSize, tableLength, signOf, signWord, cellWords}
 use Rattle.complex.specs.Table.{entryAt}
-use Rattle.sweep.specs.Cells.{atLevel, lifted, dimension, prismCell}
-use Rattle.sweep.specs.Wings.{sweptWing}
+use Rattle.prism.specs.Cells.{atLevel, lifted, dimension, prismCell}
+use Rattle.prism.specs.Wings.{sweptWing}
 use Rattle.sweep.specs.Written.{solidEntries, solidWing, solidVertex, recordWords}
 use Rattle.sweep.specs.RecordWords.{solidSign, turnedSign, sweptVertex, liftedFrom}
 use Rattle.sweep.proofs.TableWords.{solid-entry, solid-row-long}

@@ -14,9 +14,9 @@ use borrow.Author.Tests.{eqb-true, leb-true, ltb-true}
 use Rattle.words.specs.Records.{tabulate}
 use Rattle.rules.specs.Limits.{maxSource}
 use Rattle.rules.proofs.Tests.{and-parts, allBelow, holds-below}
-use Rattle.sweep.specs.Sides.{Side, side, firstSide, nextSide, sidePair, allSides}
+use Rattle.prism.specs.Sides.{Side, side, firstSide, nextSide, sidePair, allSides}
 use Rattle.sweep.specs.SideTable.{sideOffset, sideIndex}
-use Rattle.sweep.proofs.SideLaws.{Bounded}
+use Rattle.prism.proofs.SideLaws.{Bounded}
 
 abbrev pub pairAt : ℕ → ℕ → ℕ → Side
 pairAt d a l = side (getD allSides (sideIndex d a l) 0) (getD allSides (sideIndex d a l + 1) 0)

@@ -29,11 +29,11 @@ use Rattle.complex.proofs.OwnTable.{entries-of-words}
 use Rattle.complex.proofs.Solid.{Solid, all-at, rowAt}
 use Rattle.complex.proofs.Symmetric.{wing, wings-symmetric}
 use Rattle.complex.proofs.Tables.{table-at, table-wing}
-use Rattle.sweep.specs.Sweep.{sweptCells}
-use Rattle.sweep.specs.Wings.{backTo}
+use Rattle.prism.specs.Swept.{sweptCells}
+use Rattle.prism.specs.Wings.{backTo}
 use Rattle.sweep.specs.Written.{solidEntries, solidVertex, solidWing, Ready}
 use Rattle.words.proofs.Placed.{concat-tabulate-length}
-use Rattle.sweep.proofs.SweptWings.{back-is}
+use Rattle.prism.proofs.SweptWings.{back-is}
 use Rattle.sweep.proofs.TableWords.{part-long}
 
 -- the entries ws are those of the table of the cells of a solid

@@ -13,7 +13,8 @@ use lib.ListN.{length}
 use Rattle.words.specs.Records.{tabulate, concat}
 use Rattle.words.proofs.Records.{tabulate-ext, tabulate-map}
 use Rattle.complex.specs.Layout.{entriesOf, entryWords, tableWords, tableLength, recordSize}
-use Rattle.sweep.specs.Sweep.{sweptEntry, sweptTable, sweptWords, sweptLength}
+use Rattle.prism.specs.Swept.{sweptEntry, sweptTable}
+use Rattle.sweep.specs.Sweep.{sweptWords, sweptLength}
 use Rattle.sweep.specs.Written.{sweepInput, solidEntries, recordWords, prismWords, levelWords, allWords}
 use Rattle.words.proofs.Placed.{concat-tabulate-length, words-concat}
 use Rattle.sweep.proofs.RecordLaws.{record-long}

@@ -13,9 +13,9 @@ use borrow.Author.Tests.{eq-eqb, ne-eqb, le-leb, lt-ltb}
 use Rattle.rules.specs.Limits.{maxSource}
 use Rattle.simplex.specs.Cell.{alternating}
 use Rattle.simplex.proofs.Signs.{not-not}
-use Rattle.sweep.specs.Sides.{sidePair}
+use Rattle.prism.specs.Sides.{sidePair}
 use Rattle.sweep.specs.SideTable.{sidePairOf}
-use Rattle.sweep.specs.Wings.{backFrom, backTo}
+use Rattle.prism.specs.Wings.{backFrom, backTo}
 
 module _ (wing : ℕ → ℕ → ℕ) (p q d b : ℕ) where
   left-is : b ≤ d → d + 1 - b ≡ suc (d - b)

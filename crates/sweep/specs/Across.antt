@@ -12,9 +12,9 @@ use Prim.Native.Nat.{ℕ, suc, _+_, _*_, _/_, _%_, _≤_, _<_}
 use lib.Dec.{eqb, ltb}
 use lib.ListN.{getD}
 use Rattle.rules.specs.Limits.{empty}
-use Rattle.sweep.specs.Sides.{sideFace, sidePlace}
+use Rattle.prism.specs.Sides.{sideFace, sidePlace}
 use Rattle.sweep.specs.SideTable.{sidePairOf}
-use Rattle.sweep.specs.Wings.{cellNumber, backTo, wingAbove, wingBelow}
+use Rattle.prism.specs.Wings.{cellNumber, backTo, wingAbove, wingBelow}
 use Rattle.sweep.specs.Written.{solidWing}
 
 abbrev pub Holds : ℕ → (ℕ → ℕ) → List ℕ → Type 0

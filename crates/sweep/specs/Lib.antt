@@ -1,9 +1,6 @@
--- The sweep: swept cells, their numbers and wings, and the call sweep.
-pub mod Cells
-pub mod Sides
-pub mod SideTable
-pub mod Wings
+-- The call sweep, and the words that it writes.
 pub mod Sweep
 pub mod Written
 pub mod RecordWords
 pub mod Across
+pub mod SideTable

@@ -11,7 +11,7 @@ use lib.ListN.{getD}
 use Rattle.words.specs.Records.{part}
 use Rattle.simplex.specs.Cell.{times, alternating}
 use Rattle.complex.specs.Layout.{recordSize, signOf, signWord}
-use Rattle.sweep.specs.Cells.{atLevel}
+use Rattle.prism.specs.Cells.{atLevel}
 use Rattle.sweep.specs.Written.{solidVertex}
 
 abbrev pub solidSign : ℕ → List ℕ → ℕ → ℕ

@@ -6,7 +6,7 @@ use mathlib.Core.Bool.{Bool, cond, _&&_}
 use Prim.Native.Nat.{ℕ, zero, suc, _+_, _*_}
 use lib.Dec.{leb, ltb}
 use Rattle.rules.specs.Limits.{maxSource}
-use Rattle.sweep.specs.Sides.{Side, side, sidePair}
+use Rattle.prism.specs.Sides.{Side, side, sidePair}
 use Rattle.sweep.specs.declared.sides.SidePair.{SidePair}
 
 abbrev pub sideOffset : ℕ → ℕ

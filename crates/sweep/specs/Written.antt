@@ -13,8 +13,9 @@ use Rattle.words.specs.Records.{tabulate, concat}
 use Rattle.rules.specs.Limits.{empty, maxSource, maxVertices, maxCells, sweptVertices}
 use Rattle.complex.specs.Layout.{Entry, entriesOf, entryWords, tableLength}
 use Rattle.complex.specs.Table.{entryAt, wingAt}
-use Rattle.sweep.specs.Wings.{backTo}
-use Rattle.sweep.specs.Sweep.{SweepInput, sweptEntry, sweptCells}
+use Rattle.prism.specs.Wings.{backTo}
+use Rattle.prism.specs.Swept.{sweptEntry, sweptCells}
+use Rattle.sweep.specs.Sweep.{SweepInput}
 
 abbrev pub sweepInput : ℕ → ℕ → ℕ → ℕ → List ℕ → ℕ → SweepInput
 sweepInput d v s h ws room = record { d = d; v = v; s = s; h = h; table = ws; room = room }

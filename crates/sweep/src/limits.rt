@@ -6,7 +6,7 @@ ghost use lib.Dec.{ltb};
 ghost use Rattle.rules.specs.Limits.{maxSource, maxVertices, maxCells, stepsOk, sweptVertices};
 ghost use Rattle.rules.specs.Shapes.{shapeOk};
 ghost use Rattle.complex.specs.Layout.{tableLength};
-ghost use Rattle.sweep.specs.Sweep.{sweptCells};
+ghost use Rattle.prism.specs.Swept.{sweptCells};
 use rules::limits::Shape;
 use rules::limits::Shaped;
 

@@ -3,7 +3,7 @@ ghost use mathlib.Core.Path.{_≡_};
 ghost use Prim.Native.Nat.{_<_, _≤_};
 ghost use lib.ListN.{getD};
 ghost use Rattle.rules.specs.Limits.{maxSource};
-ghost use Rattle.sweep.specs.Sides.{allSides};
+ghost use Rattle.prism.specs.Sides.{allSides};
 ghost use Rattle.sweep.specs.SideTable.{sideOffset, sideIndex, sidePairOf};
 
 pub struct SidePair {

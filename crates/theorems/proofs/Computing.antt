@@ -3,14 +3,15 @@ use lib.Count.{trailingZeros}
 use lib.Ieee.{add, sub, mul, neg, lt, le, eq, ofBits}
 use Rattle.complex.specs.Accept.{solidRules, acceptable}
 use Rattle.complex.specs.Table.{tableOfList, ownTable, sound}
-use Rattle.complex.specs.Wing.{wingRules, wingOutcome, wingBuffer}
-use Rattle.sweep.specs.Sides.{allSides}
+use Rattle.wing.specs.Wing.{wingRules, wingOutcome, wingBuffer}
+use Rattle.prism.specs.Sides.{allSides}
 use Rattle.sweep.specs.Sweep.{sweepRules, sweptWords, sweepOutcome, sweepBuffer}
 use Rattle.boundary.specs.Faces.{boundaryCells, facesRules, facesOutcome, facesBuffer}
 use Rattle.points.specs.Step.{inRange, onCircle, stepFits, addAt, turned, movedPoint}
-use Rattle.points.specs.Move.{movedLevels, moveRules, moveOutcome, moveBuffer}
+use Rattle.motion.specs.Move.{movedLevels, moveRules, moveOutcome, moveBuffer}
 use Rattle.file.specs.File.{filePoints, fileCells}
-use Rattle.file.specs.Read.{readRules, headerOf, fileWords, readOutcome, readCells, readPoints}
+use Rattle.file.specs.Tests.{fileWords}
+use Rattle.read.specs.Read.{readRules, headerOf, readOutcome, readCells, readPoints}
 use Rattle.printing.specs.Decimal.{digits, thousandths, coordinate}
 use Rattle.listing.specs.Lines.{firstLine, vertexLine, faceLine, keyText}
 use Rattle.listing.specs.Listing.{listText, listRules, listOutcome, listBuffer}

@@ -22,14 +22,16 @@ use Rattle.simplex.specs.Order.{ascending}
 use Rattle.complex.specs.Accept.{listedCells, solidOf, solidRules}
 use Rattle.complex.specs.Layout.{cellOf, listSize, tableLength, tableWords}
 use Rattle.complex.specs.Table.{sound, tableOf, tableOfList}
-use Rattle.complex.specs.Wing.{WingInput, wingInput, wingOutcome, wingBuffer, wingRules}
+use Rattle.wing.specs.Wing.{WingInput, wingInput, wingOutcome, wingBuffer, wingRules}
 use Rattle.complex.proofs.Accepted.{accepted-solid}
 use Rattle.complex.proofs.OwnTable.{table-sound}
-use Rattle.sweep.specs.Sweep.{SweepInput, sweepOutcome, sweepBuffer, sweepRules, sweptCells, sweptLength, sweptWords}
+use Rattle.prism.specs.Swept.{sweptCells}
+use Rattle.sweep.specs.Sweep.{SweepInput, sweepOutcome, sweepBuffer, sweepRules, sweptLength, sweptWords}
 use Rattle.sweep.specs.Written.{sweepInput}
-use Rattle.points.specs.Move.{MoveInput, moveOutcome, moveRules, movedLength}
-use Rattle.file.specs.declared.Header.{Header}
-use Rattle.file.specs.Read.{ReadInput, headerOf, fileWords, readOutcome, readRules}
+use Rattle.motion.specs.Move.{MoveInput, moveOutcome, moveRules, movedLength}
+use Rattle.read.specs.declared.Header.{Header}
+use Rattle.file.specs.Tests.{fileWords}
+use Rattle.read.specs.Read.{ReadInput, headerOf, readOutcome, readRules}
 use Rattle.listing.specs.Listing.{ListInput, listText, listOutcome, listRules}
 use Rattle.marking.specs.Key.{inputLimit, wordRoom, thenCall, readIn, wingIn, sweepIn, moveIn, listIn, callsOn, keyOutcome}
 use Rattle.marking.proofs.Staged.{winged-front, swept-front}

@@ -9,8 +9,8 @@ use Rattle.rules.specs.Calls.{Outcome, accepted, refused}
 use Rattle.simplex.specs.Order.{ascending}
 use Rattle.complex.specs.Accept.{Listed}
 use Rattle.complex.specs.Table.{wingAt}
-use Rattle.complex.specs.Wing.{wingOutcome}
-use Rattle.sweep.specs.Sides.{side, sidePair}
+use Rattle.wing.specs.Wing.{wingOutcome}
+use Rattle.prism.specs.Sides.{side, sidePair}
 use Rattle.sweep.specs.Sweep.{sweepOutcome}
 use Rattle.boundary.specs.Faces.{facesOutcome, boundaryCells}
 use Rattle.printing.specs.Decimal.{coordinate}

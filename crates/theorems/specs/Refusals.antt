@@ -5,13 +5,13 @@ use Prim.Native.Nat.{ℕ, _*_}
 use lib.ListN.{replicate, set}
 use lib.Ieee.{Float, binary64, ofBits}
 use Rattle.rules.specs.Calls.{Outcome, accepted, refused}
-use Rattle.complex.specs.Wing.{wingOutcome}
+use Rattle.wing.specs.Wing.{wingOutcome}
 use Rattle.sweep.specs.Sweep.{SweepInput, sweepOutcome, sweepBuffer}
 use Rattle.boundary.specs.Faces.{FacesInput, facesOutcome}
 use Rattle.points.specs.declared.step.Step.{Step}
 use Rattle.points.specs.declared.step.Step.the-variants as S
-use Rattle.points.specs.Move.{MoveInput, moveOutcome}
-use Rattle.file.specs.Read.{ReadInput, readOutcome, headerOf}
+use Rattle.motion.specs.Move.{MoveInput, moveOutcome}
+use Rattle.read.specs.Read.{ReadInput, readOutcome, headerOf}
 use Rattle.theorems.specs.Shorthand.{cellOf, listed, toWing, ample}
 use Rattle.theorems.specs.MarkedKeys.{k1File}
 

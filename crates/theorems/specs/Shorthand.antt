@@ -18,8 +18,9 @@ use Rattle.simplex.specs.Cell.{Cell, Row, cell}
 use Rattle.complex.specs.Layout.{Entry, cellWords, entriesOf}
 use Rattle.complex.specs.Accept.{Listed}
 use Rattle.complex.specs.Table.{tableOfList}
-use Rattle.complex.specs.Wing.{WingInput}
-use Rattle.sweep.specs.Sweep.{SweepInput, sweptWords, sweptCells}
+use Rattle.wing.specs.Wing.{WingInput}
+use Rattle.prism.specs.Swept.{sweptCells}
+use Rattle.sweep.specs.Sweep.{SweepInput, sweptWords}
 use Rattle.boundary.specs.Faces.{FacesInput}
 
 -- a digit's value; a point, byte 46, is the empty wing

@@ -17,10 +17,11 @@ use Rattle.simplex.specs.Faces.{facets}
 use Rattle.simplex.specs.Order.{vertex}
 use Rattle.complex.specs.Accept.{acceptable, badSign, cellTwice, crowdedFace, equalSigns, listedCells, solidOf, solidRules, vertexBeyond, vertexTwice}
 use Rattle.complex.specs.Layout.{listSize, tableLength}
-use Rattle.complex.specs.Wing.{WingInput, wingOutcome, wingRules}
+use Rattle.wing.specs.Wing.{WingInput, wingOutcome, wingRules}
 use Rattle.complex.proofs.Accepted.{passes}
 use Rattle.complex.proofs.Tests.{or-false}
-use Rattle.sweep.specs.Sweep.{SweepInput, sweepOutcome, sweepRules, sweptCells}
+use Rattle.prism.specs.Swept.{sweptCells}
+use Rattle.sweep.specs.Sweep.{SweepInput, sweepOutcome, sweepRules}
 
 -- an accepted outcome had no refusal
 accepted-none : {A : Type 0} (k : ℕ) (a b : A) → outcome k a ≡ accepted b → k ≡ 0

@@ -11,11 +11,11 @@ use Rattle.simplex.specs.Faces.{allFaces, facets, keep}
 use Rattle.simplex.proofs.Cancel.{lone-cancel, loneIn, sumChain-facets}
 use Rattle.simplex.proofs.Sums.{Functional, sumChain, sumChain-add, sumChain-allFaces, sumChain-append, sumChain-zero}
 use Rattle.complex.proofs.Solid.{Solid}
-use Rattle.sweep.specs.Cells.{level, sweepOf}
-use Rattle.sweep.proofs.Level.{atHeight, overPrism}
-use Rattle.sweep.proofs.Pairs.{swept-paired}
-use Rattle.sweep.proofs.SweptSolid.{swept-facets}
-use Rattle.sweep.proofs.SweptSums.{sumChain-level, sweep-id, sweptParts}
+use Rattle.prism.specs.Cells.{level, sweepOf}
+use Rattle.prism.proofs.Level.{atHeight, overPrism}
+use Rattle.prism.proofs.Pairs.{swept-paired}
+use Rattle.prism.proofs.SweptSolid.{swept-facets}
+use Rattle.prism.proofs.SweptSums.{sumChain-level, sweep-id, sweptParts}
 use Rattle.boundary.specs.Boundary.{ownBoundary}
 
 abbrev pub overSweep : Functional → ℕ → ℕ → Functional

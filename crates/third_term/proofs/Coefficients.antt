@@ -14,9 +14,9 @@ use Rattle.simplex.proofs.Rows.{Long}
 use Rattle.simplex.proofs.Signs.{not-not, times-comm}
 use Rattle.simplex.proofs.Sums.{Functional, plusOn, sumChain}
 use Rattle.complex.proofs.Solid.{Solid}
-use Rattle.sweep.specs.Cells.{sweepOf, topCopy}
-use Rattle.sweep.proofs.Level.{atHeight, raised}
-use Rattle.sweep.proofs.Prism.{top}
+use Rattle.prism.specs.Cells.{sweepOf, topCopy}
+use Rattle.prism.proofs.Level.{atHeight, raised}
+use Rattle.prism.proofs.Prism.{top}
 use Rattle.boundary.specs.Boundary.{ownBoundary}
 use Rattle.third_term.proofs.BoundarySum.{boundary-sum, sweptBoundary}
 use Rattle.third_term.proofs.Decides.{raised-zero}

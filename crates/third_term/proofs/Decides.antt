@@ -17,12 +17,12 @@ use Rattle.simplex.proofs.Counts.{All, sumRows-countFaces-zero}
 use Rattle.simplex.proofs.Rows.{Below, Good, sameRow-true}
 use Rattle.simplex.proofs.Sums.{Functional, plusOn, sumChain, sumChain-allFaces, sumChain-append, sumChain-not, sumFaces}
 use Rattle.complex.proofs.Solid.{Solid}
-use Rattle.sweep.specs.Cells.{sweepOf}
-use Rattle.sweep.proofs.Decode.{levelIn, uppers}
-use Rattle.sweep.proofs.FaceBounds.{lowerIn, upperIn}
-use Rattle.sweep.proofs.FaceKinds.{sideCount}
-use Rattle.sweep.proofs.Level.{atHeight, dimensionSign, raised}
-use Rattle.sweep.proofs.Pairs.{no-side, off-level}
+use Rattle.prism.specs.Cells.{sweepOf}
+use Rattle.prism.proofs.Decode.{levelIn, uppers}
+use Rattle.prism.proofs.FaceBounds.{lowerIn, upperIn}
+use Rattle.prism.proofs.FaceKinds.{sideCount}
+use Rattle.prism.proofs.Level.{atHeight, dimensionSign, raised}
+use Rattle.prism.proofs.Pairs.{no-side, off-level}
 use Rattle.boundary.proofs.Lone.{lone-once}
 use Rattle.third_term.proofs.BoundarySum.{bd-is, overSweep, sumChain-sweep, sweptBoundary}
 

@@ -22,15 +22,16 @@ use Rattle.simplex.proofs.Rows.{Long}
 use Rattle.complex.specs.Accept.{listedCells}
 use Rattle.complex.specs.Layout.{Entry, cellOf, entriesOf, listSize, tableLength, tableWords}
 use Rattle.complex.specs.Table.{sound, tableOf, tableOfList}
-use Rattle.complex.specs.Wing.{wingBuffer}
+use Rattle.wing.specs.Wing.{wingBuffer}
 use Rattle.complex.proofs.Accepted.{accepted-solid}
 use Rattle.complex.proofs.OwnTable.{entries-of-words, table-sound, words-length}
 use Rattle.complex.proofs.Solid.{Solid}
-use Rattle.sweep.specs.Cells.{sweepOf}
-use Rattle.sweep.specs.Sweep.{sweepBuffer, sweptCells, sweptLength, sweptTable, sweptWords}
-use Rattle.sweep.proofs.SweptRows.{len-sweep}
-use Rattle.sweep.proofs.SweptSolid.{swept-long, swept-solid}
-use Rattle.sweep.proofs.SweptTable.{swept-table}
+use Rattle.prism.specs.Cells.{sweepOf}
+use Rattle.prism.specs.Swept.{sweptCells, sweptTable}
+use Rattle.sweep.specs.Sweep.{sweepBuffer, sweptLength, sweptWords}
+use Rattle.prism.proofs.SweptRows.{len-sweep}
+use Rattle.prism.proofs.SweptSolid.{swept-long, swept-solid}
+use Rattle.prism.proofs.SweptTable.{swept-table}
 use Rattle.boundary.specs.Boundary.{boundaryOf, ownBoundary}
 use Rattle.boundary.specs.Faces.{boundaryCells, faceSize, facesBuffer, facesOutcome, facesRules}
 use Rattle.boundary.proofs.EmptyWings.{boundary-own}

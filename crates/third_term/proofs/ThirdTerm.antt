@@ -14,7 +14,7 @@ use Rattle.simplex.proofs.FaceCounts.{All-keep, allFaces-long}
 use Rattle.simplex.proofs.Rows.{Long}
 use Rattle.complex.proofs.Codec.{cells-back}
 use Rattle.complex.proofs.Tests.{count-sum}
-use Rattle.sweep.specs.Cells.{sweepOf, topCopy}
+use Rattle.prism.specs.Cells.{sweepOf, topCopy}
 use Rattle.boundary.specs.Boundary.{ownBoundary}
 use Rattle.boundary.proofs.Lone.{lone-once}
 use Rattle.third_term.specs.ThirdTerm.{BoundaryOf, Sitting, ThirdTerm, Unrefused, boundary, signed, solid}

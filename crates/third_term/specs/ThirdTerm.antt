@@ -20,9 +20,10 @@ use Rattle.simplex.specs.Cell.{Row, Cell, alternating}
 use Rattle.simplex.specs.Chain.{total, Same, coefficient}
 use Rattle.complex.specs.Layout.{cellsOf, cellWords, entriesOf, tableLength}
 use Rattle.complex.specs.Accept.{Listed, solidOf}
-use Rattle.complex.specs.Wing.{WingInput, wingOutcome, wingBuffer}
-use Rattle.sweep.specs.Cells.{sweepOf, topCopy}
-use Rattle.sweep.specs.Sweep.{SweepInput, sweptCells, sweptLength, sweepOutcome, sweepBuffer}
+use Rattle.wing.specs.Wing.{WingInput, wingOutcome, wingBuffer}
+use Rattle.prism.specs.Cells.{sweepOf, topCopy}
+use Rattle.prism.specs.Swept.{sweptCells}
+use Rattle.sweep.specs.Sweep.{SweepInput, sweptLength, sweepOutcome, sweepBuffer}
 use Rattle.boundary.specs.Boundary.{boundaryOf, ownBoundary}
 use Rattle.boundary.specs.Faces.{FacesInput, faceSize, facesOutcome, facesBuffer}
 

@@ -27,9 +27,11 @@ use Rattle.rules.proofs.Tests.{and-parts}
 use Rattle.complex.specs.Accept.{solidRules}
 use Rattle.complex.specs.Layout.{listSize, recordSize, tableLength}
 use Rattle.complex.specs.Table.{tableOfList}
-use Rattle.complex.specs.Wing.{WingInput, wingInput, wingOutcome, wingBuffer, wingRules}
-use Rattle.complex.proofs.WingCases.{limits-of, outcome-refused, outside, wrong-length}
-use Rattle.sweep.specs.Sweep.{SweepInput, sweepOutcome, sweepBuffer, sweepRules, sweptCells, sweptWords}
+use Rattle.wing.specs.Wing.{WingInput, wingInput, wingOutcome, wingBuffer, wingRules}
+use Rattle.adjacency.proofs.Taking.{limits-of}
+use Rattle.wing.proofs.WingCases.{outcome-refused, outside, wrong-length}
+use Rattle.prism.specs.Swept.{sweptCells}
+use Rattle.sweep.specs.Sweep.{SweepInput, sweepOutcome, sweepBuffer, sweepRules, sweptWords}
 use Rattle.sweep.specs.Written.{sweepInput}
 use Rattle.sweep.proofs.InLimits.{limits-are}
 use Rattle.sweep.proofs.Outcomes.{tooLarge, large-not, refused-at-2, refused-at-3, refused-at-12}

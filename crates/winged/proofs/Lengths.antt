@@ -16,7 +16,7 @@ use Rattle.simplex.specs.Order.{ascending}
 use Rattle.complex.specs.Accept.{Listed, listedCells, solidOf, solidRules}
 use Rattle.complex.specs.Layout.{cellOf, listSize, tableLength}
 use Rattle.complex.specs.Table.{tableOfList}
-use Rattle.complex.specs.Wing.{wingOutcome, wingRules}
+use Rattle.wing.specs.Wing.{wingOutcome, wingRules}
 use Rattle.complex.proofs.Accepted.{accepted-solid, passes}
 use Rattle.complex.proofs.OwnTable as own
 use Rattle.sweep.specs.Sweep.{sweepOutcome, sweepRules, sweptLength, sweptWords}

@@ -17,7 +17,7 @@ use Rattle.rules.specs.Calls.{Outcome, accepted, refused, after}
 use Rattle.complex.specs.Accept.{Listed}
 use Rattle.complex.specs.Layout.{cellWords}
 use Rattle.complex.specs.Table.{tableOfList}
-use Rattle.complex.specs.Wing.{WingInput, wingOutcome}
+use Rattle.wing.specs.Wing.{WingInput, wingOutcome}
 use Rattle.sweep.specs.Sweep.{SweepInput, sweptWords, sweepOutcome}
 use Rattle.boundary.specs.Faces.{FacesInput, faceSize, boundaryCells, facesOutcome}
 

@@ -17,7 +17,7 @@ use Rattle.rules.specs.Limits.{maxDimension, maxSource, stepsOk}
 use Rattle.rules.specs.Shapes.{shapeOk}
 use Rattle.rules.specs.Calls.{Outcome, accepted, refused, after}
 use Rattle.complex.specs.Layout.{cellWords}
-use Rattle.complex.specs.Wing.{wingInput, wingOutcome}
+use Rattle.wing.specs.Wing.{wingInput, wingOutcome}
 use Rattle.sweep.specs.Sweep.{sweepOutcome}
 use Rattle.sweep.specs.Written.{sweepInput}
 use Rattle.boundary.specs.Faces.{FacesInput, boundaryCells, facesOutcome}

@@ -13,7 +13,7 @@ ghost use Rattle.winged.specs.Host.{hostFaces, hostFacesBuffer};
 ghost use Rattle.winged.specs.Sent.{tableRoom, facesAnswer, facesAfter};
 use boundary::writing::count_faces;
 use boundary::writing::write_cell;
-use complex::sound::is_sound;
+use adjacency::sound::is_sound;
 use rules::limits::Shape;
 use words::copy::decode;
 use words::copy::encode;

@@ -12,7 +12,7 @@ ghost use Rattle.sweep.specs.Sweep.{sweptWords};
 ghost use Rattle.sweep.specs.Written.{sweepInput};
 ghost use Rattle.winged.specs.Host.{hostList};
 ghost use Rattle.winged.specs.Sent.{wingRead, sweepRead};
-use complex::wing::wing;
+use wing::wing;
 use rules::limits::Shape;
 use rules::refusal::Answer;
 use rules::refusal::Refusal;

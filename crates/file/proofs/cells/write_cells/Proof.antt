@@ -11,7 +11,7 @@ use Rattle.words.specs.Records.{concat}
 use Rattle.words.proofs.Loops.{sets-front}
 use Rattle.complex.specs.Layout.{listSize, cellWords}
 use Rattle.file.specs.File.{dimensionOf, cellCountOf, fileCells}
-use Rattle.file.specs.Read.{cellsLength, fileWords}
+use Rattle.file.specs.Tests.{cellsLength, fileWords}
 use Rattle.file.proofs.Parts.{within-records}
 use Rattle.file.proofs.Stores.{words-count, cells-step, cells-end}
 use Rattle.file.proofs.cells.write_cells.Statement.{statement}

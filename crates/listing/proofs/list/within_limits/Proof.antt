@@ -1,7 +1,7 @@
 -- `within_limits` answers `shapeOk`, by the shape that the numbers make. Assumes nothing.
 use mathlib.Core.Path.{sym, _∙_}
 use borrow.Author.Needs.{needs}
-use Rattle.complex.proofs.Shaping.{shape-within, shape-outside}
+use Rattle.adjacency.proofs.Shaping.{shape-within, shape-outside}
 use Rattle.listing.proofs.list.within_limits.Statement.{statement}
 use Rattle.listing.proofs.list.within_limits.Tie as tie
 

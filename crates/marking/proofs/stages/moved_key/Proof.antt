@@ -12,7 +12,7 @@ use lib.Seq.{length-take-le}
 use Rattle.rules.specs.Calls.{accepted}
 use Rattle.rules.specs.Limits.{sweptVertices}
 use Rattle.rules.specs.Numbers.{numberOf, outcomeOf}
-use Rattle.points.specs.Move.{MoveInput, moveInput, movedLevels, moveOutcome}
+use Rattle.motion.specs.Move.{MoveInput, moveInput, movedLevels, moveOutcome}
 use Rattle.listing.specs.Listing.{listInput, listOutcome, listBuffer}
 use Rattle.marking.specs.Key.{floatRoom}
 use Rattle.marking.specs.Stages.{counted, left}

@@ -9,9 +9,10 @@ use lib.ListN.{length, take}
 use lib.Seq.{length-take-le}
 use Rattle.rules.specs.Calls.{Outcome, accepted}
 use Rattle.rules.specs.Numbers.{numberOf}
-use Rattle.file.specs.declared.Header.{Header}
+use Rattle.read.specs.declared.Header.{Header}
 use Rattle.file.specs.File.{filePoints}
-use Rattle.file.specs.Read.{fileWords, readOutcome, outcomeOf}
+use Rattle.file.specs.Tests.{fileWords}
+use Rattle.read.specs.Read.{readOutcome, outcomeOf}
 use Rattle.marking.specs.Key.{readIn}
 use Rattle.marking.specs.Stages.{counted, left, wingedKey}
 use Rattle.marking.proofs.Printed.{FileFacts, file-facts, cells-front, points-front, key-long, key-refused, key-read}

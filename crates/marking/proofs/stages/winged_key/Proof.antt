@@ -8,7 +8,7 @@ use lib.Seq.{length-take-le}
 use Rattle.rules.specs.Calls.{accepted}
 use Rattle.rules.specs.Numbers.{numberOf, outcomeOf}
 use Rattle.complex.specs.Table.{tableOfList}
-use Rattle.complex.specs.Wing.{WingInput, wingInput, wingOutcome}
+use Rattle.wing.specs.Wing.{WingInput, wingInput, wingOutcome}
 use Rattle.marking.specs.Key.{wordRoom}
 use Rattle.marking.specs.Stages.{counted, left, sweptKey}
 use Rattle.marking.proofs.Staged.{winged-front, winged-refused, winged-accepted}

@@ -4,7 +4,7 @@ use Prim.Native.Nat.{_≤_, _<_}
 use native.Mathlib.Omega.{arith}
 use borrow.Author.Tests.{lt-ltb, le-ltb}
 use Rattle.rules.specs.Limits.{maxVertices, maxCells, sweptVertices}
-use Rattle.sweep.specs.Sweep.{sweptCells}
+use Rattle.prism.specs.Swept.{sweptCells}
 use Rattle.sweep.proofs.InLimits.{Limits, limits-are}
 use Rattle.sweep.proofs.limits.too_large.Statement.{statement}
 use Rattle.sweep.proofs.limits.too_large.Tie as tie

@@ -3,7 +3,7 @@ use Prim.Native.Nat.{_<_}
 use native.Mathlib.Omega.{arith}
 use borrow.Author.Needs.{needs}
 use Rattle.rules.specs.Limits.{sweptVertices}
-use Rattle.sweep.specs.Cells.{atLevel}
+use Rattle.prism.specs.Cells.{atLevel}
 use Rattle.sweep.proofs.Bounds.{vertex-inside}
 use Rattle.sweep.proofs.record.lift.Statement.{statement}
 use Rattle.sweep.proofs.record.lift.Tie as tie

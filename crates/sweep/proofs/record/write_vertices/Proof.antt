@@ -10,7 +10,7 @@ use Rattle.words.specs.Records.{tabulate}
 use Rattle.words.specs.Placed.{placed}
 use Rattle.words.proofs.Records.{tabulate-at, tabulate-length}
 use Rattle.words.proofs.Placed.{placed-none, placed-word}
-use Rattle.sweep.specs.Cells.{atLevel}
+use Rattle.prism.specs.Cells.{atLevel}
 use Rattle.sweep.specs.RecordWords.{liftedFrom}
 use Rattle.sweep.proofs.record.write_vertices.Statement.{statement}
 use Rattle.sweep.proofs.record.write_vertices.Tie as tie

@@ -1,6 +1,6 @@
 -- The numbers of `SIDES` are those of `allSides`, which antt computes. Assumes nothing.
 use borrow.Author.Needs.{needs}
-use Rattle.sweep.specs.Sides.{allSides}
+use Rattle.prism.specs.Sides.{allSides}
 use Rattle.sweep.proofs.sides.side_number.Statement.{statement}
 use Rattle.sweep.proofs.sides.side_number.Tie as tie
 

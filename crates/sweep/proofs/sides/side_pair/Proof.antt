@@ -6,7 +6,7 @@ use borrow.Author.Needs.{needs}
 use borrow.Author.Tests.{le-leb, lt-leb, lt-ltb, le-ltb}
 use lib.ListN.{getD}
 use Rattle.rules.specs.Limits.{maxSource}
-use Rattle.sweep.specs.Sides.{allSides}
+use Rattle.prism.specs.Sides.{allSides}
 use Rattle.sweep.specs.SideTable.{sideIndex, sidePairOf, declaredPair}
 use Rattle.sweep.specs.declared.sides.SidePair.{SidePair}
 use Rattle.sweep.proofs.SideTable.{step-rule-holds, table-pair}

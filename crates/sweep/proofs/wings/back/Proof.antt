@@ -5,7 +5,7 @@ use native.Mathlib.Omega.{arith}
 use borrow.Author.Needs.{needs}
 use lib.ListN.{length}
 use Rattle.complex.specs.Layout.{recordSize}
-use Rattle.sweep.specs.Wings.{backFrom, backTo}
+use Rattle.prism.specs.Wings.{backFrom, backTo}
 use Rattle.sweep.specs.Written.{solidWing}
 use Rattle.sweep.proofs.TableWords.{inside}
 use Rattle.sweep.proofs.WingWords.{back-here, back-next, back-end, back-start}

@@ -2,8 +2,8 @@
 use Prim.Native.Nat.{suc, _*_, _<_, _≤_}
 use native.Mathlib.Omega.{arith}
 use borrow.Author.Needs.{needs}
-use Rattle.sweep.specs.Sweep.{sweptCells}
-use Rattle.sweep.specs.Wings.{cellNumber}
+use Rattle.prism.specs.Swept.{sweptCells}
+use Rattle.prism.specs.Wings.{cellNumber}
 use Rattle.sweep.proofs.Bounds.{number-inside, level-inside, prism-inside}
 use Rattle.sweep.proofs.wings.cell_number.Statement.{statement}
 use Rattle.sweep.proofs.wings.cell_number.Tie as tie

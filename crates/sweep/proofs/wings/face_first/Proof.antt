@@ -5,7 +5,7 @@ use native.Mathlib.Omega.{arith}
 use borrow.Author.Needs.{needs}
 use borrow.Author.Tests.{eq-eqb, ne-eqb}
 use Rattle.rules.specs.Limits.{empty}
-use Rattle.sweep.specs.Wings.{cellNumber}
+use Rattle.prism.specs.Wings.{cellNumber}
 use Rattle.sweep.specs.Written.{solidWing}
 use Rattle.sweep.proofs.wings.face_first.Statement.{statement}
 use Rattle.sweep.proofs.wings.face_first.Tie as tie

@@ -5,7 +5,7 @@ use native.Mathlib.Omega.{arith}
 use borrow.Author.Needs.{needs}
 use borrow.Author.Tests.{eq-eqb, ne-eqb}
 use Rattle.rules.specs.Limits.{empty}
-use Rattle.sweep.specs.Wings.{backTo}
+use Rattle.prism.specs.Wings.{backTo}
 use Rattle.sweep.specs.Written.{solidWing}
 use Rattle.sweep.proofs.wings.face_row.Statement.{statement}
 use Rattle.sweep.proofs.wings.face_row.Tie as tie

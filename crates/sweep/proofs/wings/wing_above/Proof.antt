@@ -5,7 +5,7 @@ use native.Mathlib.Numerals.{add-one}
 use native.Mathlib.Omega.{arith}
 use borrow.Author.Needs.{needs}
 use borrow.Author.Tests.{lt-ltb, le-ltb, eq-eqb, ne-eqb}
-use Rattle.sweep.specs.Wings.{cellNumber}
+use Rattle.prism.specs.Wings.{cellNumber}
 use Rattle.sweep.proofs.wings.wing_above.Statement.{statement}
 use Rattle.sweep.proofs.wings.wing_above.Tie as tie
 

@@ -1,0 +1,20 @@
+-- Laws of cells held in memory: rows 6 to 11, wings, tables, soundness.
+pub mod Adjacent
+pub mod Below
+pub mod FaceKeys
+pub mod Faults
+pub mod Filling
+pub mod Mates
+pub mod Reading
+pub mod Refusing
+pub mod Repeats
+pub mod Seeing
+pub mod SortedTests
+pub mod SoundCases
+pub mod Spots
+pub mod Stored
+pub mod TableWords
+pub mod Taking
+pub mod Twins
+pub mod Winged
+pub mod Shaping

@@ -1,0 +1,68 @@
+-- What was taken from a list of cells: its limits, its refusals, its table.
+--   limits-of             numbers within the limits are small
+--   solid-range           rows 6 to 11
+--   whole-list            a list of words is the list of its records
+--   taken-table           the table of what was taken
+--   taken-written         what is written of it is what wing writes
+use mathlib.Core.Path.{_≡_, refl, sym, ap, _∙_}
+use mathlib.Core.Bool.{Bool, true, false, cond}
+use mathlib.Core.List.{List, _++_}
+use Prim.Native.Nat.{ℕ, _*_, _≤_}
+use native.Mathlib.Omega.{arith}
+use lib.Dec.{leb}
+use lib.ListN.{length, drop}
+use borrow.Author.Tests.{leb-true}
+use Rattle.words.specs.Placed.{placed}
+use Rattle.words.proofs.Placed.{placed-first}
+use Rattle.rules.specs.Calls.{firstRefusal, written}
+use Rattle.rules.specs.Limits.{maxCells, maxDimension, sizesOk, verticesOk, within}
+use Rattle.rules.specs.Shapes.{shapeOk}
+use Rattle.rules.proofs.Tests.{and-parts}
+use Rattle.simplex.specs.Cell.{Sign}
+use Rattle.simplex.specs.Faces.{facets}
+use Rattle.complex.specs.Accept.{Listed, badSign, cellTwice, crowdedFace, equalSigns, listedCells, solidOf, solidRules, vertexBeyond, vertexTwice}
+use Rattle.adjacency.specs.Held.{Taken, heldWords, recordList}
+use Rattle.complex.specs.Layout.{listSize, tableWords}
+use Rattle.complex.specs.Table.{tableOf, tableOfList}
+use Rattle.adjacency.proofs.Filling.{parts-of}
+use Rattle.adjacency.proofs.TableWords.{table-words}
+
+-- what the limits say
+pub limits-of : (d v s : ℕ) → shapeOk maxDimension d v s ≡ true → (d ≤ 7) × (1 ≤ s) × (s ≤ 4096)
+limits-of d v s e =
+    let a = and-parts (leb d 7) (sizesOk v s) e in
+    let b = and-parts (verticesOk v) (within 1 maxCells s) (a .1) in
+    let c = and-parts (leb 1 s) (leb s maxCells) (b .1) in
+    (leb-true d 7 (a .0), leb-true 1 s (c .0), leb-true s 4096 (c .1))
+
+six-range : (a b c d e f : Bool) (k : ℕ) → k ≡ cond a 6 (cond b 7 (cond c 8 (cond d 9 (cond e 10 (cond f 11 0))))) → (k ≡ 0 → ⊥) → (6 ≤ k) × (k ≤ 11)
+six-range true b c d e f k h n = omega arith
+six-range false true c d e f k h n = omega arith
+six-range false false true d e f k h n = omega arith
+six-range false false false true e f k h n = omega arith
+six-range false false false false true f k h n = omega arith
+six-range false false false false false true k h n = omega arith
+six-range false false false false false false k h n = absurd (n h)
+
+pub solid-range : (l : Listed) (k : ℕ) → k ≡ firstRefusal solidRules l → (k ≡ 0 → ⊥) → (6 ≤ k) × (k ≤ 11)
+unfolding solidRules
+solid-range l k e n =
+    six-range (badSign l) (vertexBeyond (l .v) (listedCells l)) (vertexTwice (listedCells l)) (cellTwice (solidOf l)) (crowdedFace (facets (solidOf l))) (equalSigns (facets (solidOf l))) k e n
+
+-- a list of words is the list of its records
+pub whole-list : (d v s : ℕ) (ws : List ℕ) → length ws ≡ s * listSize d → recordList (listSize d) d v s ws ≡ record { d = d; v = v; s = s; words = ws }
+whole-list d v s ws e = ap (λ (xs : List ℕ). record { d = d; v = v; s = s; words = xs }) (parts-of (listSize d) s ws e)
+
+-- the table of what was taken
+pub taken-table : (l : Listed) (rows : List ℕ) (signs : List Sign) (wings : List ℕ) → l .d ≤ 7 → l .s ≤ 4096 → Taken l rows signs wings →
+    tableOfList l ≡ heldWords (l .d) (l .s) rows signs wings
+unfolding tableOfList
+taken-table l rows signs wings hd hs t = ap (λ cs. tableWords (tableOf cs)) (t .cells) ∙ table-words (l .d) (l .s) rows signs wings hd hs (t .wide) (t .winged)
+
+-- what is written of it is what wing writes
+pub taken-written : (d v s : ℕ) (cells rows : List ℕ) (signs : List Sign) (wings out : List ℕ) → d ≤ 7 → s ≤ 4096 → length cells ≡ s * listSize d →
+    Taken (recordList (listSize d) d v s cells) rows signs wings →
+    placed 0 (heldWords d s rows signs wings) out ≡ written (tableOfList (record { d = d; v = v; s = s; words = cells })) out
+taken-written d v s cells rows signs wings out hd hs len t =
+    placed-first (heldWords d s rows signs wings) out
+    ∙ ap (λ (xs : List ℕ). xs ++ drop (length xs) out) (sym (taken-table (recordList (listSize d) d v s cells) rows signs wings hd hs t) ∙ ap tableOfList (whole-list d v s cells len))

@@ -1,0 +1,4 @@
+-- Cells and wings as the code holds them.
+pub mod Held
+pub mod Pairing
+pub mod Scan

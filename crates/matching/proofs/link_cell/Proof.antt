@@ -1,0 +1,116 @@
+-- The keys of a cell are linked one after the other.
+use mathlib.Core.Path.{_≡_, subst}
+use Prim.Native.Nat.{ℕ, _+_, _-_, _*_, _≤_, _<_}
+use native.Mathlib.Nat.{add-zero, add-assoc}
+use native.Mathlib.Omega.{arith}
+use lib.ListN.{getD, set}
+use borrow.Author.Needs.{needs}
+use Rattle.matching.specs.Matching.{keyRow}
+use Rattle.matching.specs.Buckets.{Linking}
+use Rattle.matching.proofs.Links.{linking-more, bucket-is, key-below}
+use Rattle.matching.proofs.link_cell.Statement.{statement}
+use Rattle.matching.proofs.link_cell.Tie as tie
+
+abbrev Inv-loop : tie.InvT-loop
+Inv-loop k w first p rows head₀ prev₀ sum i₀ head prev i = (i ≤ w) × Linking (keyRow rows k w first) head prev (p * w + i)
+
+abbrev μ-loop : tie.MeasureT-loop
+μ-loop k w first p rows head₀ prev₀ sum i₀ head prev i = w - i
+
+weigh-requires : tie.Need-weigh-requires Inv-loop μ-loop
+weigh-requires c κs = search needs
+
+loop-holds : tie.Need-loop-holds Inv-loop μ-loop
+loop-holds c = (omega arith, rw (add-zero (c .before .args .p * c .before .args .w)) (c .before .pre .1))
+
+add-bucket : tie.Need-add-bucket Inv-loop μ-loop
+add-bucket c = search needs
+
+bucket-requires : tie.Need-bucket-requires Inv-loop μ-loop
+bucket-requires c κs = ((c .before .before .before .pre .0 .0 .vertices, c .before .before .before .pre .0 .1), c .before .before .weigh .ensures)
+
+-- the key is one of 32768
+in-table : (c : tie.In-loop Inv-loop μ-loop) → c .before .before .before .args .p * c .before .before .before .args .w + c .before .loop .i < 32768
+in-table c =
+    let a = c .before .before .before .args in
+    omega (arith, key-below (a .p) (c .before .loop .i) (a .w) (c .loop-test .taken) (c .before .before .before .pre .0 .1))
+
+mul-g : tie.Need-mul-g Inv-loop μ-loop
+mul-g c = omega (arith, in-table (c .before))
+
+add-g : tie.Need-add-g Inv-loop μ-loop
+add-g c = omega (arith, in-table (c .before))
+
+mul-prev : tie.Need-mul-prev Inv-loop μ-loop
+mul-prev c = search needs
+
+element-copy-out-prev : tie.Need-element-copy-out-prev Inv-loop μ-loop
+element-copy-out-prev c = search needs
+
+mul-prev-2 : tie.Need-mul-prev-2 Inv-loop μ-loop
+mul-prev-2 c = omega (arith, in-table (c .before .before))
+
+element-write-prev : tie.Need-element-write-prev Inv-loop μ-loop
+element-write-prev c = omega (arith, in-table (c .before .before))
+
+cast-head : tie.Need-cast-head Inv-loop μ-loop
+cast-head c = omega (arith, in-table (c .before .before))
+
+mul-head : tie.Need-mul-head Inv-loop μ-loop
+mul-head c = search needs
+
+element-write-head : tie.Need-element-write-head Inv-loop μ-loop
+element-write-head c = search needs
+
+add-i : tie.Need-add-i Inv-loop μ-loop
+add-i c = search needs
+
+loop-less : tie.Need-loop-less Inv-loop μ-loop
+loop-less c = search needs
+
+loop-again : tie.Need-loop-again Inv-loop μ-loop
+loop-again c =
+    let s = c .before .before .before .before .before in
+    let a = s .args in
+    let l = c .before .before .before .loop in
+    let b = c .before .bucket in (
+      omega arith,
+      subst (λ (m : ℕ). Linking (keyRow (a .rows .now) (a .k) (a .w) (a .first)) (set (l .head) (b .result) (a .p * a .w + l .i)) (set (l .prev) (a .p * a .w + l .i) (getD (l .head) (b .result) 0)) m)
+          (add-assoc (a .p * a .w) (l .i) 1)
+          (linking-more (keyRow (a .rows .now) (a .k) (a .w) (a .first)) (l .head) (l .prev) (a .p * a .w + l .i) (b .result)
+          (in-table (c .before .before))
+          (bucket-is (a .p) (l .i) (a .w) (c .before .before .loop-test .taken) (a .rows .now) (a .k) (a .first) (b .result) (b .ensures .0))
+          (b .ensures .1)
+          (l .inv .1)),
+    )
+
+returns : tie.Need-returns Inv-loop μ-loop
+returns c =
+    let a = c .before .before .before .args in
+    let l = c .before .loop in
+    let e : l .i ≡ a .w = omega arith in
+    subst (λ (i : ℕ). Linking (keyRow (a .rows .now) (a .k) (a .w) (a .first)) (l .head) (l .prev) (a .p * a .w + i)) e (l .inv .1)
+
+pub link-cell-spec : {M : Type 1} → statement M
+link-cell-spec =
+    tie.close
+    (tie.spec
+    Inv-loop
+    μ-loop
+    weigh-requires
+    loop-holds
+    add-bucket
+    bucket-requires
+    mul-g
+    add-g
+    mul-prev
+    element-copy-out-prev
+    mul-prev-2
+    element-write-prev
+    cast-head
+    mul-head
+    element-write-head
+    add-i
+    loop-less
+    loop-again
+    returns)

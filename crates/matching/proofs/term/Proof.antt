@@ -1,0 +1,31 @@
+-- The weight of a vertex fits.
+use mathlib.Core.Path.{ap}
+use native.Mathlib.Omega.{arith}
+use borrow.Author.Needs.{needs}
+use Rattle.matching.specs.Buckets.{term}
+use Rattle.matching.proofs.Weights.{inner-below, outer-below}
+use Rattle.matching.proofs.term.Statement.{statement}
+use Rattle.matching.proofs.term.Tie as tie
+
+wide-requires : tie.Need-wide-requires
+wide-requires c κs = search needs
+
+add-result : tie.Need-add-result
+add-result c = search needs
+
+mul-result : tie.Need-mul-result
+mul-result c = omega (arith, inner-below (c .wide .result) (c .wide .ensures .1))
+
+add-result-2 : tie.Need-add-result-2
+add-result-2 c = omega (arith, inner-below (c .wide .result) (c .wide .ensures .1))
+
+mul-result-2 : tie.Need-mul-result-2
+mul-result-2 c = omega (arith, outer-below (c .wide .result) (c .wide .ensures .1))
+
+returns : tie.Need-returns
+unfolding term
+returns c = (ap term (c .wide .ensures .0), outer-below (c .wide .result) (c .wide .ensures .1))
+
+pub term-spec : {M : Type 1} → statement M
+term-spec =
+    tie.close (tie.spec wide-requires add-result mul-result add-result-2 mul-result-2 returns)

@@ -1,0 +1,74 @@
+-- The weight of a cell's row, vertex by vertex.
+use mathlib.Core.Path.{_≡_, refl, subst}
+use Prim.Native.Nat.{ℕ, _≤_, _*_, _-_, _^_}
+use native.Mathlib.Omega.{arith}
+use lib.ListN.{take}
+use borrow.Author.Needs.{needs}
+use Rattle.words.specs.Records.{part}
+use Rattle.matching.specs.Buckets.{weight}
+use Rattle.matching.proofs.Weights.{sum-more}
+use Rattle.matching.proofs.weigh.Statement.{statement}
+use Rattle.matching.proofs.weigh.Tie as tie
+
+abbrev Inv-loop : tie.InvT-loop
+Inv-loop k p rows sum₀ j₀ sum j = (j ≤ k) × (sum ≡ weight (take j (part 8 p rows))) × (sum ≤ j * 2 ^ 50)
+
+abbrev μ-loop : tie.MeasureT-loop
+μ-loop k p rows sum₀ j₀ sum j = k - j
+
+loop-holds : tie.Need-loop-holds Inv-loop μ-loop
+loop-holds c = (omega arith, refl, omega arith)
+
+mul-term : tie.Need-mul-term Inv-loop μ-loop
+mul-term c = search needs
+
+add-term : tie.Need-add-term Inv-loop μ-loop
+add-term c = search needs
+
+mul-term-2 : tie.Need-mul-term-2 Inv-loop μ-loop
+mul-term-2 c = search needs
+
+element-copy-out-term : tie.Need-element-copy-out-term Inv-loop μ-loop
+element-copy-out-term c = search needs
+
+term-requires : tie.Need-term-requires Inv-loop μ-loop
+term-requires c κs = search needs
+
+add-sum : tie.Need-add-sum Inv-loop μ-loop
+add-sum c = omega arith
+
+add-j : tie.Need-add-j Inv-loop μ-loop
+add-j c = search needs
+
+loop-less : tie.Need-loop-less Inv-loop μ-loop
+loop-less c = search needs
+
+loop-again : tie.Need-loop-again Inv-loop μ-loop
+loop-again c =
+    let l = c .before .before .before .loop in
+    let a = c .before .before .before .before .args in
+    (omega arith, sum-more (a .rows .now) (a .p) (l .j) (l .sum) (c .term .result) (omega arith) (l .inv .1) (c .term .ensures .0), omega arith)
+
+returns : tie.Need-returns Inv-loop μ-loop
+returns c =
+    let a = c .before .before .args in
+    let e : c .before .loop .j ≡ a .k = omega arith in
+    subst (λ (m : ℕ). c .before .loop .sum ≡ weight (take m (part 8 (a .p) (a .rows .now)))) e (c .before .loop .inv .1)
+
+pub weigh-spec : {M : Type 1} → statement M
+weigh-spec =
+    tie.close
+    (tie.spec
+    Inv-loop
+    μ-loop
+    loop-holds
+    mul-term
+    add-term
+    mul-term-2
+    element-copy-out-term
+    term-requires
+    add-sum
+    add-j
+    loop-less
+    loop-again
+    returns)

@@ -1,0 +1,3 @@
+-- Keys that are equal, and the buckets that find them.
+pub mod Matching
+pub mod Buckets

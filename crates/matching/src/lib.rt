@@ -1,0 +1,213 @@
+// Keys that are equal: for each key, the last earlier one with the same row.
+// Each key is linked to the last earlier key of its bucket; from the last key down, each link is then
+// followed back to a key with the same row.
+ghost use mathlib.Core.Path.{_≡_};
+ghost use mathlib.Core.Bool.{cond};
+ghost use Prim.Native.Nat.{ℕ, _+_, _*_, _-_, _/_, _%_, _^_, _<_, _≤_};
+ghost use lib.Dec.{ltb};
+ghost use lib.ListN.{length, getD};
+ghost use Rattle.simplex.specs.Cell.{sameRow};
+ghost use Rattle.simplex.specs.Faces.{without};
+ghost use Rattle.matching.specs.Matching.{Keyed, cellRow, keyRow, earlier};
+ghost use Rattle.matching.specs.Buckets.{term, weight, bucketOf, Linked, Linking};
+
+fn wide(x: u16) -> u64
+    ensures { λ r. ⌜ (r ≡ x) × (r < 65536) ⌝ }
+{
+    x as u64
+}
+
+// The weight of a vertex.
+fn term(x: u16) -> u64
+    ensures { λ r. ⌜ (r ≡ term x) × (r < 2 ^ 50) ⌝ }
+{
+    let v = wide(x);
+    v * (v * (v + 5903) + 12421)
+}
+
+// The weight of the row of cell p.
+fn weigh(k: usize, p: usize, rows: &[u16; 32768]) -> u64
+    requires { ⌜ (k ≤ 8) × (p < 4096) ⌝ }
+    ensures { λ r. ⌜ r ≡ weight (cellRow (now (rows .entry)) k p) ⌝ }
+{
+    let mut sum: u64 = 0;
+    let mut j: usize = 0;
+    while j < k {
+        sum += term(rows[p * 8 + j]);
+        j += 1;
+    }
+    sum
+}
+
+// The bucket of the row of cell p, of that weight, less position a.
+fn bucket(k: usize, p: usize, a: usize, sum: u64, rows: &[u16; 32768]) -> usize
+    requires { ⌜ (k ≤ 8) × (p < 4096) ⌝ }
+    requires { ⌜ sum ≡ weight (cellRow (now rows) k p) ⌝ }
+    ensures { λ r. ⌜ (r ≡ bucketOf (without a (cellRow (now (rows .entry)) k p))) × (r < 32768) ⌝ }
+{
+    if a < k {
+        ((sum - term(rows[p * 8 + a])) % 32749) as usize
+    } else {
+        (sum % 32749) as usize
+    }
+}
+
+// How many of k vertices are left without position a.
+fn kept(k: usize, a: usize) -> usize
+    ensures { λ r. ⌜ r ≡ cond (ltb a k) (k - 1) k ⌝ }
+{
+    if a < k { k - 1 } else { k }
+}
+
+// Where vertex j stands, of those left without position a.
+fn stands(a: usize, j: usize) -> usize
+    requires { ⌜ j < 8 ⌝ }
+    ensures { λ r. ⌜ r ≡ cond (ltb j a) j (j + 1) ⌝ }
+{
+    if j < a { j } else { j + 1 }
+}
+
+// Whether the row of cell p less position a is that of cell q less position b.
+fn same_key(k: usize, rows: &[u16; 32768], p: usize, a: usize, q: usize, b: usize) -> bool
+    requires { ⌜ (length (now rows) ≡ 32768) × (k ≤ 8) × (p < 4096) × (q < 4096) ⌝ }
+    ensures { λ r. ⌜ r ≡ sameRow (without a (cellRow (now (rows .entry)) k p)) (without b (cellRow (now (rows .entry)) k q)) ⌝ }
+{
+    let m = kept(k, a);
+    if kept(k, b) != m {
+        return false;
+    }
+    let mut j: usize = 0;
+    while j < m {
+        if rows[p * 8 + stands(a, j)] != rows[q * 8 + stands(b, j)] {
+            return false;
+        }
+        j += 1;
+    }
+    true
+}
+
+// The cell of a key and its number among the keys of that cell.
+pub struct Place {
+    pub cell: usize,
+    pub at: usize,
+}
+
+// The place of key f, of w keys a cell. The quotient f / w is taken by a product with part, a part of
+// 1048576 cut into w and one more.
+pub fn place_of(f: usize, w: usize, part: usize) -> Place
+    requires { ⌜ (f < 32768) × (0 < w) × (w ≤ 8) × (part ≡ 1048576 / w + 1) ⌝ }
+    ensures { λ r. ⌜ (r .cell ≡ f / w) × (r .at ≡ f % w) ⌝ }
+{
+    let cell = f * part / 1048576;
+    Place {
+        cell,
+        at: f - cell * w,
+    }
+}
+
+// Links the keys of cell p.
+fn link_cell(
+    k: usize,
+    w: usize,
+    first: usize,
+    p: usize,
+    rows: &[u16; 32768],
+    head: &mut [u16; 32768],
+    prev: &mut [u16; 32768],
+)
+    requires { ⌜ Keyed (now rows) k w first × (p < 4096) ⌝ }
+    requires { ⌜ Linking (keyRow (now rows) k w first) (now head) (now prev) (p * w) ⌝ }
+    ensures { λ _. ⌜ Linking (keyRow (now (rows .entry)) k w first) (now (head .exit)) (now (prev .exit)) (p * w + w) ⌝ }
+{
+    let sum = weigh(k, p, rows);
+    let mut i: usize = 0;
+    while i < w {
+        let b = bucket(k, p, first + i, sum, rows);
+        let g = p * w + i;
+        prev[g] = head[b];
+        head[b] = g as u16;
+        i += 1;
+    }
+}
+
+// Links each key of s cells to the last earlier key of its bucket.
+fn link(s: usize, k: usize, w: usize, first: usize, rows: &[u16; 32768], prev: &mut [u16; 32768])
+    requires { ⌜ Keyed (now rows) k w first × (s ≤ 4096) × (length (now prev) ≡ 32768) ⌝ }
+    ensures { λ _. ⌜ Linked (keyRow (now (rows .entry)) k w first) (now (prev .exit)) (s * w) ⌝ }
+    ensures { λ _. ⌜ length (now (prev .exit)) ≡ 32768 ⌝ }
+{
+    let mut head = [65535u16; 32768];
+    let mut p: usize = 0;
+    while p < s {
+        link_cell(k, w, first, p, rows, &mut head, prev);
+        p += 1;
+    }
+}
+
+// The last key before g with the row of g, or 65535: the links are followed back from g.
+fn back(
+    k: usize,
+    w: usize,
+    first: usize,
+    part: usize,
+    rows: &[u16; 32768],
+    prev: &[u16; 32768],
+    g: usize,
+) -> u16
+    requires { ⌜ Keyed (now rows) k w first × (part ≡ 1048576 / w + 1) × (g < 4096 * w) ⌝ }
+    requires { ⌜ Linked (keyRow (now rows) k w first) (now prev) (g + 1) ⌝ }
+    ensures { λ r. ⌜ r ≡ earlier (now (rows .entry)) k w first g ⌝ }
+{
+    let here = place_of(g, w, part);
+    let mut f = prev[g];
+    while f != 65535 {
+        let x = f as usize;
+        let there = place_of(x, w, part);
+        if same_key(
+            k,
+            rows,
+            there.cell,
+            first + there.at,
+            here.cell,
+            first + here.at,
+        ) {
+            return f;
+        }
+        f = prev[x];
+    }
+    65535
+}
+
+// Replaces the links of n keys by the last earlier keys with the same rows, from the last key down.
+fn settle(n: usize, k: usize, w: usize, first: usize, rows: &[u16; 32768], prev: &mut [u16; 32768])
+    requires { ⌜ Keyed (now rows) k w first × (n ≤ 4096 * w) × (length (now prev) ≡ 32768) ⌝ }
+    requires { ⌜ Linked (keyRow (now rows) k w first) (now prev) n ⌝ }
+    ensures { λ _. ⌜ length (now (prev .exit)) ≡ 32768 ⌝ }
+    ensures { λ _. ⌜ ((g : ℕ) → g < n → getD (now (prev .exit)) g 0 ≡ earlier (now (rows .entry)) k w first g) ⌝ }
+{
+    let part = 1048576 / w + 1;
+    let mut g = n;
+    while 0 < g {
+        g -= 1;
+        let f = back(k, w, first, part, rows, prev, g);
+        prev[g] = f;
+    }
+}
+
+// For each key of s cells the last earlier key with the same row, or 65535. A cell has w keys: its row
+// of k vertices less one of the positions from first. Position k and beyond leave the row whole.
+pub fn earlier_equal(
+    s: usize,
+    k: usize,
+    w: usize,
+    first: usize,
+    rows: &[u16; 32768],
+    prev: &mut [u16; 32768],
+)
+    requires { ⌜ Keyed (now rows) k w first × (s ≤ 4096) × (length (now prev) ≡ 32768) ⌝ }
+    ensures { λ _. ⌜ length (now (prev .exit)) ≡ 32768 ⌝ }
+    ensures { λ _. ⌜ ((g : ℕ) → g < s * w → getD (now (prev .exit)) g 0 ≡ earlier (now (rows .entry)) k w first g) ⌝ }
+{
+    link(s, k, w, first, rows, prev);
+    settle(s * w, k, w, first, rows, prev);
+}

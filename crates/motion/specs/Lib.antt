@@ -1,0 +1,2 @@
+-- The call move.
+pub mod Move

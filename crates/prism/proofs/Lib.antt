@@ -1,0 +1,15 @@
+-- Laws of the sweep.
+pub mod SideLaws
+pub mod Prism
+pub mod Level
+pub mod SweptSums
+pub mod PrismCounts
+pub mod Decode
+pub mod FaceBounds
+pub mod FaceKinds
+pub mod Pairs
+pub mod SweptRows
+pub mod Meeting
+pub mod SweptSolid
+pub mod SweptWings
+pub mod SweptTable

@@ -1,0 +1,114 @@
+-- The rows of swept cells, by number, and their faces, by position.
+use mathlib.Core.Path.{_≡_, refl, sym, ap, ap₂, _∙_}
+use mathlib.Core.Bool.{true}
+use mathlib.Core.List.{List, [], _∷_, _++_, append-nil}
+use Prim.Native.Nat.{ℕ, zero, suc, _+_, _*_, _≤_, _<_}
+use native.Mathlib.Omega.{arith}
+use native.Mathlib.Nat.{suc-mul, zero-mul, mul-le-mul-right, le-of-suc-le-suc, not-suc-le-zero}
+use native.Mathlib.Decide.{ℕ-discrete}
+use lib.ListN.{length, take, drop, length-append, length-map, length-drop, List·getD-append}
+use lib.Seq.{drop-cons, drop-length, take-length, getD-append-add}
+use Rattle.words.proofs.Records.{tabulate-at, tabulate-length}
+use Rattle.simplex.specs.Cell.{Cell, Row, cell}
+use Rattle.simplex.specs.Faces.{without}
+use Rattle.simplex.proofs.Counts.{All}
+use Rattle.simplex.proofs.Rows.{Long}
+use Rattle.simplex.proofs.Without.{drop-face, drop-face-ge, take-face-ge, take-face-lt, without-left, without-map, without-right}
+use Rattle.complex.proofs.Solid.{rowAt}
+use Rattle.complex.proofs.Tables.{cellAt}
+use Rattle.prism.specs.Cells.{level, prism, prismCell, sweepOf}
+use Rattle.prism.proofs.Level.{raised}
+
+-- cell k over a row
+abbrev pub prismRow : ℕ → ℕ → ℕ → Row → Row
+prismRow lo hi k v = raised lo (drop k v) ++ raised hi (take (suc k) v)
+
+-- a lower vertex dropped: position j of cell k, 1 ≤ j, is cell k over face k + j
+pub side-low : (lo hi k j : ℕ) (v : Row) → 1 ≤ j → k + j < length v → without j (prismRow lo hi k v) ≡ prismRow lo hi k (without (k + j) v)
+side-low lo hi k j v p h =
+    without-left j (raised lo (drop k v)) (raised hi (take (suc k) v)) (rw (length-map, length-drop) (omega arith))
+    ∙ ap₂ {C = Row} (λ l r. l ++ r) (without-map (λ n. n + lo) j (drop k v) ∙ ap (raised lo) (drop-face k j v)) (ap (raised hi) (sym (take-face-lt (k + j) (suc k) v (omega arith))))
+
+-- an upper vertex dropped: position d - k + a of cell k + 1 is cell k over face a
+pub side-high : (lo hi k a j : ℕ) (v : Row) → a ≤ k → suc k < length v → j + suc k ≡ length v + a → without j (prismRow lo hi (suc k) v) ≡ prismRow lo hi k (without a v)
+side-high lo hi k a j v h l e =
+    let p : j ≡ length (raised lo (drop (suc k) v)) + a = rw (length-map, length-drop) (omega arith) in
+    rw p (without-right a (raised lo (drop (suc k) v)) (raised hi (take (suc (suc k)) v))
+    ∙ ap₂ {C = Row} (λ l r. l ++ r) (ap (raised lo) (sym (drop-face-ge a k v h))) (without-map (λ n. n + hi) a (take (suc (suc k)) v) ∙ ap (raised hi) (sym (take-face-ge a (suc k) v (omega arith)))))
+
+-- the inner face below cell k
+abbrev pub between : ℕ → ℕ → ℕ → Row → Row
+between lo hi k v = raised lo (drop k v) ++ raised hi (take k v)
+
+pub first-face : (lo hi k : ℕ) (v : Row) → k < length v → without zero (prismRow lo hi k v) ≡ between lo hi (suc k) v
+first-face lo hi k v l = rw (drop-cons v k 0 l) refl
+
+pub last-face : (lo hi k : ℕ) (v : Row) → k < length v → without (length v) (prismRow lo hi k v) ≡ between lo hi k v
+last-face lo hi k v l =
+    let p : length v ≡ length (raised lo (drop k v)) + k = rw (length-map, length-drop) (omega arith) in
+    ap (λ j. without j (prismRow lo hi k v)) p ∙ without-right k (raised lo (drop k v)) (raised hi (take (suc k) v))
+    ∙ ap (λ r. raised lo (drop k v) ++ r) (without-map (λ n. n + hi) k (take (suc k) v) ∙ ap (raised hi) (sym (take-face-ge k k v (omega arith)) ∙ take-face-lt k k v (omega arith)))
+
+pub mid-top : (lo hi : ℕ) (v : Row) → between lo hi (length v) v ≡ raised hi v
+mid-top lo hi v = rw (drop-length v, take-length v) refl
+
+pub mid-bottom : (lo hi : ℕ) (v : Row) → between lo hi zero v ≡ raised lo v
+mid-bottom lo hi v = append-nil (raised lo v)
+
+cell-left : (xs ys : List Cell) (n : ℕ) → n < length xs → cellAt (xs ++ ys) n ≡ cellAt xs n
+cell-left xs ys n h = List·getD-append xs ys (cell true []) n h
+
+cell-right : (xs ys : List Cell) (n m : ℕ) → m ≡ length xs + n → cellAt (xs ++ ys) m ≡ cellAt ys n
+cell-right xs ys n m e = ap (cellAt (xs ++ ys)) e ∙ getD-append-add xs ys n (cell true [])
+
+module _ (nv n : ℕ) where
+  len-block : (i : ℕ) (c : Cell) → Long n (c .row) → length (prism nv i c) ≡ n
+  len-block i c l = tabulate-length (length (c .row)) (λ k. prismCell nv i k c) ∙ l
+
+  pub len-level : (i : ℕ) (cs : List Cell) → All (Long n) cs → length (level nv i cs) ≡ length cs * n
+  len-level i [] a = sym (zero-mul n)
+  len-level i (c ∷ cs) a = omega (arith, length-append (prism nv i c) (level nv i cs), len-block i c (a .0), len-level i cs (a .1), suc-mul (length cs) n)
+
+  cell-level : (i p k : ℕ) (cs : List Cell) → All (Long n) cs → p < length cs → k < n → cellAt (level nv i cs) (k + p * n) ≡ prismCell nv i k (cellAt cs p)
+  cell-level i p k [] a hp hk = absurd (not-suc-le-zero hp)
+  cell-level i zero k (c ∷ cs) a hp hk =
+      ap (cellAt (level nv i (c ∷ cs))) (omega (arith, zero-mul n))
+      ∙ cell-left (prism nv i c) (level nv i cs) k (omega (arith, len-block i c (a .0)))
+      ∙ tabulate-at (length (c .row)) (λ k. prismCell nv i k c) k (cell true []) (omega (arith, a .0))
+  cell-level i (suc p) k (c ∷ cs) a hp hk =
+      cell-right (prism nv i c) (level nv i cs) (k + p * n) (k + suc p * n) (omega (arith, len-block i c (a .0), suc-mul p n))
+      ∙ cell-level i p k cs (a .1) (le-of-suc-le-suc hp) hk
+
+  pub len-sweep : (h : ℕ) (cs : List Cell) → All (Long n) cs → length (sweepOf nv h cs) ≡ h * (length cs * n)
+  len-sweep zero cs a = sym (zero-mul (length cs * n))
+  len-sweep (suc h) cs a = omega (arith, length-append (sweepOf nv h cs) (level nv h cs), len-sweep h cs a, len-level h cs a, suc-mul h (length cs * n))
+
+  cell-sweep : (h i r : ℕ) (cs : List Cell) → All (Long n) cs → i < h → r < length cs * n → cellAt (sweepOf nv h cs) (r + i * (length cs * n)) ≡ cellAt (level nv i cs) r
+  cell-sweep zero i r cs a hi hr = absurd (not-suc-le-zero hi)
+  cell-sweep (suc h) i r cs a hi hr = go (ℕ-discrete i h) (λ l. cell-sweep h i r cs a l hr)
+    where
+      go : Dec (i ≡ h) → (i < h → cellAt (sweepOf nv h cs) (r + i * (length cs * n)) ≡ cellAt (level nv i cs) r) → cellAt (sweepOf nv (suc h) cs) (r + i * (length cs * n)) ≡ cellAt (level nv i cs) r
+      go (yes e) k = rw e (cell-right (sweepOf nv h cs) (level nv h cs) r (r + h * (length cs * n)) (omega (arith, len-sweep h cs a)))
+      go (no z) k =
+          let l : i < h = omega arith in
+          cell-left (sweepOf nv h cs) (level nv h cs) (r + i * (length cs * n))
+          (omega (arith, len-sweep h cs a, suc-mul i (length cs * n), mul-le-mul-right {m = suc i} {n = h} (length cs * n) l))
+          ∙ k l
+
+  -- the number of cell k over cell p at level i, among S cells
+  abbrev pub numberOf : ℕ → ℕ → ℕ → ℕ → ℕ
+  numberOf S i p k = k + p * n + i * (S * n)
+
+  in-level : (S p k : ℕ) → p < S → k < n → k + p * n < S * n
+  in-level S p k hp hk = omega (arith, suc-mul p n, mul-le-mul-right {m = suc p} {n = S} n hp)
+
+  pub cell-num : (h i p k : ℕ) (cs : List Cell) → All (Long n) cs → i < h → p < length cs → k < n →
+      cellAt (sweepOf nv h cs) (numberOf (length cs) i p k) ≡ prismCell nv i k (cellAt cs p)
+  cell-num h i p k cs a hi hp hk = cell-sweep h i (k + p * n) cs a hi (in-level (length cs) p k hp hk) ∙ cell-level i p k cs a hp hk
+
+  pub row-num : (h i p k : ℕ) (cs : List Cell) → All (Long n) cs → i < h → p < length cs → k < n →
+      rowAt (sweepOf nv h cs) (numberOf (length cs) i p k) ≡ prismRow (i * nv) (suc i * nv) k (rowAt cs p)
+  row-num h i p k cs a hi hp hk = ap (λ (c : Cell). c .row) (cell-num h i p k cs a hi hp hk)
+
+  pub num-lt : (h S i p k : ℕ) → i < h → p < S → k < n → numberOf S i p k < h * (S * n)
+  num-lt h S i p k hi hp hk = omega (arith, in-level S p k hp hk, suc-mul i (S * n), mul-le-mul-right {m = suc i} {n = h} (S * n) hi)

@@ -1,0 +1,1 @@
+// Prisms over the cells of a solid: definitions and laws, no code.

@@ -1,0 +1,2 @@
+-- The rules of the call read.
+pub mod Outcomes

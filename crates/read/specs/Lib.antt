@@ -1,0 +1,2 @@
+-- The call read.
+pub mod Read

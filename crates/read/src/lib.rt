@@ -1,0 +1,97 @@
+// The call read.
+use file::cells;
+use file::floats;
+use file::numbers;
+use file::step as steps;
+use points::step::Step;
+use rules::refusal::Refusal;
+ghost use mathlib.Core.Path.{_≡_};
+ghost use mathlib.Core.Bool.{true, _||_};
+ghost use Prim.Native.Nat.{_≤_};
+ghost use lib.Dec.{ltb};
+ghost use lib.ListN.{length};
+ghost use Rattle.words.specs.Records.{allOf, tabulate};
+ghost use Rattle.points.specs.Step.{inRange};
+ghost use Rattle.file.specs.File.{headerSize, amountOf, pointCount};
+ghost use Rattle.file.specs.Tests.{cellsLength};
+ghost use Rattle.read.specs.Read.{headerOf, readInput, readOutcome, readCells, readPoints, outcomeOf};
+
+// The header's numbers and the step.
+pub struct Header {
+    pub d: usize,
+    pub n: usize,
+    pub v: usize,
+    pub s: usize,
+    pub h: usize,
+    pub step: Step,
+}
+
+pub enum ReadAnswer {
+    Accepted(Header),
+    Refused(Refusal),
+}
+
+fn header_of(b: &[u8]) -> Header
+    requires { ⌜ (headerSize ≤ length (now b)) × (allOf inRange (tabulate 3 (amountOf (now b))) ≡ true) ⌝ }
+    ensures { λ r. ⌜ r ≡ headerOf (now (b .entry)) ⌝ }
+{
+    let step = steps::step(b);
+    Header {
+        d: numbers::dimension(b),
+        n: numbers::axes(b),
+        v: numbers::vertex_count(b),
+        s: numbers::cell_count(b),
+        h: numbers::steps(b),
+        step,
+    }
+}
+
+// Row 15: no place for the cells in `room` words, or for the points in `space` floats.
+fn no_room(b: &[u8], room: usize, space: usize) -> bool
+    requires { ⌜ headerSize ≤ length (now b) ⌝ }
+    ensures { λ r. ⌜ r ≡ (ltb room (cellsLength (now (b .entry))) || ltb space (pointCount (now (b .entry)))) ⌝ }
+{
+    if room < cells::words(b) {
+        return true;
+    }
+    space < numbers::point_count(b)
+}
+
+// Reads a file: its cells go to one buffer, its points to another, and the header is the answer. Rows 1 to 8 and 15 of
+// the refusal table are tried in this order, each over the whole file, and a refused call writes nothing.
+pub fn read(bytes: &[u8], cells: &mut [u16], points: &mut [f64]) -> ReadAnswer
+    ensures answer { λ r. ⌜ outcomeOf r ≡ readOutcome (readInput (now (bytes .entry)) (length (now (cells .entry))) (length (now (points .entry)))) ⌝ }
+    ensures cells { λ r. ⌜ now (cells .exit) ≡ readCells (readInput (now (bytes .entry)) (length (now (cells .entry))) (length (now (points .entry)))) (now (cells .entry)) ⌝ }
+    ensures points { λ r. ⌜ now (points .exit) ≡ readPoints (readInput (now (bytes .entry)) (length (now (cells .entry))) (length (now (points .entry)))) (now (points .entry)) ⌝ }
+{
+    if numbers::not_ours(bytes) {
+        return ReadAnswer::Refused(Refusal::NotOurs);
+    }
+    if numbers::outside_limits(bytes) {
+        return ReadAnswer::Refused(Refusal::OutsideLimits);
+    }
+    if numbers::wrong_length(bytes) {
+        return ReadAnswer::Refused(Refusal::WrongLength);
+    }
+    if floats::out_of_range(bytes) {
+        return ReadAnswer::Refused(Refusal::FloatRange);
+    }
+    if steps::step_unfit(bytes) {
+        return ReadAnswer::Refused(Refusal::StepUnfit);
+    }
+    if cells::bad_sign(bytes) {
+        return ReadAnswer::Refused(Refusal::BadSign);
+    }
+    if cells::bad_vertex(bytes) {
+        return ReadAnswer::Refused(Refusal::BadVertex);
+    }
+    if cells::vertex_twice(bytes) {
+        return ReadAnswer::Refused(Refusal::VertexTwice);
+    }
+    if no_room(bytes, cells.len(), points.len()) {
+        return ReadAnswer::Refused(Refusal::NoRoom);
+    }
+    cells::write_cells(bytes, cells);
+    floats::write_points(bytes, points);
+    ReadAnswer::Accepted(header_of(bytes))
+}

@@ -1,0 +1,2 @@
+-- The cases of the call wing.
+pub mod WingCases

@@ -1,0 +1,2 @@
+-- The call wing.
+pub mod Wing
