@@ -22,7 +22,7 @@ use Rattle.motion.specs.Move.{moveOutcome}
 use Rattle.read.specs.declared.Header.{Header}
 use Rattle.read.specs.Read.{readOutcome}
 use Rattle.printing.specs.Decimal.{digit, digits, digitsUpTo}
-use Rattle.listing.specs.Listing.{listText, listOutcome}
+use Rattle.list.specs.Listing.{listText, listOutcome}
 use Rattle.marking.specs.Key.{inputLimit, byteRoom, thenCall, readIn, wingIn, sweepIn, moveIn, listIn, callsOn, keyOutcome, spoken, printed, textOutcome, textBuffer}
 use Rattle.marking.proofs.Staged.{list-long}
 

@@ -4,4 +4,3 @@ pub mod Runs
 pub mod FaceText
 pub mod TableFaces
 pub mod KeyText
-pub mod ListCases

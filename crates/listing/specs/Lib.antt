@@ -1,4 +1,3 @@
 -- The key's text, and the call list.
 pub mod Lines
-pub mod Listing
 pub mod Parts

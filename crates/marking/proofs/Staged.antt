@@ -20,14 +20,13 @@ use Rattle.rules.proofs.Accepting.{accepted-by, front-of}
 use Rattle.complex.specs.Table.{tableOfList}
 use Rattle.wing.specs.Wing.{WingInput, wingInput, wingOutcome, wingBuffer}
 use Rattle.prism.specs.Swept.{sweptCells}
-use Rattle.sweep.specs.Sweep.{sweepOutcome, sweepBuffer, sweepRules, sweptLength, sweptWords}
-use Rattle.sweep.specs.Written.{sweepInput}
+use Rattle.sweep.specs.Sweep.{sweepOutcome, sweepBuffer, sweepRules, sweptLength, sweptWords, sweepInput}
 use Rattle.sweep.proofs.InLimits.{Limits, limits-are}
 use Rattle.motion.specs.Move.{MoveInput, moveInput, movedLength, movedLevels, moveOutcome, moveBuffer, moveRules}
 use Rattle.points.specs.declared.step.Step.{Step}
 use Rattle.points.proofs.LevelLaws.{length-levels}
 use Rattle.motion.proofs.MoveRules.{limits}
-use Rattle.listing.specs.Listing.{ListInput, listInput, listText, listOutcome, listBuffer, listRules}
+use Rattle.list.specs.Listing.{ListInput, listInput, listText, listOutcome, listBuffer, listRules}
 use Rattle.winged.proofs.Lengths.{accepted-long, swept-long}
 use Rattle.marking.specs.Key.{wordRoom, floatRoom, thenCall}
 use Rattle.marking.specs.Stages.{counted, left, listKey, movedKey, sweptKey, wingedKey}

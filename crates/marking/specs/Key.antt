@@ -22,7 +22,7 @@ use Rattle.read.specs.declared.Header.{Header}
 use Rattle.file.specs.File.{filePoints}
 use Rattle.file.specs.Tests.{fileWords}
 use Rattle.read.specs.Read.{ReadInput, readOutcome}
-use Rattle.listing.specs.Listing.{ListInput, listText, listOutcome}
+use Rattle.list.specs.Listing.{ListInput, listText, listOutcome}
 use Rattle.printing.specs.Decimal.{digits}
 
 abbrev pub inputLimit : ℕ

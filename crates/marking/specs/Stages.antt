@@ -14,11 +14,10 @@ use Rattle.rules.specs.Calls.{Outcome, accepted, refused, written}
 use Rattle.complex.specs.Table.{tableOfList}
 use Rattle.wing.specs.Wing.{wingInput, wingOutcome}
 use Rattle.prism.specs.Swept.{sweptCells}
-use Rattle.sweep.specs.Sweep.{sweptWords, sweepOutcome}
-use Rattle.sweep.specs.Written.{sweepInput}
+use Rattle.sweep.specs.Sweep.{sweptWords, sweepOutcome, sweepInput}
 use Rattle.motion.specs.Move.{moveInput, movedLevels, moveOutcome}
 use Rattle.points.specs.declared.step.Step.{Step}
-use Rattle.listing.specs.Listing.{ListInput, listInput, listText, listOutcome}
+use Rattle.list.specs.Listing.{ListInput, listInput, listText, listOutcome}
 use Rattle.marking.specs.Key.{wordRoom, floatRoom, thenCall}
 
 abbrev pub counted : Outcome (List ℕ) → Outcome ℕ

@@ -7,7 +7,7 @@ ghost use Rattle.marking.specs.Stages.{counted, left, movedKey, sweptKey
 use wing::wing;
 use read::ReadAnswer;
 use read::read;
-use listing::list::list;
+use list::list;
 use motion::move_points;
 use points::step::Step;
 use rules::refusal::Answer;

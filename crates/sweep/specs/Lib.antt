@@ -1,6 +1,2 @@
--- The call sweep, and the words that it writes.
+-- The call sweep.
 pub mod Sweep
-pub mod Written
-pub mod RecordWords
-pub mod Across
-pub mod SideTable

@@ -1,5 +1,6 @@
 -- The call sweep: it takes a table and writes the table of its sweep in h steps.
 --   sweptWords                the words of the swept table
+--   sweepInput                the call's input
 --   sweepRules, sweepOutcome, sweepBuffer
 use mathlib.Core.Bool.{not, _&&_, _||_}
 use mathlib.Core.List.{List, [], _∷_}
@@ -20,6 +21,10 @@ pub record SweepInput : Type 0 where
   pub h : ℕ
   pub table : List ℕ
   pub room : ℕ
+
+-- the input of a call told these numbers and words, with room for so many words
+abbrev pub sweepInput : ℕ → ℕ → ℕ → ℕ → List ℕ → ℕ → SweepInput
+sweepInput d v s h ws room = record { d = d; v = v; s = s; h = h; table = ws; room = room }
 
 abbrev pub sweptLength : SweepInput → ℕ
 sweptLength i = tableLength (suc (i .d)) (sweptCells (i .d) (i .s) (i .h))

@@ -2,8 +2,7 @@
 ghost use mathlib.Core.Path.{_≡_};
 ghost use lib.ListN.{length};
 ghost use Rattle.rules.specs.Numbers.{outcomeOf};
-ghost use Rattle.sweep.specs.Sweep.{sweepOutcome, sweepBuffer};
-ghost use Rattle.sweep.specs.Written.{sweepInput};
+ghost use Rattle.sweep.specs.Sweep.{sweepOutcome, sweepBuffer, sweepInput};
 use adjacency::sound::is_sound;
 use rules::refusal::Answer;
 use rules::refusal::Refusal;
@@ -11,14 +10,9 @@ use crate::limits::in_limits;
 use crate::limits::swept_cells;
 use crate::limits::table_words;
 use crate::limits::too_large;
-use crate::writing::write_swept;
+use sweeping::writing::write_swept;
 
-pub mod sides;
 mod limits;
-mod reading;
-mod record;
-mod wings;
-mod writing;
 
 // Writes the swept table from the start of out and answers the count of its words, or says why not.
 pub fn sweep(d: usize, v: usize, s: usize, h: usize, table: &[u16], out: &mut [u16]) -> Answer

@@ -14,7 +14,7 @@ use Rattle.file.specs.Tests.{fileWords}
 use Rattle.read.specs.Read.{readRules, headerOf, readOutcome, readCells, readPoints}
 use Rattle.printing.specs.Decimal.{digits, thousandths, coordinate}
 use Rattle.listing.specs.Lines.{firstLine, vertexLine, faceLine, keyText}
-use Rattle.listing.specs.Listing.{listText, listRules, listOutcome, listBuffer}
+use Rattle.list.specs.Listing.{listText, listRules, listOutcome, listBuffer}
 use Rattle.winged.specs.Host.{hostWingOutcome, hostWing, hostWingBuffer, hostSweepOutcome, hostSweep, hostSweepBuffer, hostFacesOutcome, hostFaces, hostFacesBuffer}
 use Rattle.marking.specs.Key.{keyOutcome, printed}
 

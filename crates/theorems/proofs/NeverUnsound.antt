@@ -26,13 +26,12 @@ use Rattle.wing.specs.Wing.{WingInput, wingInput, wingOutcome, wingBuffer, wing
 use Rattle.complex.proofs.Accepted.{accepted-solid}
 use Rattle.complex.proofs.OwnTable.{table-sound}
 use Rattle.prism.specs.Swept.{sweptCells}
-use Rattle.sweep.specs.Sweep.{SweepInput, sweepOutcome, sweepBuffer, sweepRules, sweptLength, sweptWords}
-use Rattle.sweep.specs.Written.{sweepInput}
+use Rattle.sweep.specs.Sweep.{SweepInput, sweepOutcome, sweepBuffer, sweepRules, sweptLength, sweptWords, sweepInput}
 use Rattle.motion.specs.Move.{MoveInput, moveOutcome, moveRules, movedLength}
 use Rattle.read.specs.declared.Header.{Header}
 use Rattle.file.specs.Tests.{fileWords}
 use Rattle.read.specs.Read.{ReadInput, headerOf, readOutcome, readRules}
-use Rattle.listing.specs.Listing.{ListInput, listText, listOutcome, listRules}
+use Rattle.list.specs.Listing.{ListInput, listText, listOutcome, listRules}
 use Rattle.marking.specs.Key.{inputLimit, wordRoom, thenCall, readIn, wingIn, sweepIn, moveIn, listIn, callsOn, keyOutcome}
 use Rattle.marking.proofs.Staged.{winged-front, swept-front}
 use Rattle.third_term.specs.ThirdTerm.{Sitting, Unrefused, toWing, toSweep, tableWritten, sweptWritten}

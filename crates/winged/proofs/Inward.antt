@@ -31,8 +31,7 @@ use Rattle.wing.specs.Wing.{WingInput, wingInput, wingOutcome, wingBuffer, wing
 use Rattle.adjacency.proofs.Taking.{limits-of}
 use Rattle.wing.proofs.WingCases.{outcome-refused, outside, wrong-length}
 use Rattle.prism.specs.Swept.{sweptCells}
-use Rattle.sweep.specs.Sweep.{SweepInput, sweepOutcome, sweepBuffer, sweepRules, sweptWords}
-use Rattle.sweep.specs.Written.{sweepInput}
+use Rattle.sweep.specs.Sweep.{SweepInput, sweepOutcome, sweepBuffer, sweepRules, sweptWords, sweepInput}
 use Rattle.sweep.proofs.InLimits.{limits-are}
 use Rattle.sweep.proofs.Outcomes.{tooLarge, large-not, refused-at-2, refused-at-3, refused-at-12}
 use Rattle.winged.specs.Host.{hosted, hostAnswer, wordsIn, hostList, hostWing, hostWingOutcome, hostWingBuffer, hostSweepInput, hostSweep, hostSweepOutcome, hostSweepBuffer}

@@ -19,9 +19,8 @@ use Rattle.complex.specs.Table.{tableOfList}
 use Rattle.wing.specs.Wing.{wingOutcome, wingRules}
 use Rattle.complex.proofs.Accepted.{accepted-solid, passes}
 use Rattle.complex.proofs.OwnTable as own
-use Rattle.sweep.specs.Sweep.{sweepOutcome, sweepRules, sweptLength, sweptWords}
-use Rattle.sweep.specs.Written.{sweepInput}
-use Rattle.sweep.proofs.SweptWords.{all-long, all-words}
+use Rattle.sweep.specs.Sweep.{sweepOutcome, sweepRules, sweptLength, sweptWords, sweepInput}
+use Rattle.sweep.proofs.CallWords.{call-words, call-long}
 
 pub accepted-long : (l : Listed) (x k : ℕ) → wingOutcome (record { list = l; room = x }) ≡ accepted k → k ≡ length (tableOfList l)
 unfolding wingOutcome wingRules solidRules tableOfList
@@ -43,4 +42,4 @@ unfolding sweepOutcome sweepRules
 swept-long d v s h ws x k e =
     let by = accepted-by sweepRules sweptLength (sweepInput d v s h ws x) k refl e in
     let words = eqb-true (length ws) (tableLength d s) (not-false (eqb (length ws) (tableLength d s)) (by .1 .1 .0)) in
-    by .0 ∙ sym (all-long d v s h ws words x) ∙ ap length (sym (all-words d v s h ws x))
+    by .0 ∙ sym (call-long d v s h ws words x) ∙ ap length (sym (call-words d v s h ws x))

@@ -18,8 +18,7 @@ use Rattle.rules.specs.Shapes.{shapeOk}
 use Rattle.rules.specs.Calls.{Outcome, accepted, refused, after}
 use Rattle.complex.specs.Layout.{cellWords}
 use Rattle.wing.specs.Wing.{wingInput, wingOutcome}
-use Rattle.sweep.specs.Sweep.{sweepOutcome}
-use Rattle.sweep.specs.Written.{sweepInput}
+use Rattle.sweep.specs.Sweep.{sweepOutcome, sweepInput}
 use Rattle.boundary.specs.Faces.{FacesInput, boundaryCells, facesOutcome}
 use Rattle.boundary.specs.Written.{facesInput}
 use Rattle.winged.specs.Host.{hosted, hostAnswer, wordsIn, inWords}

@@ -10,13 +10,13 @@ use borrow.Author.Tests.{not-true, not-false, eq-eqb, ne-eqb, lt-ltb, le-ltb}
 use lib.ListN.{length, drop}
 use Rattle.rules.specs.Calls.{accepted}
 use Rattle.complex.specs.Layout.{tableLength}
-use Rattle.sweep.specs.Sweep.{SweepInput, sweptLength}
-use Rattle.sweep.specs.Written.{sweepInput, allWords, Ready}
+use Rattle.sweep.specs.Sweep.{SweepInput, sweptLength, sweepInput}
+use Rattle.sweeping.specs.Written.{allWords, Ready}
 use Rattle.sweep.proofs.InLimits.{Limits, limits-are}
 use Rattle.sweep.proofs.Outcomes.{inLimits, rightLength, tooLarge, isSound, refused-at-2, refused-at-3, refused-at-12, refused-at-14, refused-at-15, accepted-with, left-alone, left-written, large-not}
 use Rattle.words.proofs.Placed.{placed-first}
-use Rattle.sweep.proofs.SoundTable.{sound-ready}
-use Rattle.sweep.proofs.SweptWords.{all-words, all-long}
+use Rattle.sweeping.proofs.SoundTable.{sound-ready}
+use Rattle.sweep.proofs.CallWords.{call-words, call-long}
 use Rattle.sweep.proofs.sweep.Statement.{statement}
 use Rattle.sweep.proofs.sweep.Tie as tie
 
@@ -134,7 +134,7 @@ write-swept-requires : tie.Need-write-swept-requires
 write-swept-requires c κs =
     let four = c .before .before .before .before in
     let a = start-of four .args in
-    (ready four, omega (arith, c .before .if5 .left, long (c .before .before), all-long (a .d) (a .v) (a .s) (a .h) (a .table .now) (ready four .long) (length (a .out .now))))
+    (ready four, omega (arith, c .before .if5 .left, long (c .before .before), call-long (a .d) (a .v) (a .s) (a .h) (a .table .now) (ready four .long) (length (a .out .now))))
 
 same-length : tie.Need-same-length
 same-length c = search needs
@@ -149,8 +149,8 @@ returns-6 c =
     let o =
         accepted-with i (within (one (two (three four)))) (right (two (three four))) (fits (three four)) (whole four)
         (le-ltb (i .room) (sweptLength i) (omega (arith, five .if5 .left, long (five .before)))) in
-    let words = all-words (a .d) (a .v) (a .s) (a .h) (a .table .now) (i .room) in
-    (ap accepted (call .ensures .0 ∙ all-long (a .d) (a .v) (a .s) (a .h) (a .table .now) (ready four .long) (i .room)) ∙ sym o
+    let words = call-words (a .d) (a .v) (a .s) (a .h) (a .table .now) (i .room) in
+    (ap accepted (call .ensures .0 ∙ call-long (a .d) (a .v) (a .s) (a .h) (a .table .now) (ready four .long) (i .room)) ∙ sym o
     , call .ensures .1 ∙ placed-first (allWords (a .d) (a .v) (a .s) (a .h) (a .table .now)) (a .out .now)
       ∙ ap (λ (l : List ℕ). l ++ drop (length l) (a .out .now)) (sym words) ∙ left-written i (sweptLength i) (a .out .now) o)
 

@@ -9,7 +9,6 @@ use borrow.Author.Needs.{needs}
 use Rattle.adjacency.specs.Pairing.{faceCount}
 use Rattle.adjacency.proofs.Adjacent.{face-count}
 use Rattle.adjacency.proofs.Faults.{found-9, found-10, found-11, found-none, found-wings, twins-are}
-use borrow.Author.Needs.{needs}
 use Rattle.adjacency.proofs.adjacency.adjacent.Statement.{statement}
 use Rattle.adjacency.proofs.adjacency.adjacent.Tie as tie
 

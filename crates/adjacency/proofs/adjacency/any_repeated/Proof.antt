@@ -5,7 +5,6 @@ use native.Mathlib.Omega.{arith}
 use lib.ListN.{length-replicate}
 use borrow.Author.Needs.{needs}
 use Rattle.adjacency.proofs.Faults.{twice-is}
-use borrow.Author.Needs.{needs}
 use Rattle.adjacency.proofs.adjacency.any_repeated.Statement.{statement}
 use Rattle.adjacency.proofs.adjacency.any_repeated.Tie as tie
 

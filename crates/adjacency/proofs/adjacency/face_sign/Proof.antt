@@ -5,7 +5,6 @@ use lib.ListN.{getD}
 use borrow.Author.Needs.{needs}
 use Rattle.simplex.specs.Cell.{times}
 use Rattle.adjacency.proofs.Seeing.{alternating-even}
-use borrow.Author.Needs.{needs}
 use Rattle.adjacency.proofs.adjacency.face_sign.Statement.{statement}
 use Rattle.adjacency.proofs.adjacency.face_sign.Tie as tie
 

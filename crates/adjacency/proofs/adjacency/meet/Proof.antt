@@ -3,7 +3,6 @@ use mathlib.Core.Bool.{Bool, _||_}
 use mathlib.Core.Path.{ap, ap₂, _∙_}
 use borrow.Author.Needs.{needs}
 use Rattle.simplex.specs.Cell.{times}
-use borrow.Author.Needs.{needs}
 use Rattle.adjacency.proofs.adjacency.meet.Statement.{statement}
 use Rattle.adjacency.proofs.adjacency.meet.Tie as tie
 

@@ -6,7 +6,6 @@ use native.Mathlib.Omega.{arith}
 use borrow.Author.Needs.{needs}
 use Rattle.matching.proofs.Quotients.{cell-of-key, place-of-key}
 use Rattle.adjacency.proofs.Seeing.{met-none, met-seen}
-use borrow.Author.Needs.{needs}
 use Rattle.adjacency.proofs.adjacency.pair_at.Statement.{statement}
 use Rattle.adjacency.proofs.adjacency.pair_at.Tie as tie
 

@@ -6,7 +6,6 @@ use native.Mathlib.Omega.{arith}
 use borrow.Author.Needs.{needs}
 use borrow.Author.Tests.{eq-eqb, ne-eqb}
 use Rattle.adjacency.proofs.Filling.{record-same}
-use borrow.Author.Needs.{needs}
 use Rattle.adjacency.proofs.table.same_record.Statement.{statement}
 use Rattle.adjacency.proofs.table.same_record.Tie as tie
 

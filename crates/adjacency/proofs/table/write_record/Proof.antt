@@ -8,7 +8,6 @@ use lib.ListN.{length, length-set}
 use Rattle.words.proofs.Placed.{placed-length}
 use Rattle.adjacency.specs.Held.{recordHeld}
 use Rattle.adjacency.proofs.Filling.{part-room, record-long, record-placed}
-use borrow.Author.Needs.{needs}
 use Rattle.adjacency.proofs.table.write_record.Statement.{statement}
 use Rattle.adjacency.proofs.table.write_record.Tie as tie
 

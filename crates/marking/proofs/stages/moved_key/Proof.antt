@@ -13,7 +13,7 @@ use Rattle.rules.specs.Calls.{accepted}
 use Rattle.rules.specs.Limits.{sweptVertices}
 use Rattle.rules.specs.Numbers.{numberOf, outcomeOf}
 use Rattle.motion.specs.Move.{MoveInput, moveInput, movedLevels, moveOutcome}
-use Rattle.listing.specs.Listing.{listInput, listOutcome, listBuffer}
+use Rattle.list.specs.Listing.{listInput, listOutcome, listBuffer}
 use Rattle.marking.specs.Key.{floatRoom}
 use Rattle.marking.specs.Stages.{counted, left}
 use Rattle.marking.proofs.Staged.{moved-front, moved-limits, moved-refused, moved-accepted, list-counted, list-left}

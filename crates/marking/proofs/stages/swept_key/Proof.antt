@@ -10,8 +10,7 @@ use lib.ListN.{length, take}
 use lib.Seq.{length-take-le}
 use Rattle.rules.specs.Calls.{Outcome, accepted}
 use Rattle.rules.specs.Numbers.{numberOf, outcomeOf}
-use Rattle.sweep.specs.Sweep.{SweepInput, sweepOutcome, sweptWords}
-use Rattle.sweep.specs.Written.{sweepInput}
+use Rattle.sweep.specs.Sweep.{SweepInput, sweepOutcome, sweptWords, sweepInput}
 use Rattle.sweep.proofs.InLimits.{Limits}
 use Rattle.marking.specs.Key.{wordRoom}
 use Rattle.marking.specs.Stages.{counted, left, movedKey}

@@ -10,8 +10,7 @@ use mir.ValLaws.{toZ-ofZ}
 use Rattle.words.specs.Bytes.{words16, bytesOf}
 use Rattle.rules.specs.Calls.{Outcome, accepted, after}
 use Rattle.rules.specs.Numbers.{outcomeOf}
-use Rattle.sweep.specs.Sweep.{sweptWords}
-use Rattle.sweep.specs.Written.{sweepInput}
+use Rattle.sweep.specs.Sweep.{sweptWords, sweepInput}
 use Rattle.winged.specs.Host.{wordsIn}
 use Rattle.winged.specs.Sent.{sweepRead}
 use Rattle.winged.proofs.Outward.{room-fits, lent-fits, lent-is, send-fits, relayed}

@@ -13,8 +13,7 @@ use Rattle.words.specs.Bytes.{words16}
 use Rattle.rules.specs.Limits.{maxSource, stepsOk}
 use Rattle.rules.specs.Shapes.{shapeOk}
 use Rattle.complex.specs.Layout.{recordSize}
-use Rattle.sweep.specs.Sweep.{sweepOutcome, sweepBuffer}
-use Rattle.sweep.specs.Written.{sweepInput}
+use Rattle.sweep.specs.Sweep.{sweepOutcome, sweepBuffer, sweepInput}
 use Rattle.sweep.proofs.InLimits.{limits-are}
 use Rattle.winged.proofs.Inward.{decoded-front, sweep-after, sweep-large, sweep-outside, sweep-wrong, sweep-right}
 use Rattle.winged.proofs.reading.sweep_words.Statement.{statement}

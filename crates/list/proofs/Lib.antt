@@ -1,0 +1,2 @@
+-- The cases of the call list.
+pub mod ListCases

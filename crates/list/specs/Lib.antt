@@ -1,0 +1,2 @@
+-- The call list.
+pub mod Listing

@@ -1,0 +1,86 @@
+// The call list: it takes a table and its points and writes the key's text.
+use listing::key::key_size;
+use listing::key::put_key;
+use adjacency::sound::is_sound;
+use points::range::all_in_range;
+use rules::limits::Shape;
+use rules::limits::Shaped;
+use rules::refusal::Answer;
+use rules::refusal::Refusal;
+ghost use mathlib.Core.Path.{_≡_};
+ghost use mathlib.Core.Bool.{_&&_};
+ghost use Prim.Native.Nat.{_*_, _≤_};
+ghost use lib.Dec.{eqb};
+ghost use lib.ListN.{length};
+ghost use Rattle.rules.specs.Limits.{maxDimension, axesOk};
+ghost use Rattle.rules.specs.Shapes.{shapeOk};
+ghost use Rattle.rules.specs.Numbers.{outcomeOf};
+ghost use Rattle.complex.specs.Layout.{tableLength};
+ghost use Rattle.list.specs.Listing.{listInput, listOutcome, listBuffer};
+
+// Whether the numbers of a table are within the limits.
+fn within_limits(d: usize, v: usize, s: usize) -> bool
+    ensures { λ r. ⌜ r ≡ shapeOk maxDimension d v s ⌝ }
+{
+    match Shape::new(Shape::MAX_DIMENSION, d, v, s) {
+        Shaped::Within(_) => true,
+        Shaped::Outside => false,
+    }
+}
+
+// Row 2.
+fn numbers_fit(d: usize, n: usize, v: usize, s: usize) -> bool
+    ensures { λ r. ⌜ r ≡ (shapeOk maxDimension d v s && axesOk n) ⌝ }
+{
+    if !within_limits(d, v, s) {
+        return false;
+    }
+    if n < 1 {
+        return false;
+    }
+    n <= Shape::MAX_AXES
+}
+
+// Row 3.
+fn lengths_fit(d: usize, n: usize, v: usize, s: usize, table: &[u16], points: &[f64]) -> bool
+    requires { ⌜ (d ≤ 7) × (n ≤ 8) × (v ≤ 4096) × (s ≤ 4096) ⌝ }
+    ensures { λ r. ⌜ r ≡ (eqb (length (now (table .entry))) (tableLength d s) && eqb (length (now (points .entry))) (v * n)) ⌝ }
+{
+    if table.len() != s * (d + d + 3) {
+        return false;
+    }
+    points.len() == v * n
+}
+
+pub fn list(
+    d: usize,
+    n: usize,
+    v: usize,
+    s: usize,
+    table: &[u16],
+    points: &[f64],
+    out: &mut [u8],
+) -> Answer
+    ensures answer { λ r. ⌜ outcomeOf r ≡ listOutcome (listInput d n v s (now (table .entry)) (now (points .entry)) (length (now (out .entry)))) ⌝ }
+    ensures buffer { λ r. ⌜ now (out .exit) ≡ listBuffer (listInput d n v s (now (table .entry)) (now (points .entry)) (length (now (out .entry)))) (now (out .entry)) ⌝ }
+{
+    if !numbers_fit(d, n, v, s) {
+        return Answer::Refused(Refusal::OutsideLimits);
+    }
+    if !lengths_fit(d, n, v, s, table, points) {
+        return Answer::Refused(Refusal::WrongLength);
+    }
+    if !all_in_range(points) {
+        return Answer::Refused(Refusal::FloatRange);
+    }
+    if !is_sound(d, v, s, table) {
+        return Answer::Refused(Refusal::Unsound);
+    }
+    let size = key_size(d, n, v, s, table, points);
+    let bytes = size.bytes;
+    if out.len() < bytes {
+        return Answer::Refused(Refusal::NoRoom);
+    }
+    put_key(d, n, v, s, size.count, table, points, out);
+    Answer::Written(bytes)
+}

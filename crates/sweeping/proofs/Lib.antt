@@ -1,0 +1,10 @@
+-- Laws of the words of a swept table.
+pub mod AcrossLaws
+pub mod Bounds
+pub mod Pieces
+pub mod RecordLaws
+pub mod SideTable
+pub mod SoundTable
+pub mod SweptWords
+pub mod TableWords
+pub mod WingWords

@@ -1,0 +1,53 @@
+-- Steps of the search for the position back, the cell of a side pair, and signs by the rest of a number.
+--   back-here, back-next, back-end    the search at position b: found there, or go on, or past the last
+--   pair-cell                         the cell of a side pair that is in the table
+--   even-plus, odd-minus              (-1)^n by the rest of n
+-- Assumes nothing.
+use mathlib.Core.Path.{_≡_, refl, sym, ap, ap₂, _∙_}
+use mathlib.Core.Bool.{true, false}
+use Prim.Native.Nat.{ℕ, zero, suc, _+_, _-_, _%_, _≤_, _<_}
+use native.Mathlib.Numerals.{add-one}
+use native.Mathlib.Omega.{arith}
+use lib.Dec.{eqb}
+use borrow.Author.Tests.{eq-eqb, ne-eqb, le-leb, lt-ltb}
+use Rattle.rules.specs.Limits.{maxSource}
+use Rattle.simplex.specs.Cell.{alternating}
+use Rattle.simplex.proofs.Signs.{not-not}
+use Rattle.prism.specs.Sides.{sidePair}
+use Rattle.sweeping.specs.SideTable.{sidePairOf}
+use Rattle.prism.specs.Wings.{backFrom, backTo}
+
+module _ (wing : ℕ → ℕ → ℕ) (p q d b : ℕ) where
+  left-is : b ≤ d → d + 1 - b ≡ suc (d - b)
+  left-is h = omega arith
+
+  pub back-here : b ≤ d → wing q b ≡ p → backFrom wing p q b (d + 1 - b) ≡ b
+  back-here h e = ap (backFrom wing p q b) (left-is h) ∙ rw (eq-eqb (wing q b) p e) refl
+
+  pub back-next : b ≤ d → (wing q b ≡ p → ⊥) → backFrom wing p q b (d + 1 - b) ≡ backFrom wing p q (b + 1) (d + 1 - (b + 1))
+  back-next h n =
+      let less : d - b ≡ d + 1 - (b + 1) = omega arith in
+      ap (backFrom wing p q b) (left-is h) ∙ rw (ne-eqb (wing q b) p n) (ap₂ (backFrom wing p q) (sym (add-one b)) less)
+
+  pub back-end : d < b → backFrom wing p q b (d + 1 - b) ≡ b
+  back-end h = let none : d + 1 - b ≡ 0 = omega arith in ap (backFrom wing p q b) none
+
+pub back-start : (wing : ℕ → ℕ → ℕ) (p q d : ℕ) → backTo wing p q d ≡ backFrom wing p q 0 (d + 1 - 0)
+back-start wing p q d = let all : suc d ≡ d + 1 - 0 = omega arith in ap (backFrom wing p q 0) all
+
+pub pair-cell : (d b l : ℕ) → d ≤ maxSource → b ≤ d → l < d → sidePairOf d b l .cell ≡ sidePair d b l .cell
+unfolding sidePairOf
+pair-cell d b l hd hb hl = rw (le-leb d maxSource hd, le-leb b d hb, lt-ltb l d hl) refl
+
+alternating-rest : (n : ℕ) → alternating n ≡ eqb (n % 2) 0
+alternating-rest zero = refl
+alternating-rest (suc zero) = refl
+alternating-rest (suc (suc n)) =
+    let same : n % 2 ≡ suc (suc n) % 2 = omega arith in
+    not-not (alternating n) ∙ alternating-rest n ∙ ap (λ m. eqb m 0) same
+
+pub even-plus : (n : ℕ) → n % 2 ≡ 0 → alternating n ≡ true
+even-plus n e = alternating-rest n ∙ eq-eqb (n % 2) 0 e
+
+pub odd-minus : (n : ℕ) → (n % 2 ≡ 0 → ⊥) → alternating n ≡ false
+odd-minus n e = alternating-rest n ∙ ne-eqb (n % 2) 0 e

@@ -1,0 +1,158 @@
+-- Sign word, lower vertices, upper vertices: the first d + 3 words of the record, piece by piece. Assumes nothing.
+use mathlib.Core.Path.{_≡_, sym, ap, _∙_}
+use mathlib.Core.List.{List}
+use Prim.Native.Nat.{ℕ, _+_, _-_, _*_, _≤_}
+use native.Mathlib.Nat.{mul-le-mul-left}
+use native.Mathlib.Omega.{arith}
+use borrow.Author.Needs.{needs}
+use lib.ListN.{length, take, set, length-set, length-take}
+use Rattle.words.specs.Records.{tabulate}
+use Rattle.words.specs.Placed.{placed}
+use Rattle.words.proofs.Placed.{placed-length}
+use Rattle.sweeping.specs.Written.{recordWords}
+use Rattle.sweeping.specs.RecordWords.{turnedSign, liftedFrom}
+use Rattle.sweeping.proofs.Pieces.{placed-start, placed-piece}
+use Rattle.sweeping.proofs.RecordLaws.{record-long, word-sign, word-lower, word-upper}
+use Rattle.sweeping.proofs.record.write_cell.Statement.{statement}
+use Rattle.sweeping.proofs.record.write_cell.Tie as tie
+
+abbrev words : tie.Start → List ℕ
+words c = let a = c .args in recordWords (a .d) (a .v) (a .s) (a .h) (a .table .now) (a .i) (a .p) (a .k)
+
+long : (c : tie.Start) → length (words c) ≡ c .args .d + c .args .d + 5
+long c =
+    let a = c .args in
+    record-long (a .d) (a .v) (a .s) (a .h) (a .table .now) (a .i) (a .p) (a .k) (c .pre .0 .long) (c .pre .1 .0 .1) (c .pre .1 .0 .2)
+
+room : (c : tie.Start) → c .args .at + length (words c) ≤ length (c .args .out .now)
+room c = omega (arith, long c)
+
+sign-requires : tie.Need-sign-requires
+sign-requires c κs = search needs
+
+mul-turned : tie.Need-mul-turned
+mul-turned c =
+    let start = c .before .before .before in
+    let low = start .pre .0 .dimension in
+    omega (arith, low, mul-le-mul-left {m = start .args .k} {n = 6} (start .args .d) (omega (arith, low)))
+
+turned-requires : tie.Need-turned-requires
+turned-requires c κs = search needs
+
+mul-out : tie.Need-mul-out
+mul-out c = search needs
+
+slice-write-out : tie.Need-slice-write-out
+slice-write-out c = search needs
+
+add-write-vertices : tie.Need-add-write-vertices
+add-write-vertices c = search needs
+
+sub-write-vertices : tie.Need-sub-write-vertices
+sub-write-vertices c = search needs
+
+add-write-vertices-2 : tie.Need-add-write-vertices-2
+add-write-vertices-2 c = search needs
+
+write-vertices-requires : tie.Need-write-vertices-requires
+write-vertices-requires c κs =
+    let start = c .before .before .before .before .before in
+    let a = start .args in
+    (start .pre .0, ((omega arith, start .pre .1 .0 .1, omega arith), omega (arith, length-set (a .out .now) (a .at) (c .before .turned .result))))
+
+add-write-vertices-3 : tie.Need-add-write-vertices-3
+add-write-vertices-3 c = search needs
+
+add-write-vertices-4 : tie.Need-add-write-vertices-4
+add-write-vertices-4 c = search needs
+
+add-write-vertices-5 : tie.Need-add-write-vertices-5
+add-write-vertices-5 c = search needs
+
+add-write-vertices-6 : tie.Need-add-write-vertices-6
+add-write-vertices-6 c = search needs
+
+sub-write-vertices-2 : tie.Need-sub-write-vertices-2
+sub-write-vertices-2 c = search needs
+
+-- the sign word is written, then the lower vertices too
+signed : (c : tie.After-turned) → let start = c .before .before .before .before in
+    set (start .args .out .now) (start .args .at) (c .turned .result) ≡ placed (start .args .at) (take 1 (words start)) (start .args .out .now)
+signed c =
+    let start = c .before .before .before .before in
+    let a = start .args in
+    placed-start (a .at) _ (words start) (a .out .now) (omega (arith, long start)) (room start)
+    (c .turned .ensures ∙ ap (λ (w : ℕ). turnedSign w (a .k * a .d)) (c .before .sign .ensures)
+    ∙ sym (word-sign (a .d) (a .v) (a .s) (a .h) (a .table .now) (a .i) (a .p) (a .k) (start .pre .0 .long) (start .pre .1 .0 .1) (start .pre .1 .0 .2)))
+
+lowered : (c : tie.After-write-vertices) (E : List ℕ) → let start = c .before .before .before .before .before .before in let a = start .args in
+    E ≡ placed (a .at + 1) (tabulate (a .d + 1 - a .k) (liftedFrom (a .d) (a .v) (a .s) (a .table .now) (a .i) (a .p) (a .k))) (set (a .out .now) (a .at) (c .before .before .turned .result)) →
+    E ≡ placed (a .at) (take (1 + (a .d + 1 - a .k)) (words start)) (a .out .now)
+lowered c E e =
+    let start = c .before .before .before .before .before .before in
+    let a = start .args in
+    placed-piece (a .at) 1 (a .d + 1 - a .k) (a .at + 1) (liftedFrom (a .d) (a .v) (a .s) (a .table .now) (a .i) (a .p) (a .k)) (words start) (a .out .now) _ _
+    (omega (arith, long start)) (room start)
+    (λ j l. sym (word-lower (a .d) (a .v) (a .s) (a .h) (a .table .now) (a .i) (a .p) (a .k) (start .pre .0 .long) (start .pre .1 .0 .1) (start .pre .1 .0 .2) (1 + j) j (omega arith) (omega arith)))
+    (omega arith) (signed (c .before .before)) e
+
+-- and the upper ones
+whole : (c : tie.After-write-vertices2) (old E : List ℕ) → let start = c .before .before .before .before .before .before .before .before .before .before in let a = start .args in
+    old ≡ placed (a .at) (take (1 + (a .d + 1 - a .k)) (words start)) (a .out .now) →
+    E ≡ placed (a .at + a .d + 2 - a .k) (tabulate (a .k + 1) (liftedFrom (a .d) (a .v) (a .s) (a .table .now) (a .i + 1) (a .p) 0)) old →
+    E ≡ placed (a .at) (take (a .d + 3) (words start)) (a .out .now)
+whole c old E eo e =
+    let start = c .before .before .before .before .before .before .before .before .before .before in
+    let a = start .args in
+    let all : 1 + (a .d + 1 - a .k) + (a .k + 1) ≡ a .d + 3 = omega arith in
+    placed-piece (a .at) (1 + (a .d + 1 - a .k)) (a .k + 1) (a .at + a .d + 2 - a .k) (liftedFrom (a .d) (a .v) (a .s) (a .table .now) (a .i + 1) (a .p) 0) (words start) (a .out .now) _ _
+    (omega (arith, long start)) (room start)
+    (λ j l. sym (word-upper (a .d) (a .v) (a .s) (a .h) (a .table .now) (a .i) (a .p) (a .k) (start .pre .0 .long) (start .pre .1 .0 .1) (start .pre .1 .0 .2) (1 + (a .d + 1 - a .k) + j) j (omega arith) (omega arith)))
+    (omega arith) eo e
+    ∙ ap (λ (n : ℕ). placed (a .at) (take n (words start)) (a .out .now)) all
+
+-- a buffer with some of the words is as long as before
+kept : (c : tie.Start) (n : ℕ) (E : List ℕ) → E ≡ placed (c .args .at) (take n (words c)) (c .args .out .now) → length E ≡ length (c .args .out .now)
+kept c n E e = ap length e ∙ placed-length (c .args .at) (take n (words c)) (c .args .out .now) (omega (arith, room c, length-take n (words c)))
+
+write-vertices-requires-2 : tie.Need-write-vertices-requires-2
+write-vertices-requires-2 c κs =
+    let first = c .before .before .before in
+    let start = first .before .before .before .before .before .before in
+    (start .pre .0, ((omega arith, start .pre .1 .0 .1, omega arith)
+    , omega (arith, start .pre .1 .1, kept start (1 + (start .args .d + 1 - start .args .k)) _ (lowered first _ (first .write-vertices .ensures)))))
+
+same-length : tie.Need-same-length
+same-length c =
+    let second = c .before .before in
+    let first = second .before .before .before .before in
+    let start = first .before .before .before .before .before .before in
+    kept start (start .args .d + 3) _ (whole second _ _ (lowered first _ (first .write-vertices .ensures)) (second .write-vertices2 .ensures))
+
+returns : tie.Need-returns
+returns c =
+    let second = c .before .before in
+    let first = second .before .before .before .before in
+    whole second _ _ (lowered first _ (first .write-vertices .ensures)) (second .write-vertices2 .ensures)
+
+pub write-cell-spec : {M : Type 1} → statement M
+write-cell-spec =
+    tie.close
+    (tie.spec
+    sign-requires
+    mul-turned
+    turned-requires
+    mul-out
+    slice-write-out
+    add-write-vertices
+    sub-write-vertices
+    add-write-vertices-2
+    write-vertices-requires
+    add-write-vertices-3
+    add-write-vertices-4
+    add-write-vertices-5
+    add-write-vertices-6
+    sub-write-vertices-2
+    write-vertices-requires-2
+    same-length
+    returns)

@@ -1,0 +1,98 @@
+-- Sides at one place, over faces in order. The loop has written the first j. Assumes nothing.
+use mathlib.Core.Path.{_≡_, sym, ap, _∙_}
+use mathlib.Core.List.{List}
+use Prim.Native.Nat.{ℕ, _+_, _-_, _≤_}
+use native.Mathlib.Omega.{arith}
+use borrow.Author.Needs.{needs}
+use lib.ListN.{length, take, length-set}
+use lib.Seq.{take-length}
+use Rattle.words.specs.Records.{tabulate}
+use Rattle.words.specs.Placed.{placed}
+use Rattle.words.proofs.Records.{tabulate-at, tabulate-length}
+use Rattle.words.proofs.Placed.{placed-none, placed-word}
+use Rattle.sweeping.specs.Across.{sideWord}
+use Rattle.sweeping.proofs.record.write_sides.Statement.{statement}
+use Rattle.sweeping.proofs.record.write_sides.Tie as tie
+
+abbrev Inv-loop : tie.InvT-loop
+Inv-loop d a count l firsts rows cells at out₀ j₀ out j =
+    (j ≤ count) × (length out ≡ length out₀) × (out ≡ placed at (take j (tabulate count (λ j. sideWord firsts rows cells (a + j) l))) out₀)
+
+abbrev μ-loop : tie.MeasureT-loop
+μ-loop d a count l firsts rows cells at out₀ j₀ out j = count - j
+
+abbrev words : tie.Start Inv-loop μ-loop → List ℕ
+words c = let a = c .args in tabulate (a .count) (λ j. sideWord (a .firsts .now) (a .rows .now) (a .cells .now) (a .a + j) (a .l))
+
+long : (c : tie.Start Inv-loop μ-loop) → length (words c) ≡ c .args .count
+long c = let a = c .args in tabulate-length (a .count) (λ j. sideWord (a .firsts .now) (a .rows .now) (a .cells .now) (a .a + j) (a .l))
+
+loop-holds : tie.Need-loop-holds Inv-loop μ-loop
+loop-holds c = let a = c .before .args in (omega arith, omega arith, sym (placed-none (a .at) (a .out .now)))
+
+add-side-word : tie.Need-add-side-word Inv-loop μ-loop
+add-side-word c = search needs
+
+side-word-requires : tie.Need-side-word-requires Inv-loop μ-loop
+side-word-requires c κs =
+    let at = c .before in
+    let start = at .before .before in
+    let a = start .args in
+    let l-low = start .pre .1 .0 .2 (omega arith) in
+    (omega arith, start .pre .0 .reach (a .a + at .loop .j) (a .l) (omega arith) l-low, start .pre .0 .fits (a .a + at .loop .j) (a .l) (omega arith) l-low)
+
+add-out : tie.Need-add-out Inv-loop μ-loop
+add-out c = search needs
+
+mul-out : tie.Need-mul-out Inv-loop μ-loop
+mul-out c = search needs
+
+slice-write-out : tie.Need-slice-write-out Inv-loop μ-loop
+slice-write-out c = search needs
+
+add-j : tie.Need-add-j Inv-loop μ-loop
+add-j c = search needs
+
+loop-less : tie.Need-loop-less Inv-loop μ-loop
+loop-less c = search needs
+
+loop-again : tie.Need-loop-again Inv-loop μ-loop
+loop-again c =
+    let at = c .before .before in
+    let start = at .before .before in
+    let a = start .args in
+    let f : ℕ → ℕ = (λ j. sideWord (a .firsts .now) (a .rows .now) (a .cells .now) (a .a + j) (a .l)) in
+    (omega arith, length-set (at .loop .out) _ _ ∙ at .loop .inv .1
+    , placed-word (a .at) (at .loop .j) _ (words start) (a .out .now) (at .loop .out)
+      (omega (arith, long start)) (omega (arith, long start)) (at .loop .inv .2)
+      (c .side-word .ensures ∙ sym (tabulate-at (a .count) f (at .loop .j) 0 (omega arith))))
+
+same-length : tie.Need-same-length Inv-loop μ-loop
+same-length c = search needs
+
+returns : tie.Need-returns Inv-loop μ-loop
+returns c =
+    let at = c .before in
+    let start = at .before .before in
+    let a = start .args in
+    let X = words start in
+    let all : at .loop .j ≡ length X = omega (arith, long start) in
+    at .loop .inv .2 ∙ ap (λ (l : List ℕ). placed (a .at) l (a .out .now)) (ap (λ (n : ℕ). take n X) all ∙ take-length X)
+
+pub write-sides-spec : {M : Type 1} → statement M
+write-sides-spec =
+    tie.close
+    (tie.spec
+    Inv-loop
+    μ-loop
+    loop-holds
+    add-side-word
+    side-word-requires
+    add-out
+    mul-out
+    slice-write-out
+    add-j
+    loop-less
+    loop-again
+    same-length
+    returns)

@@ -1,0 +1,59 @@
+-- `face_first` is `faceFirst`. Assumes nothing.
+use mathlib.Core.Path.{_≡_, refl, sym, ap, _∙_}
+use Prim.Native.Nat.{ℕ, _*_, _<_}
+use native.Mathlib.Omega.{arith}
+use borrow.Author.Needs.{needs}
+use borrow.Author.Tests.{eq-eqb, ne-eqb}
+use Rattle.rules.specs.Limits.{empty}
+use Rattle.prism.specs.Wings.{cellNumber}
+use Rattle.sweeping.specs.Written.{solidWing}
+use Rattle.sweeping.proofs.wings.face_first.Statement.{statement}
+use Rattle.sweeping.proofs.wings.face_first.Tie as tie
+
+abbrev wingHere : tie.Start → ℕ
+wingHere c = solidWing (c .args .d) (c .args .s) (c .args .table .now) (c .args .p) (c .args .a)
+
+full : (c : tie.Else1) → wingHere (c .before .before .before) ≡ empty → ⊥
+full c e = c .if1 .left (c .before .wing .ensures ∙ e)
+
+-- the cell across
+across : (c : tie.After-wide) → c .wide .result ≡ wingHere (c .before .before .before .before)
+across c = c .wide .ensures ∙ c .before .before .wing .ensures
+
+low : (c : tie.After-wide) → c .wide .result < c .before .before .before .before .args .s
+low c =
+    let start = c .before .before .before .before in
+    omega (arith, across c, start .pre .0 .across (start .args .p) (start .args .a) (start .pre .1 .1) (start .pre .1 .2) (full (c .before)))
+
+wing-requires : tie.Need-wing-requires
+wing-requires c κs = search needs
+
+returns : tie.Need-returns
+returns c = rw (eq-eqb _ _ (sym (c .before .wing .ensures) ∙ c .if1 .taken)) refl
+
+wide-requires : tie.Need-wide-requires
+wide-requires c κs = search needs
+
+cell-number-requires : tie.Need-cell-number-requires
+cell-number-requires c κs = let start = c .before .before .before .before in (start .pre .0 .cells, start .pre .1 .0, low c, omega arith)
+
+wide-requires-2 : tie.Need-wide-requires-2
+wide-requires-2 c κs = search needs
+
+returns-2 : tie.Need-returns-2
+returns-2 c =
+    let wide = c .before .before in
+    let a = wide .before .before .before .before .args in
+    rw (ne-eqb _ _ (full (wide .before)))
+    (c .wide2 .ensures ∙ c .before .cell-number .ensures ∙ ap (λ (q : ℕ). cellNumber (a .d) (a .s) (a .i) q 0) (across wide))
+
+pub face-first-spec : {M : Type 1} → statement M
+face-first-spec =
+    tie.close
+    (tie.spec
+    wing-requires
+    returns
+    wide-requires
+    cell-number-requires
+    wide-requires-2
+    returns-2)

@@ -1,0 +1,61 @@
+-- The loop holds the numbers below a. Assumes nothing.
+use mathlib.Core.Path.{_≡_, _∙_}
+use Prim.Native.Nat.{_+_, _-_, _≤_}
+use native.Mathlib.Omega.{arith}
+use native.Mathlib.Nat.{not-suc-le-zero}
+use lib.ListN.{length, length-set}
+use borrow.Author.Needs.{needs}
+use Rattle.sweeping.specs.Across.{Holds, faceFirst}
+use Rattle.sweeping.specs.Written.{solidWing}
+use Rattle.sweeping.proofs.Pieces.{holds-more}
+use Rattle.sweeping.proofs.wings.face_firsts.Statement.{statement}
+use Rattle.sweeping.proofs.wings.face_firsts.Tie as tie
+
+abbrev Inv-loop : tie.InvT-loop
+Inv-loop d v s h table i p firsts₀ a₀ firsts a = (a ≤ d + 1) × (length firsts ≡ 8) × Holds a (faceFirst d s (solidWing d s table) i p) firsts
+
+abbrev μ-loop : tie.MeasureT-loop
+μ-loop d v s h table i p firsts₀ a₀ firsts a = d + 1 - a
+
+loop-holds : tie.Need-loop-holds Inv-loop μ-loop
+loop-holds c = (omega arith, c .before .pre .1 .1, λ j l. absurd (not-suc-le-zero l))
+
+face-first-requires : tie.Need-face-first-requires Inv-loop μ-loop
+face-first-requires c κs = search needs
+
+mul-firsts : tie.Need-mul-firsts Inv-loop μ-loop
+mul-firsts c = search needs
+
+element-write-firsts : tie.Need-element-write-firsts Inv-loop μ-loop
+element-write-firsts c = search needs
+
+add-a : tie.Need-add-a Inv-loop μ-loop
+add-a c = search needs
+
+loop-less : tie.Need-loop-less Inv-loop μ-loop
+loop-less c = search needs
+
+loop-again : tie.Need-loop-again Inv-loop μ-loop
+loop-again c =
+    let at = c .before .before in
+    let a = at .before .before .args in
+    (omega arith, length-set (at .loop .firsts) _ _ ∙ at .loop .inv .1
+    , holds-more (at .loop .a) _ (faceFirst (a .d) (a .s) (solidWing (a .d) (a .s) (a .table .now)) (a .i) (a .p)) (at .loop .firsts) (omega arith) (at .loop .inv .2) (c .face-first .ensures))
+
+returns : tie.Need-returns Inv-loop μ-loop
+returns c = λ j l. c .before .loop .inv .2 j (omega arith)
+
+pub face-firsts-spec : {M : Type 1} → statement M
+face-firsts-spec =
+    tie.close
+    (tie.spec
+    Inv-loop
+    μ-loop
+    loop-holds
+    face-first-requires
+    mul-firsts
+    element-write-firsts
+    add-a
+    loop-less
+    loop-again
+    returns)

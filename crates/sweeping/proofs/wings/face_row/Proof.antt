@@ -1,0 +1,64 @@
+-- `face_row` is `faceRow`. Assumes nothing.
+use mathlib.Core.Path.{_≡_, refl, sym, ap, _∙_}
+use Prim.Native.Nat.{ℕ, _*_, _<_}
+use native.Mathlib.Omega.{arith}
+use borrow.Author.Needs.{needs}
+use borrow.Author.Tests.{eq-eqb, ne-eqb}
+use Rattle.rules.specs.Limits.{empty}
+use Rattle.prism.specs.Wings.{backTo}
+use Rattle.sweeping.specs.Written.{solidWing}
+use Rattle.sweeping.proofs.wings.face_row.Statement.{statement}
+use Rattle.sweeping.proofs.wings.face_row.Tie as tie
+
+abbrev wingHere : tie.Start → ℕ
+wingHere c = solidWing (c .args .d) (c .args .s) (c .args .table .now) (c .args .p) (c .args .a)
+
+full : (c : tie.Else1) → wingHere (c .before .before .before) ≡ empty → ⊥
+full c e = c .if1 .left (c .before .wing .ensures ∙ e)
+
+-- the cell across
+across : (c : tie.After-wide) → c .wide .result ≡ wingHere (c .before .before .before .before)
+across c = c .wide .ensures ∙ c .before .before .wing .ensures
+
+low : (c : tie.After-wide) → c .wide .result < c .before .before .before .before .args .s
+low c =
+    let start = c .before .before .before .before in
+    omega (arith, across c, start .pre .0 .across (start .args .p) (start .args .a) (start .pre .1 .0) (start .pre .1 .1) (full (c .before)))
+
+wing-requires : tie.Need-wing-requires
+wing-requires c κs = search needs
+
+returns : tie.Need-returns
+returns c = rw (eq-eqb _ _ (sym (c .before .wing .ensures) ∙ c .if1 .taken)) refl
+
+wide-requires : tie.Need-wide-requires
+wide-requires c κs = search needs
+
+back-requires : tie.Need-back-requires
+back-requires c κs = (c .before .before .before .before .pre .0 .long, low c)
+
+back-is : (c : tie.After-back) →
+    c .back .result ≡ backTo (solidWing (c .before .before .before .before .before .args .d) (c .before .before .before .before .before .args .s) (c .before .before .before .before .before .args .table .now))
+    (c .before .before .before .before .before .args .p) (wingHere (c .before .before .before .before .before)) (c .before .before .before .before .before .args .d)
+back-is c =
+    let a = c .before .before .before .before .before .args in
+    c .back .ensures ∙ ap (λ (q : ℕ). backTo (solidWing (a .d) (a .s) (a .table .now)) (a .p) q (a .d)) (across (c .before))
+
+mul-result : tie.Need-mul-result
+mul-result c =
+    let start = c .before .before .before .before .before in
+    omega (arith, back-is c, start .pre .0 .dimension, start .pre .0 .back (start .args .p) (start .args .a) (start .pre .1 .0) (start .pre .1 .1) (full (c .before .before)))
+
+returns-2 : tie.Need-returns-2
+returns-2 c = rw (ne-eqb _ _ (full (c .before .before))) (ap (λ (b : ℕ). b * 8) (back-is c))
+
+pub face-row-spec : {M : Type 1} → statement M
+face-row-spec =
+    tie.close
+    (tie.spec
+    wing-requires
+    returns
+    wide-requires
+    back-requires
+    mul-result
+    returns-2)

@@ -1,0 +1,60 @@
+-- The loop holds the numbers below n. Assumes nothing.
+use mathlib.Core.Path.{_≡_, refl, _∙_}
+use Prim.Native.Nat.{_-_, _≤_}
+use native.Mathlib.Omega.{arith}
+use native.Mathlib.Nat.{not-suc-le-zero}
+use lib.ListN.{length, length-set}
+use borrow.Author.Needs.{needs}
+use Rattle.sweeping.specs.Across.{Holds, sideCell}
+use Rattle.sweeping.proofs.Pieces.{holds-more}
+use Rattle.sweeping.proofs.wings.side_cells.Statement.{statement}
+use Rattle.sweeping.proofs.wings.side_cells.Tie as tie
+
+abbrev Inv-loop : tie.InvT-loop
+Inv-loop d cells₀ n₀ cells n = (n ≤ 64) × (length cells ≡ 64) × Holds n (sideCell d) cells
+
+abbrev μ-loop : tie.MeasureT-loop
+μ-loop d cells₀ n₀ cells n = 64 - n
+
+loop-holds : tie.Need-loop-holds Inv-loop μ-loop
+loop-holds c = (omega arith, refl, λ j l. absurd (not-suc-le-zero l))
+
+side-cell-requires : tie.Need-side-cell-requires Inv-loop μ-loop
+side-cell-requires c κs = search needs
+
+mul-cells : tie.Need-mul-cells Inv-loop μ-loop
+mul-cells c = search needs
+
+array-write-cells : tie.Need-array-write-cells Inv-loop μ-loop
+array-write-cells c = search needs
+
+add-n : tie.Need-add-n Inv-loop μ-loop
+add-n c = search needs
+
+loop-less : tie.Need-loop-less Inv-loop μ-loop
+loop-less c = search needs
+
+loop-again : tie.Need-loop-again Inv-loop μ-loop
+loop-again c =
+    let at = c .before .before in
+    let a = at .before .args in
+    (omega arith, length-set (at .loop .cells) _ _ ∙ at .loop .inv .1
+    , holds-more (at .loop .n) _ (sideCell (a .d)) (at .loop .cells) (omega arith) (at .loop .inv .2) (c .side-cell .ensures))
+
+returns : tie.Need-returns Inv-loop μ-loop
+returns c = λ j l. c .before .loop .inv .2 j (omega arith)
+
+pub side-cells-spec : {M : Type 1} → statement M
+side-cells-spec =
+    tie.close
+    (tie.spec
+    Inv-loop
+    μ-loop
+    loop-holds
+    side-cell-requires
+    mul-cells
+    array-write-cells
+    add-n
+    loop-less
+    loop-again
+    returns)

@@ -1,0 +1,85 @@
+-- All levels. The loop has written the first i of them. Assumes nothing.
+use mathlib.Core.Path.{_≡_, sym, ap, _∙_}
+use mathlib.Core.List.{List}
+use Prim.Native.Nat.{ℕ, _+_, _-_, _≤_}
+use native.Mathlib.Omega.{arith}
+use borrow.Author.Needs.{needs}
+use lib.ListN.{length}
+use Rattle.words.specs.Records.{tabulate, concat}
+use Rattle.words.specs.Placed.{placed}
+use Rattle.sweeping.specs.Written.{levelWords}
+use Rattle.words.proofs.Placed.{placed-none, concat-fits, placed-record}
+use Rattle.sweeping.proofs.SweptWords.{all-is}
+use Rattle.sweeping.proofs.writing.write_swept.Statement.{statement}
+use Rattle.sweeping.proofs.writing.write_swept.Tie as tie
+
+abbrev Inv-loop : tie.InvT-loop
+Inv-loop d v s h table out₀ cells next₀ i₀ out next i =
+    (i ≤ h) × (next ≡ 0 + length (concat (tabulate i (levelWords d v s h table)))) × (length out ≡ length out₀)
+    × (out ≡ placed 0 (concat (tabulate i (levelWords d v s h table))) out₀)
+
+abbrev μ-loop : tie.MeasureT-loop
+μ-loop d v s h table out₀ cells next₀ i₀ out next i = h - i
+
+room : (c : tie.Start Inv-loop μ-loop) →
+    0 + length (concat (tabulate (c .args .h) (levelWords (c .args .d) (c .args .v) (c .args .s) (c .args .h) (c .args .table .now)))) ≤ length (c .args .out .now)
+room c =
+    let a = c .args in
+    omega (arith, c .pre .1, ap length (all-is (a .d) (a .v) (a .s) (a .h) (a .table .now)))
+
+side-cells-requires : tie.Need-side-cells-requires Inv-loop μ-loop
+side-cells-requires c κs = search needs
+
+loop-holds : tie.Need-loop-holds Inv-loop μ-loop
+loop-holds c = let a = c .before .before .before .args in (omega arith, omega arith, omega arith, sym (placed-none (0) (a .out .now)))
+
+write-level-requires : tie.Need-write-level-requires Inv-loop μ-loop
+write-level-requires c κs =
+    let at = c .before .before .before in
+    let start = at .before .before .before .before in
+    let a = start .args in
+    (start .pre .0, (at .before .side-cells .ensures, (c .before .before .loop-test .taken
+    , omega (arith, room start, at .loop .inv .1, at .loop .inv .2, concat-fits (a .h) (at .loop .i) (levelWords (a .d) (a .v) (a .s) (a .h) (a .table .now)) (c .before .before .loop-test .taken)))))
+
+add-i : tie.Need-add-i Inv-loop μ-loop
+add-i c = search needs
+
+loop-less : tie.Need-loop-less Inv-loop μ-loop
+loop-less c = search needs
+
+loop-again : tie.Need-loop-again Inv-loop μ-loop
+loop-again c =
+    let at = c .before .before .before .before .before .before in
+    let start = at .before .before .before .before in
+    let a = start .args in
+    let call = c .before .before .write-level in
+    let more =
+        placed-record (a .h) (0) (at .loop .i) (at .loop .next) (call .result) (levelWords (a .d) (a .v) (a .s) (a .h) (a .table .now)) (a .out .now) (at .loop .out) _
+        (omega (arith, c .before .before .before .before .before .loop-test .taken)) (room start) (at .loop .inv .1) (at .loop .inv .3) (call .ensures .0) (call .ensures .1) in
+    (omega arith, more .place, more .long, more .words)
+
+same-length : tie.Need-same-length Inv-loop μ-loop
+same-length c = search needs
+
+returns : tie.Need-returns Inv-loop μ-loop
+returns c =
+    let at = c .before in
+    let a = at .before .before .before .before .args in
+    let all : at .loop .i ≡ a .h = omega arith in
+    let words = ap (λ (m : ℕ). concat (tabulate m (levelWords (a .d) (a .v) (a .s) (a .h) (a .table .now)))) all ∙ sym (all-is (a .d) (a .v) (a .s) (a .h) (a .table .now)) in
+    (omega (arith, at .loop .inv .1, ap length words), at .loop .inv .3 ∙ ap (λ (l : List ℕ). placed (0) l (a .out .now)) words)
+
+pub write-swept-spec : {M : Type 1} → statement M
+write-swept-spec =
+    tie.close
+    (tie.spec
+    Inv-loop
+    μ-loop
+    side-cells-requires
+    loop-holds
+    write-level-requires
+    add-i
+    loop-less
+    loop-again
+    same-length
+    returns)
