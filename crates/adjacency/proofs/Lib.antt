@@ -17,4 +17,3 @@ pub mod TableWords
 pub mod Taking
 pub mod Twins
 pub mod Winged
-pub mod Shaping

@@ -1,7 +1,7 @@
 // Whether a table is sound: it is the table of its own cells, and those are acceptable.
 use crate::table::same;
 use crate::take::take;
-use crate::take::within_limits;
+use rules::limits::Shape;
 ghost use mathlib.Core.Path.{_≡_};
 ghost use Rattle.complex.specs.Table.{sound};
 
@@ -9,7 +9,7 @@ ghost use Rattle.complex.specs.Table.{sound};
 pub fn is_sound(d: usize, v: usize, s: usize, table: &[u16]) -> bool
     ensures { λ r. ⌜ r ≡ sound d v s (now (table .entry)) ⌝ }
 {
-    if !within_limits(d, v, s) {
+    if !Shape::within(Shape::MAX_DIMENSION, d, v, s) {
         return false;
     }
     if table.len() != s * (d + d + 3) {

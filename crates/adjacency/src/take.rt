@@ -4,26 +4,12 @@ use crate::gather::any_falls;
 use crate::gather::bad_sign;
 use crate::gather::beyond;
 use crate::gather::gather;
-use rules::limits::Shape;
-use rules::limits::Shaped;
 ghost use mathlib.Core.Path.{_≡_};
 ghost use Prim.Native.Nat.{_+_, _*_, _≤_};
 ghost use lib.ListN.{length};
 ghost use Rattle.rules.specs.Calls.{firstRefusal};
-ghost use Rattle.rules.specs.Limits.{maxDimension};
-ghost use Rattle.rules.specs.Shapes.{shapeOk};
 ghost use Rattle.complex.specs.Accept.{solidRules};
 ghost use Rattle.adjacency.specs.Held.{recordList, Blank, Taken};
-
-// Whether the numbers of a table are within the limits.
-pub fn within_limits(d: usize, v: usize, s: usize) -> bool
-    ensures { λ r. ⌜ r ≡ shapeOk maxDimension d v s ⌝ }
-{
-    match Shape::new(Shape::MAX_DIMENSION, d, v, s) {
-        Shaped::Within(_) => true,
-        Shaped::Outside => false,
-    }
-}
 
 // The number of the first of rows 6 to 11 that refuses the s records, size words each, or 0.
 pub fn take(

@@ -5,9 +5,9 @@ ghost use Rattle.rules.specs.Numbers.{outcomeOf};
 ghost use Rattle.boundary.specs.Faces.{facesOutcome, facesBuffer};
 ghost use Rattle.boundary.specs.Written.{facesInput};
 use adjacency::sound::is_sound;
+use rules::limits::Shape;
 use rules::refusal::Answer;
 use rules::refusal::Refusal;
-use crate::limits::in_limits;
 use crate::limits::table_words;
 use crate::writing::count_faces;
 use crate::writing::write_faces;
@@ -21,7 +21,7 @@ pub fn faces(d: usize, v: usize, s: usize, table: &[u16], out: &mut [u16]) -> An
     ensures answer { λ r. ⌜ outcomeOf r ≡ facesOutcome (facesInput d v s (now (table .entry)) (length (now (out .entry)))) ⌝ }
     ensures buffer { λ r. ⌜ now (out .exit) ≡ facesBuffer (facesInput d v s (now (table .entry)) (length (now (out .entry)))) (now (out .entry)) ⌝ }
 {
-    if !in_limits(d, v, s) {
+    if !Shape::within(Shape::MAX_DIMENSION, d, v, s) {
         return Answer::Refused(Refusal::OutsideLimits);
     }
     if table.len() != table_words(d, s) {

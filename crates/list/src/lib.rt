@@ -4,7 +4,6 @@ use listing::key::put_key;
 use adjacency::sound::is_sound;
 use points::range::all_in_range;
 use rules::limits::Shape;
-use rules::limits::Shaped;
 use rules::refusal::Answer;
 use rules::refusal::Refusal;
 ghost use mathlib.Core.Path.{_≡_};
@@ -18,21 +17,11 @@ ghost use Rattle.rules.specs.Numbers.{outcomeOf};
 ghost use Rattle.complex.specs.Layout.{tableLength};
 ghost use Rattle.list.specs.Listing.{listInput, listOutcome, listBuffer};
 
-// Whether the numbers of a table are within the limits.
-fn within_limits(d: usize, v: usize, s: usize) -> bool
-    ensures { λ r. ⌜ r ≡ shapeOk maxDimension d v s ⌝ }
-{
-    match Shape::new(Shape::MAX_DIMENSION, d, v, s) {
-        Shaped::Within(_) => true,
-        Shaped::Outside => false,
-    }
-}
-
 // Row 2.
 fn numbers_fit(d: usize, n: usize, v: usize, s: usize) -> bool
     ensures { λ r. ⌜ r ≡ (shapeOk maxDimension d v s && axesOk n) ⌝ }
 {
-    if !within_limits(d, v, s) {
+    if !Shape::within(Shape::MAX_DIMENSION, d, v, s) {
         return false;
     }
     if n < 1 {

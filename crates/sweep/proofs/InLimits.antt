@@ -1,17 +1,13 @@
 -- What numbers within the limits are.
 --   limits-are                        the bounds on the numbers of a sweep
---   shape-within, shape-outside       what the constructor of a shape tells
 -- Assumes nothing.
-use mathlib.Core.Path.{_≡_, refl}
-use mathlib.Core.Bool.{Bool, true, false, _&&_}
+use mathlib.Core.Path.{_≡_}
+use mathlib.Core.Bool.{true, _&&_}
 use Prim.Native.Nat.{ℕ, _≤_}
-use native.Mathlib.Omega.{arith}
 use lib.Dec.{leb}
 use borrow.Author.Tests.{leb-true}
 use Rattle.rules.specs.Limits.{maxSource, maxVertices, maxCells, maxSteps, within, verticesOk, sizesOk, stepsOk}
-use Rattle.rules.specs.Shapes.{shapeOk, shapeOf, pickShape}
-use Rattle.rules.specs.declared.limits.Shape.{Shape}
-use Rattle.rules.specs.declared.limits.Shaped.the-variants.{Within, Outside}
+use Rattle.rules.specs.Shapes.{shapeOk}
 use Rattle.rules.proofs.Tests.{and-parts}
 
 pub record Limits (d v s h : ℕ) : Type 0 where
@@ -34,21 +30,3 @@ limits-are d v s h e =
       cells = top maxCells s (sizes .1);
       steps = top maxSteps h (both .1);
     }
-
--- what the constructor of a shape tells
-within-true : (t : Bool) (x y : Shape) → pickShape t (Within y) ≡ Within x → t ≡ true
-within-true true x y e = refl
-within-true false x y e = let z : _≡_ {A = ℕ} 0 1 = cc in absurd (omega arith)
-
-outside-false : (t : Bool) (y : Shape) → pickShape t (Within y) ≡ Outside → t ≡ false
-outside-false true y e = let z : _≡_ {A = ℕ} 0 1 = cc in absurd (omega arith)
-outside-false false y e = refl
-
-module _ (high d v s : ℕ) where
-  pub shape-within : (x : Shape) → shapeOf high d v s ≡ Within x → shapeOk high d v s ≡ true
-  unfolding shapeOf
-  shape-within x e = within-true (shapeOk high d v s) x (record { d = d; v = v; s = s }) e
-
-  pub shape-outside : shapeOf high d v s ≡ Outside → shapeOk high d v s ≡ false
-  unfolding shapeOf
-  shape-outside e = outside-false (shapeOk high d v s) (record { d = d; v = v; s = s }) e

@@ -12,7 +12,7 @@ use crate::limits::table_words;
 use crate::limits::too_large;
 use sweeping::writing::write_swept;
 
-mod limits;
+pub mod limits;
 
 // Writes the swept table from the start of out and answers the count of its words, or says why not.
 pub fn sweep(d: usize, v: usize, s: usize, h: usize, table: &[u16], out: &mut [u16]) -> Answer

@@ -8,7 +8,6 @@ ghost use Rattle.rules.specs.Shapes.{shapeOk};
 ghost use Rattle.complex.specs.Layout.{tableLength};
 ghost use Rattle.prism.specs.Swept.{sweptCells};
 use rules::limits::Shape;
-use rules::limits::Shaped;
 
 pub fn in_limits(d: usize, v: usize, s: usize, h: usize) -> bool
     ensures { λ r. ⌜ r ≡ (shapeOk maxSource d v s && stepsOk h) ⌝ }
@@ -19,10 +18,7 @@ pub fn in_limits(d: usize, v: usize, s: usize, h: usize) -> bool
     if Shape::MAX_STEPS < h {
         return false;
     }
-    match Shape::new(Shape::MAX_SOURCE, d, v, s) {
-        Shaped::Within(_) => true,
-        Shaped::Outside => false,
-    }
+    Shape::within(Shape::MAX_SOURCE, d, v, s)
 }
 
 // Words of a table.

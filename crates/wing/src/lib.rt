@@ -1,7 +1,7 @@
 // The call wing: it takes a list of cells and writes its table.
 use adjacency::table::fill;
 use adjacency::take::take;
-use adjacency::take::within_limits;
+use rules::limits::Shape;
 use rules::refusal::Answer;
 use rules::refusal::Refusal;
 ghost use mathlib.Core.Path.{_≡_};
@@ -31,7 +31,7 @@ pub fn wing(d: usize, v: usize, s: usize, cells: &[u16], table: &mut [u16]) -> A
     ensures answer { λ r. ⌜ outcomeOf r ≡ wingOutcome (wingInput d v s (now (cells .entry)) (length (now (table .entry)))) ⌝ }
     ensures buffer { λ _. ⌜ now (table .exit) ≡ wingBuffer (wingInput d v s (now (cells .entry)) (length (now (table .entry)))) (now (table .entry)) ⌝ }
 {
-    if !within_limits(d, v, s) {
+    if !Shape::within(Shape::MAX_DIMENSION, d, v, s) {
         return Answer::Refused(Refusal::OutsideLimits);
     }
     if cells.len() != s * (d + 2) {

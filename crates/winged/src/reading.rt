@@ -1,11 +1,8 @@
 // The calls on bytes: the numbers and the length are tested, the input is decoded, and the call writes words.
 ghost use mathlib.Core.Path.{_≡_};
-ghost use mathlib.Core.Bool.{_&&_};
 ghost use lib.ListN.{length};
 ghost use Rattle.words.specs.Bytes.{words16};
-ghost use Rattle.rules.specs.Limits.{maxSource, stepsOk};
 ghost use Rattle.rules.specs.Numbers.{outcomeOf};
-ghost use Rattle.rules.specs.Shapes.{shapeOk};
 ghost use Rattle.rules.specs.Calls.{after};
 ghost use Rattle.complex.specs.Table.{tableOfList};
 ghost use Rattle.sweep.specs.Sweep.{sweptWords, sweepInput};
@@ -15,6 +12,7 @@ use wing::wing;
 use rules::limits::Shape;
 use rules::refusal::Answer;
 use rules::refusal::Refusal;
+use sweep::limits::in_limits;
 use sweep::sweep;
 use words::copy::decode;
 
@@ -34,24 +32,11 @@ pub fn wing_words(d: usize, v: usize, s: usize, cells: &[u8], out: &mut [u16]) -
     wing(d, v, s, &list[..n], out)
 }
 
-// Whether the numbers of what is swept are within the limits.
-fn sweep_within(d: usize, v: usize, s: usize, h: usize) -> bool
-    ensures { λ r. ⌜ r ≡ (shapeOk maxSource d v s && stepsOk h) ⌝ }
-{
-    if h < 1 {
-        return false;
-    }
-    if Shape::MAX_STEPS < h {
-        return false;
-    }
-    Shape::within(Shape::MAX_SOURCE, d, v, s)
-}
-
 pub fn sweep_words(d: usize, v: usize, s: usize, h: usize, table: &[u8], out: &mut [u16]) -> Answer
     ensures answer { λ r. ⌜ outcomeOf r ≡ sweepRead d v s h (now (table .entry)) (length (now (out .entry))) ⌝ }
     ensures buffer { λ r. ⌜ now (out .exit) ≡ after (outcomeOf r) (sweptWords (sweepInput d v s h (words16 (now (table .entry))) (length (now (out .entry))))) (now (out .entry)) ⌝ }
 {
-    if !sweep_within(d, v, s, h) {
+    if !in_limits(d, v, s, h) {
         return Answer::Refused(Refusal::OutsideLimits);
     }
     let n = s * (d + d + 3);

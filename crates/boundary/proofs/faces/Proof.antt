@@ -39,7 +39,7 @@ input c = facesInput (c .args .d) (c .args .v) (c .args .s) (c .args .table .now
 
 -- what each test says: the numbers are within the limits,
 inside : (c : tie.Else1) → inLimits (input (start c)) ≡ true
-inside c = sym (c .before .in-limits .ensures) ∙ not-false _ (c .if1 .left)
+inside c = sym (c .before .within .ensures) ∙ not-false _ (c .if1 .left)
 
 limits : (c : tie.Else1) → Limits (start c .args .d) (start c .args .v) (start c .args .s)
 limits c = limits-are (start c .args .d) (start c .args .v) (start c .args .s) (inside c)
@@ -63,13 +63,13 @@ cells c = let a = start-of c .args in boundary-is (a .d) (a .s) (a .table .now) 
 needed : (c : tie.After-count-faces) → c .count-faces .result * (start-of (c .before) .args .d + 1) ≡ facesLength (input (start-of (c .before)))
 needed c = ap₂ _*_ (c .count-faces .ensures .0 ∙ sym (ap length (cells (c .before)))) (add-one (start-of (c .before) .args .d))
 
-in-limits-requires : tie.Need-in-limits-requires
-in-limits-requires c κs = search needs
+within-requires : tie.Need-within-requires
+within-requires c κs = search needs
 
 returns : tie.Need-returns
 returns c =
     let start = c .before .before .before .before in
-    let o = refused-at-2 (input start) (sym (c .before .in-limits .ensures) ∙ not-true _ (c .if1 .taken)) in
+    let o = refused-at-2 (input start) (sym (c .before .within .ensures) ∙ not-true _ (c .if1 .taken)) in
     (sym o, left-alone (input start) 2 (start .args .out .now) o)
 
 table-words-requires : tie.Need-table-words-requires
@@ -143,7 +143,7 @@ pub faces-spec : {M : Type 1} → statement M
 faces-spec =
     tie.close
     (tie.spec
-    in-limits-requires
+    within-requires
     returns
     table-words-requires
     returns-2

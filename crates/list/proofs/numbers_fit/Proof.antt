@@ -6,17 +6,17 @@ use borrow.Author.Needs.{needs}
 use Rattle.list.proofs.numbers_fit.Statement.{statement}
 use Rattle.list.proofs.numbers_fit.Tie as tie
 
-within-limits-requires : tie.Need-within-limits-requires
-within-limits-requires c κs = search needs
+within-requires : tie.Need-within-requires
+within-requires c κs = search needs
 
 returns : tie.Need-returns
-returns c = simp (sym (c .before .within-limits .ensures) ∙ not-true (c .before .within-limits .result) (c .if1 .taken))
+returns c = simp (sym (c .before .within .ensures) ∙ not-true (c .before .within .result) (c .if1 .taken))
 
 returns-2 : tie.Need-returns-2
-returns-2 c = simp (sym (c .before .before .within-limits .ensures) ∙ not-false (c .before .before .within-limits .result) (c .before .if1 .left), lt-leb _ _ (c .if2 .taken))
+returns-2 c = simp (sym (c .before .before .within .ensures) ∙ not-false (c .before .before .within .result) (c .before .if1 .left), lt-leb _ _ (c .if2 .taken))
 
 returns-3 : tie.Need-returns-3
-returns-3 c = simp (sym (c .before .before .within-limits .ensures) ∙ not-false (c .before .before .within-limits .result) (c .before .if1 .left), le-leb _ _ (c .if2 .left))
+returns-3 c = simp (sym (c .before .before .within .ensures) ∙ not-false (c .before .before .within .result) (c .before .if1 .left), le-leb _ _ (c .if2 .left))
 
 pub numbers-fit-spec : {M : Type 1} → statement M
-numbers-fit-spec = tie.close (tie.spec within-limits-requires returns returns-2 returns-3)
+numbers-fit-spec = tie.close (tie.spec within-requires returns returns-2 returns-3)

@@ -23,7 +23,7 @@ abbrev start : tie.Else1 → tie.Start
 start c = c .before .before .before .before
 
 inside : (c : tie.Else1) → (shapeOk maxSource (start c .args .d) (start c .args .v) (start c .args .s) && stepsOk (start c .args .h)) ≡ true
-inside c = sym (c .before .sweep-within .ensures) ∙ not-false _ (c .if1 .left)
+inside c = sym (c .before .in-limits .ensures) ∙ not-false _ (c .if1 .left)
 
 -- the largest table within the limits
 few : (c : tie.Else1) → (start c .args .d ≤ 6) × (start c .args .s * recordSize (start c .args .d) ≤ 61440)
@@ -39,13 +39,13 @@ table c = start (c .before) .args .table .now
 abbrev count : tie.Else2 → ℕ
 count c = start (c .before) .args .s * recordSize (start (c .before) .args .d)
 
-sweep-within-requires : tie.Need-sweep-within-requires
-sweep-within-requires c κs = search needs
+in-limits-requires : tie.Need-in-limits-requires
+in-limits-requires c κs = search needs
 
 returns : tie.Need-returns
 returns c =
     let a = c .before .before .before .before .args in
-    (sweep-outside (a .d) (a .v) (a .s) (a .h) (a .table .now) (length (a .out .now)) (sym (c .before .sweep-within .ensures) ∙ not-true _ (c .if1 .taken)), refl)
+    (sweep-outside (a .d) (a .v) (a .s) (a .h) (a .table .now) (length (a .out .now)) (sym (c .before .in-limits .ensures) ∙ not-true _ (c .if1 .taken)), refl)
 
 add-n : tie.Need-add-n
 add-n c = omega (arith, few c .0)
@@ -111,7 +111,7 @@ pub sweep-words-spec : {M : Type 1} → statement M
 sweep-words-spec =
     tie.close
     (tie.spec
-    sweep-within-requires
+    in-limits-requires
     returns
     add-n
     add-n-2
