@@ -27,7 +27,8 @@ use Rattle.points.specs.declared.step.Step.{Step}
 use Rattle.points.proofs.LevelLaws.{length-levels}
 use Rattle.motion.proofs.MoveRules.{limits}
 use Rattle.list.specs.Listing.{ListInput, listInput, listText, listOutcome, listBuffer, listRules}
-use Rattle.winged.proofs.Lengths.{accepted-long, swept-long}
+use Rattle.wing.proofs.Lengths.{accepted-long}
+use Rattle.sweep.proofs.CallWords.{swept-long}
 use Rattle.marking.specs.Key.{wordRoom, floatRoom, thenCall}
 use Rattle.marking.specs.Stages.{counted, left, listKey, movedKey, sweptKey, wingedKey}
 

@@ -1,2 +1,3 @@
 -- The cases of the call wing.
 pub mod WingCases
+pub mod Lengths

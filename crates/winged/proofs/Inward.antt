@@ -37,7 +37,8 @@ use Rattle.sweep.proofs.Outcomes.{tooLarge, large-not, refused-at-2, refused-at
 use Rattle.winged.specs.Host.{hosted, hostAnswer, wordsIn, hostList, hostWing, hostWingOutcome, hostWingBuffer, hostSweepInput, hostSweep, hostSweepOutcome, hostSweepBuffer}
 use Rattle.winged.specs.Sent.{lesser, tableRoom, wingRead, sweepRead}
 use Rattle.winged.proofs.Hosting.{hosted-accepted, hosted-right, hosted-wrong}
-use Rattle.winged.proofs.Lengths.{accepted-long, swept-long}
+use Rattle.wing.proofs.Lengths.{accepted-long}
+use Rattle.sweep.proofs.CallWords.{swept-long}
 use Rattle.winged.proofs.Outward.{room-cut}
 
 pub decoded-front : (cells w rest : List ℕ) (n : ℕ) → w ≡ words16 cells ++ rest → length cells ≡ n * 2 → (n ≤ length w) × (take n w ≡ words16 cells)

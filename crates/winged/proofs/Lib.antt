@@ -1,7 +1,6 @@
 -- Laws of the C interface.
 pub mod Outward
 pub mod Hosting
-pub mod Lengths
 pub mod Inward
 pub mod FaceBytes
 pub mod FaceOutcomes

@@ -1,9 +1,5 @@
--- How long the answers of accepted calls are.
---   accepted-long         wing's count is that of its table's words
---   swept-long            sweep's count is that of the swept words
--- Assumes nothing.
+-- How long the answer of an accepted call is: wing's count is that of its table's words.
 use mathlib.Core.Path.{_≡_, refl, sym, ap, _∙_}
-use mathlib.Core.List.{List}
 use Prim.Native.Nat.{ℕ, _*_}
 use lib.Dec.{eqb}
 use lib.ListN.{length, length-map}
@@ -16,11 +12,9 @@ use Rattle.simplex.specs.Order.{ascending}
 use Rattle.complex.specs.Accept.{Listed, listedCells, solidOf, solidRules}
 use Rattle.complex.specs.Layout.{cellOf, listSize, tableLength}
 use Rattle.complex.specs.Table.{tableOfList}
-use Rattle.wing.specs.Wing.{wingOutcome, wingRules}
 use Rattle.complex.proofs.Accepted.{accepted-solid, passes}
 use Rattle.complex.proofs.OwnTable as own
-use Rattle.sweep.specs.Sweep.{sweepOutcome, sweepRules, sweptLength, sweptWords, sweepInput}
-use Rattle.sweep.proofs.CallWords.{call-words, call-long}
+use Rattle.wing.specs.Wing.{wingOutcome, wingRules}
 
 pub accepted-long : (l : Listed) (x k : ℕ) → wingOutcome (record { list = l; room = x }) ≡ accepted k → k ≡ length (tableOfList l)
 unfolding wingOutcome wingRules solidRules tableOfList
@@ -36,10 +30,3 @@ accepted-long l x k e =
     let solid = accepted-solid l words ok in
     let count : length (solidOf l) ≡ l .s = length-map (listedCells l) ascending ∙ tabulate-length (l .s) (λ p. cellOf (part (listSize (l .d)) p (l .words))) in
     by .0 ∙ ap (tableLength (l .d)) (sym count) ∙ sym (own.words-length (l .d) (l .v) (solidOf l) (solid .0) (solid .1))
-
-pub swept-long : (d v s h : ℕ) (ws : List ℕ) (x k : ℕ) → sweepOutcome (sweepInput d v s h ws x) ≡ accepted k → k ≡ length (sweptWords (sweepInput d v s h ws x))
-unfolding sweepOutcome sweepRules
-swept-long d v s h ws x k e =
-    let by = accepted-by sweepRules sweptLength (sweepInput d v s h ws x) k refl e in
-    let words = eqb-true (length ws) (tableLength d s) (not-false (eqb (length ws) (tableLength d s)) (by .1 .1 .0)) in
-    by .0 ∙ sym (call-long d v s h ws words x) ∙ ap length (sym (call-words d v s h ws x))
