@@ -1,4 +1,10 @@
--- Laws of cells held in memory: rows 6 to 11, wings, tables, soundness.
+-- Laws of cells held in memory.
+--   Below Spots Repeats Twins                 rows that stand twice or three times
+--   FaceKeys Mates Winged                     faces as keys, and the wings that pairing them leaves
+--   Seeing Adjacent Faults                    rows 9 to 11 and wings, as the code finds them
+--   Reading Stored SortedTests Refusing       cells read and sorted; rows 6 to 8
+--   Filling TableWords                        the words of the table
+--   Taking SoundCases                         what was taken from a list, and the cases of soundness
 pub mod Adjacent
 pub mod Below
 pub mod FaceKeys

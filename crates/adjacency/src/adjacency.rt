@@ -44,14 +44,13 @@ fn any_seen(n: usize, prev: &[u16; 32768]) -> bool
 }
 
 // 9: whether two of the s cells have the same row.
-fn any_repeated(d: usize, s: usize, rows: &[u16; 32768]) -> bool
-    requires { ⌜ (d ≤ 7) × (s ≤ 4096) × (length (now rows) ≡ 32768) ⌝ }
+fn any_repeated(d: usize, s: usize, rows: &[u16; 32768], prev: &mut [u16; 32768]) -> bool
+    requires { ⌜ (d ≤ 7) × (s ≤ 4096) × (length (now rows) ≡ 32768) × (length (now prev) ≡ 32768) ⌝ }
     ensures { λ r. ⌜ ((signs : List Sign) → r ≡ cellTwice (heldCells d s (now (rows .entry)) signs)) ⌝ }
 {
     let k = d + 1;
-    let mut prev = [65535u16; 32768];
-    earlier_equal(s, k, 1, k, rows, &mut prev);
-    any_seen(s, &prev)
+    earlier_equal(s, k, 1, k, rows, prev);
+    any_seen(s, prev)
 }
 
 // The product of two signs.
@@ -216,18 +215,18 @@ pub fn adjacent(
     ensures fault { λ r. ⌜ r ≡ faults (heldCells d s (now (rows .entry)) (now (signs .entry))) ⌝ }
     ensures wings { λ r. ⌜ (r ≡ 0 → Winged d (heldCells d s (now (rows .entry)) (now (signs .entry))) (now (wings .exit))) ⌝ }
 {
+    let mut prev = [65535u16; 32768];
     if d == 0 {
-        if any_repeated(d, s, rows) {
+        if any_repeated(d, s, rows, &mut prev) {
             return 9;
         }
         return 0;
     }
     let k = d + 1;
-    let mut prev = [65535u16; 32768];
     earlier_equal(s, k, k, 0, rows, &mut prev);
     let found = pair(s * k, k, rows, signs, &prev, wings);
     if found.crowded {
-        if any_repeated(d, s, rows) {
+        if any_repeated(d, s, rows, &mut prev) {
             return 9;
         }
         return 10;

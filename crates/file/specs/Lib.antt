@@ -1,3 +1,3 @@
--- Files of solids, byte by byte, and the call read.
+-- Files of solids, byte by byte, and each test of a file by itself.
 pub mod File
 pub mod Tests

@@ -1,3 +1,3 @@
--- The key's text, and the call list.
+-- The lines of the key.
 pub mod Lines
 pub mod Parts

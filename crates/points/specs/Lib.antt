@@ -1,4 +1,4 @@
--- Points, the step that moves them, and the call move.
+-- Points, and the step that moves them.
 pub mod Step
 pub mod Levels
 pub mod Stay

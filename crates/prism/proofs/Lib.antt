@@ -1,4 +1,4 @@
--- Laws of the sweep.
+-- Laws of prisms and of sweeps.
 pub mod SideLaws
 pub mod Prism
 pub mod Level

@@ -17,16 +17,16 @@ any-repeated-requires c κs = search needs
 
 returns : tie.Need-returns
 returns c =
-    let s = c .before .before .before in
+    let s = c .before .before .before .before in
     let a = s .args in
     (found-9 (a .d) (a .s) (a .rows .now) (a .signs .now) (s .pre .0 .0) (s .pre .0 .1) (s .pre .0 .2) (sym (c .before .any-repeated .ensures (a .signs .now)) ∙ c .if2 .taken), (λ z. absurd (omega (arith, z))))
 
 returns-2 : tie.Need-returns-2
 returns-2 c =
-    let s = c .before .before .before in
+    let s = c .before .before .before .before in
     let a = s .args in
-    (found-none (a .d) (a .s) (a .rows .now) (a .signs .now) (s .pre .0 .0) (s .pre .0 .1) (s .pre .0 .2) [] 0 (sym (ap (λ (d : ℕ). faceCount d (a .s)) (c .before .before .if1 .taken))) (λ g l. absurd (not-suc-le-zero l)) refl (sym (c .before .any-repeated .ensures (a .signs .now)) ∙ c .if2 .left) refl
-    , λ z. found-wings (a .d) (a .s) (a .rows .now) (a .signs .now) (s .pre .0 .0) (s .pre .0 .1) (s .pre .0 .2) [] 0 (sym (ap (λ (d : ℕ). faceCount d (a .s)) (c .before .before .if1 .taken))) (λ g l. absurd (not-suc-le-zero l)) refl (a .wings .now) (a .wings .now) (s .pre .1) (s .pre .0 .3) refl)
+    (found-none (a .d) (a .s) (a .rows .now) (a .signs .now) (s .pre .0 .0) (s .pre .0 .1) (s .pre .0 .2) [] 0 (sym (ap (λ (d : ℕ). faceCount d (a .s)) (c .before .before .before .if1 .taken))) (λ g l. absurd (not-suc-le-zero l)) refl (sym (c .before .any-repeated .ensures (a .signs .now)) ∙ c .if2 .left) refl
+    , λ z. found-wings (a .d) (a .s) (a .rows .now) (a .signs .now) (s .pre .0 .0) (s .pre .0 .1) (s .pre .0 .2) [] 0 (sym (ap (λ (d : ℕ). faceCount d (a .s)) (c .before .before .before .if1 .taken))) (λ g l. absurd (not-suc-le-zero l)) refl (a .wings .now) (a .wings .now) (s .pre .1) (s .pre .0 .3) refl)
 
 add-k : tie.Need-add-k
 add-k c = omega arith
@@ -51,21 +51,21 @@ any-repeated-requires-2 c κs = search needs
 
 returns-3 : tie.Need-returns-3
 returns-3 c =
-    let s = c .before .before .before .before .before .before .before .before .before in
+    let s = c .before .before .before .before .before .before .before .before .before .before in
     let a = s .args in
-    let ne = c .before .before .before .before .before .before .before .before .if1 .left in
-    let x = c .before .before .before .before .before .before .earlier-equal in
-    let m = c .before .before .before .pair .ensures in
+    let ne = c .before .before .before .before .before .before .before .before .before .if1 .left in
+    let x = c .before .before .before .before .before .before .before .earlier-equal in
+    let m = c .before .before .before .before .pair .ensures in
     (found-9 (a .d) (a .s) (a .rows .now) (a .signs .now) (s .pre .0 .0) (s .pre .0 .1) (s .pre .0 .2) (sym (c .before .any-repeated2 .ensures (a .signs .now)) ∙ c .if4 .taken), (λ z. absurd (omega (arith, z))))
 
 returns-4 : tie.Need-returns-4
 returns-4 c =
-    let s = c .before .before .before .before .before .before .before .before .before in
+    let s = c .before .before .before .before .before .before .before .before .before .before in
     let a = s .args in
-    let ne = c .before .before .before .before .before .before .before .before .if1 .left in
-    let x = c .before .before .before .before .before .before .earlier-equal in
-    let m = c .before .before .before .pair .ensures in
-    (found-10 (a .d) (a .s) (a .rows .now) (a .signs .now) (s .pre .0 .0) (s .pre .0 .1) (s .pre .0 .2) (x .last .1 .1 .1 .1 .1 .0) (a .s * (a .d + 1)) (sym (face-count (a .d) (a .s) ne)) (x .ensures .1) (sym (c .before .any-repeated2 .ensures (a .signs .now)) ∙ c .if4 .left) (sym (m .twice) ∙ c .before .before .if3 .taken), (λ z. absurd (omega (arith, z))))
+    let ne = c .before .before .before .before .before .before .before .before .before .if1 .left in
+    let x = c .before .before .before .before .before .before .before .earlier-equal in
+    let m = c .before .before .before .before .pair .ensures in
+    (found-10 (a .d) (a .s) (a .rows .now) (a .signs .now) (s .pre .0 .0) (s .pre .0 .1) (s .pre .0 .2) (x .last .1 .1 .1 .1 .1 .0) (a .s * (a .d + 1)) (sym (face-count (a .d) (a .s) ne)) (x .ensures .1) (sym (c .before .any-repeated2 .ensures (a .signs .now)) ∙ c .if4 .left) (sym (m .twice) ∙ c .before .before .before .if3 .taken), (λ z. absurd (omega (arith, z))))
 
 returns-5 : tie.Need-returns-5
 returns-5 c =

@@ -1,8 +1,6 @@
 -- What the kernel leaves for the cells tells row 9. Assumes nothing.
 use mathlib.Core.Path.{sym, _∙_}
-use Prim.Native.Nat.{ℕ}
 use native.Mathlib.Omega.{arith}
-use lib.ListN.{length-replicate}
 use borrow.Author.Needs.{needs}
 use Rattle.adjacency.proofs.Faults.{twice-is}
 use Rattle.adjacency.proofs.adjacency.any_repeated.Statement.{statement}
@@ -13,7 +11,7 @@ add-k c = search needs
 
 earlier-equal-requires : tie.Need-earlier-equal-requires
 earlier-equal-requires c κs =
-    (record { long = c .before .pre .2; vertices = omega arith; some = omega arith; most = omega arith; start = omega arith }, omega arith, length-replicate {A = ℕ} 32768 65535)
+    (record { long = c .before .pre .2; vertices = omega arith; some = omega arith; most = omega arith; start = omega arith }, omega arith, c .before .pre .3)
 
 any-seen-requires : tie.Need-any-seen-requires
 any-seen-requires c κs = omega arith

@@ -1,0 +1,54 @@
+"""Checks that the documents name what is there: every path, and every name that stands before its file.
+
+A path is CRATE/specs/Name, CRATE/proofs/Name or CRATE/src/name.rt, below crates/, or a path from the root.
+Last line: 'N passed, M failed'.
+"""
+
+import pathlib
+import re
+import sys
+
+ROOT = pathlib.Path(__file__).resolve().parents[2]
+DOCUMENTS = [ROOT / "README.md", ROOT / "examples" / "README.md", *sorted((ROOT / "docs").glob("*.md"))]
+CRATES = {p.name for p in (ROOT / "crates").iterdir()}
+INSIDE = re.compile(r"(?:crates/)?([a-z_]+)/(specs|proofs|src|must-fail)/([A-Za-z_]+(?:/[A-Za-z_]+)*)(\.antt|\.rt|\.edit)?")
+OUTSIDE = re.compile(r"(?<![\w/.-])((?:docs|examples|include|rust|tests|tools|bench)/[\w./-]*[\w])")
+NAMED = re.compile(r"((?:`[^`]+`(?:, | and )?)+) \(((?:[a-z_]+)/(?:specs|proofs|src)/[A-Za-z_/.]+)\)")
+
+passed = failed = 0
+
+
+def check(what, holds):
+    global passed, failed
+    passed += bool(holds)
+    failed += not holds
+    if not holds:
+        print(f"not there: {what}")
+
+
+def file_of(crate, part, name, ending=None):
+    base = ROOT / "crates" / crate / part / name
+    endings = [ending] if ending else [".antt", ".rt", ".edit", ""]
+    return next((p for p in (pathlib.Path(f"{base}{e}") for e in endings) if p.exists()), None)
+
+
+def main():
+    for document in DOCUMENTS:
+        text = document.read_text()
+        for crate, part, name, ending in INSIDE.findall(text):
+            if crate in CRATES:
+                check(f"{document.name}: {crate}/{part}/{name}{ending}", file_of(crate, part, name, ending or None))
+        for path in OUTSIDE.findall(text):
+            check(f"{document.name}: {path}", (ROOT / path).exists())
+        for names, path in NAMED.findall(text):
+            crate, part, name = path.split("/", 2)
+            file = file_of(crate, part, name.removesuffix(".rt").removesuffix(".antt"))
+            content = file.read_text() if file and file.is_file() else ""
+            for word in re.findall(r"`([^`]+)`", names):
+                check(f"{document.name}: {word} in {path}", re.search(rf"(?<![\w-]){re.escape(word)}(?![\w-])", content))
+    print(f"{passed} passed, {failed} failed")
+    return failed != 0
+
+
+if __name__ == "__main__":
+    sys.exit(main())
