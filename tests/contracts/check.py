@@ -8,6 +8,9 @@ import re
 import sys
 
 ROOT = pathlib.Path(__file__).resolve().parents[2]
+sys.path.insert(0, str(ROOT / "tests"))
+from tally import Tally  # noqa: E402
+
 CALLS = {
     ("wing", "wing"), ("sweep", "sweep"), ("boundary", "faces"), ("motion", "move_points"), ("read", "read"), ("list", "list"),
     ("adjacency", "is_sound"), ("marking", "key_text"), ("simplex", "sort_row"), ("sweeping", "side_pair"),
@@ -16,15 +19,8 @@ CALLS = {
 HEAD = re.compile(r'^ *pub (?:extern "C" )?fn (\w+)\((.*?)\)\s*(?:-> ([^\n{]+?))?\s*\n(.*?)^ *\{', re.M | re.S)
 ENSURES = re.compile(r"ensures(?: \w+)? \{ λ (\w+)\. ⌜ (.*?) ⌝ \}", re.S)
 
-passed = failed = 0
-
-
-def check(what, holds):
-    global passed, failed
-    passed += bool(holds)
-    failed += not holds
-    if not holds:
-        print(f"not so: {what}")
+tally = Tally()
+check = tally.check
 
 
 def visible(file):
@@ -49,8 +45,7 @@ def main():
                 check(f"{where}: no requires", "requires" not in contract)
     for crate, name in sorted(CALLS):
         check(f"{crate}::{name} is there", (crate, name) in calls)
-    print(f"{passed} passed, {failed} failed")
-    return failed != 0
+    return tally.finish()
 
 
 if __name__ == "__main__":

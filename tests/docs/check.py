@@ -9,21 +9,17 @@ import re
 import sys
 
 ROOT = pathlib.Path(__file__).resolve().parents[2]
+sys.path.insert(0, str(ROOT / "tests"))
+from tally import Tally  # noqa: E402
+
 DOCUMENTS = [ROOT / "README.md", ROOT / "examples" / "README.md", *sorted((ROOT / "docs").glob("*.md"))]
 CRATES = {p.name for p in (ROOT / "crates").iterdir()}
-INSIDE = re.compile(r"(?:crates/)?([a-z_]+)/(specs|proofs|src|must-fail)/([A-Za-z_]+(?:/[A-Za-z_]+)*)(\.antt|\.rt|\.edit)?")
+INSIDE = re.compile(r"(?:crates/)?([a-z_]+)/(specs|proofs|src|must-fail)/([A-Za-z0-9_]+(?:/[A-Za-z0-9_]+)*)(\.antt|\.rt|\.edit)?")
 OUTSIDE = re.compile(r"(?<![\w/.-])((?:docs|examples|include|rust|tests|tools|bench)/[\w./-]*[\w])")
 NAMED = re.compile(r"((?:`[^`]+`(?:, | and )?)+) \(((?:[a-z_]+)/(?:specs|proofs|src)/[A-Za-z_/.]+)\)")
 
-passed = failed = 0
-
-
-def check(what, holds):
-    global passed, failed
-    passed += bool(holds)
-    failed += not holds
-    if not holds:
-        print(f"not there: {what}")
+tally = Tally()
+check = tally.check
 
 
 def file_of(crate, part, name, ending=None):
@@ -46,8 +42,7 @@ def main():
             content = file.read_text() if file and file.is_file() else ""
             for word in re.findall(r"`([^`]+)`", names):
                 check(f"{document.name}: {word} in {path}", re.search(rf"(?<![\w-]){re.escape(word)}(?![\w-])", content))
-    print(f"{passed} passed, {failed} failed")
-    return failed != 0
+    return tally.finish()
 
 
 if __name__ == "__main__":

@@ -11,24 +11,17 @@ import subprocess
 import sys
 
 ROOT = pathlib.Path(__file__).resolve().parents[2]
-sys.path.insert(0, str(ROOT / "tests" / "reference"))
+sys.path[:0] = [str(ROOT / "tests"), str(ROOT / "tests" / "reference")]
 import winged_reference as reference  # noqa: E402
+from tally import Tally  # noqa: E402
 
 COMMAND = str(ROOT / "key")
 TOOL = [sys.executable, "-B", str(ROOT / "tools" / "solid.py")]
 K1 = ROOT / "examples" / "marked" / "k1.wng"
 CROWDED = ROOT / "examples" / "refused" / "10.wng"
 
-passed = failed = 0
-
-
-def check(name, holds):
-    global passed, failed
-    if holds:
-        passed += 1
-    else:
-        failed += 1
-        print(f"failed: {name}")
+tally = Tally()
+check = tally.check
 
 
 def run(words, data=b""):
@@ -105,8 +98,7 @@ def main():
     check_samples(program)
     check_pieces(program)
     check_command()
-    print(f"{passed} passed, {failed} failed")
-    return failed != 0
+    return tally.finish()
 
 
 if __name__ == "__main__":

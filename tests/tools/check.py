@@ -11,6 +11,9 @@ import subprocess
 import sys
 
 ROOT = pathlib.Path(__file__).resolve().parents[2]
+sys.path.insert(0, str(ROOT / "tests"))
+from tally import Tally  # noqa: E402
+
 TOOL = [sys.executable, "-B", str(ROOT / "tools" / "solid.py")]
 GOOD = "steps 1\nslide 0 1.0\nv 0 0\nv 1 0\n+ 0 1\n"
 # a text, and what the tool must say of it
@@ -31,16 +34,8 @@ BAD = [
 USAGE = ([], ["pack", "a", "b", "c"], ["explain"], ["explain", "0"], ["explain", "16"], ["random", "1", "2", "3"], ["random", "a", "2", "3", "4"])
 RANDOM = [(d, v, s, seed) for d in range(7) for v, s in ((d + 1, 1), (d + 3, 6), (40, 30), (60, 20)) for seed in (1, 2)]
 
-passed = failed = 0
-
-
-def check(name, holds):
-    global passed, failed
-    if holds:
-        passed += 1
-    else:
-        failed += 1
-        print(f"failed: {name}")
+tally = Tally()
+check = tally.check
 
 
 def run(words, data=b""):
@@ -68,8 +63,7 @@ def main():
         done = run([*TOOL, "explain", str(number)])
         check(f"explain {number}", done.returncode == 0 and done.stdout.startswith(f"refused {number}: ".encode()))
     check("--help", run([*TOOL, "--help"]).stdout.startswith(b"Solids written by hand"))
-    print(f"{passed} passed, {failed} failed")
-    return failed != 0
+    return tally.finish()
 
 
 if __name__ == "__main__":
