@@ -16,7 +16,7 @@ CALLS = {
     ("adjacency", "is_sound"), ("marking", "key_text"), ("simplex", "sort_row"), ("sweeping", "side_pair"),
     ("winged", "winged_wing"), ("winged", "winged_sweep"), ("winged", "winged_faces"),
 }
-HEAD = re.compile(r'^ *pub (?:extern "C" )?fn (\w+)\((.*?)\)\s*(?:-> ([^\n{]+?))?\s*\n(.*?)^ *\{', re.M | re.S)
+HEAD = re.compile(r'^ *pub (?:extern "C" )?fn (\w+)(?:<[^>]*>)?\((.*?)\)\s*(?:-> ([^\n{]+?))?\s*\n(.*?)^ *\{', re.M | re.S)
 ENSURES = re.compile(r"ensures(?: \w+)? \{ λ (\w+)\. ⌜ (.*?) ⌝ \}", re.S)
 
 tally = Tally()
