@@ -4,7 +4,7 @@
 --   Seeing Adjacent Faults                    rows 9 to 11 and wings, as the code finds them
 --   Reading Stored SortedTests Refusing       cells read and sorted; rows 6 to 8
 --   Filling TableWords                        the words of the table
---   Taking SoundCases                         what was taken from a list, and the cases of soundness
+--   Taking SoundCases Tabling                 what was taken from a list, and the cases of soundness and of writing a table
 pub mod Adjacent
 pub mod Below
 pub mod FaceKeys
@@ -23,3 +23,4 @@ pub mod TableWords
 pub mod Taking
 pub mod Twins
 pub mod Winged
+pub mod Tabling

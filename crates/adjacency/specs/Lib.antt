@@ -2,3 +2,4 @@
 pub mod Held
 pub mod Pairing
 pub mod Scan
+pub mod Tabled

@@ -1,6 +1,7 @@
-// Cells in memory: read, put in order, tested, given their wings; and the soundness of a table.
+// Cells in memory: read, put in order, tested, given their wings; the table of a list; the soundness of a table.
 mod adjacency;
 mod gather;
 pub mod sound;
-pub mod table;
-pub mod take;
+mod table;
+pub mod tabled;
+mod take;

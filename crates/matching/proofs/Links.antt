@@ -14,7 +14,7 @@ use borrow.Author.Tests.{eqb-true, eqb-false}
 use Rattle.words.specs.Records.{part}
 use Rattle.simplex.specs.Cell.{Row, sameRow}
 use Rattle.simplex.specs.Faces.{without}
-use Rattle.matching.specs.Matching.{cellRow, keyRow}
+use Rattle.matching.specs.Matching.{cellRow, keyRow, Behind}
 use Rattle.matching.specs.Buckets.{bucketOf, lastIn, Heads, Linked, Linking}
 use Rattle.matching.proofs.KeptRows.{take-past}
 use Rattle.matching.proofs.Quotients.{cell-of-key, place-of-key}
@@ -57,6 +57,10 @@ linking-start key prev e = record {
   headLong = length-replicate {A = ℕ} 32768 65535;
   prevLong = e;
 }
+
+-- a store before place n
+pub behind-set : (n : ℕ) (l old : List ℕ) (m x : ℕ) → m < n → Behind n l old → Behind n (set l m x) old
+behind-set n l old m x h b g t = getD-set-other l m g x 0 (ne-of-gt (omega arith)) ∙ b g t
 
 -- the keys below g are linked and those from g on answered; one more is answered
 pub answered-more : (P : ℕ → ℕ) (l : List ℕ) (n g x : ℕ) → g < length l → x ≡ P g → ((f : ℕ) → g + 1 ≤ f → f < n → getD l f 0 ≡ P f) → (f : ℕ) → g ≤ f → f < n → getD (set l g x) f 0 ≡ P f

@@ -4,11 +4,12 @@
 --   keyRow rows k w first g   key g, of w keys a cell: the row of cell g / w less position first + g % w
 --   lastBelow q m             the last index below m at which the test q passes, or 65535
 --   earlier rows k w first g  the last key before g with the row of g, or 65535
+--   Behind n new old          from place n on the words are as they were
 use mathlib.Core.Bool.{Bool, cond}
 use mathlib.Core.List.{List}
 use mathlib.Core.Path.{_≡_}
 use Prim.Native.Nat.{ℕ, zero, suc, _+_, _/_, _%_, _<_, _≤_}
-use lib.ListN.{length, take}
+use lib.ListN.{length, take, getD}
 use Rattle.words.specs.Records.{part}
 use Rattle.rules.specs.Limits.{empty}
 use Rattle.simplex.specs.Cell.{Row, sameRow}
@@ -33,3 +34,6 @@ lastBelow q (suc m) = cond (q m) m (lastBelow q m)
 
 unfoldable pub earlier : List ℕ → ℕ → ℕ → ℕ → ℕ → ℕ
 earlier rows k w first g = lastBelow (λ f. sameRow (keyRow rows k w first f) (keyRow rows k w first g)) g
+
+abbrev pub Behind : ℕ → List ℕ → List ℕ → Type 0
+Behind n new old = (g : ℕ) → n ≤ g → getD new g 0 ≡ getD old g 0

@@ -8,7 +8,7 @@ ghost use lib.Dec.{ltb};
 ghost use lib.ListN.{length, getD};
 ghost use Rattle.simplex.specs.Cell.{sameRow};
 ghost use Rattle.simplex.specs.Faces.{without};
-ghost use Rattle.matching.specs.Matching.{Keyed, cellRow, keyRow, earlier};
+ghost use Rattle.matching.specs.Matching.{Keyed, cellRow, keyRow, earlier, Behind};
 ghost use Rattle.matching.specs.Buckets.{term, weight, bucketOf, Linked, Linking};
 
 fn wide(x: u16) -> u64
@@ -118,6 +118,7 @@ fn link_cell(
     requires { ⌜ Keyed (now rows) k w first × (p < 4096) ⌝ }
     requires { ⌜ Linking (keyRow (now rows) k w first) (now head) (now prev) (p * w) ⌝ }
     ensures { λ _. ⌜ Linking (keyRow (now (rows .entry)) k w first) (now (head .exit)) (now (prev .exit)) (p * w + w) ⌝ }
+    ensures { λ _. ⌜ Behind (p * w + w) (now (prev .exit)) (now (prev .entry)) ⌝ }
 {
     let sum = weigh(k, p, rows);
     let mut i: usize = 0;
@@ -135,6 +136,7 @@ fn link(s: usize, k: usize, w: usize, first: usize, rows: &[u16; 32768], prev: &
     requires { ⌜ Keyed (now rows) k w first × (s ≤ 4096) × (length (now prev) ≡ 32768) ⌝ }
     ensures { λ _. ⌜ Linked (keyRow (now (rows .entry)) k w first) (now (prev .exit)) (s * w) ⌝ }
     ensures { λ _. ⌜ length (now (prev .exit)) ≡ 32768 ⌝ }
+    ensures { λ _. ⌜ Behind (s * w) (now (prev .exit)) (now (prev .entry)) ⌝ }
 {
     let mut head = [65535u16; 32768];
     let mut p: usize = 0;
@@ -184,6 +186,7 @@ fn settle(n: usize, k: usize, w: usize, first: usize, rows: &[u16; 32768], prev:
     requires { ⌜ Linked (keyRow (now rows) k w first) (now prev) n ⌝ }
     ensures { λ _. ⌜ length (now (prev .exit)) ≡ 32768 ⌝ }
     ensures { λ _. ⌜ ((g : ℕ) → g < n → getD (now (prev .exit)) g 0 ≡ earlier (now (rows .entry)) k w first g) ⌝ }
+    ensures { λ _. ⌜ Behind n (now (prev .exit)) (now (prev .entry)) ⌝ }
 {
     let part = 1048576 / w + 1;
     let mut g = n;
@@ -194,8 +197,8 @@ fn settle(n: usize, k: usize, w: usize, first: usize, rows: &[u16; 32768], prev:
     }
 }
 
-// For each key of s cells the last earlier key with the same row, or 65535. A cell has w keys: its row
-// of k vertices less one of the positions from first. Position k and beyond leave the row whole.
+// For each key of s cells the last earlier key with the same row, or 65535; what stands behind the keys stays. A cell
+// has w keys: its row of k vertices less one of the positions from first. Position k and beyond leave the row whole.
 pub fn earlier_equal(
     s: usize,
     k: usize,
@@ -207,6 +210,7 @@ pub fn earlier_equal(
     requires { ⌜ Keyed (now rows) k w first × (s ≤ 4096) × (length (now prev) ≡ 32768) ⌝ }
     ensures { λ _. ⌜ length (now (prev .exit)) ≡ 32768 ⌝ }
     ensures { λ _. ⌜ ((g : ℕ) → g < s * w → getD (now (prev .exit)) g 0 ≡ earlier (now (rows .entry)) k w first g) ⌝ }
+    ensures { λ _. ⌜ Behind (s * w) (now (prev .exit)) (now (prev .entry)) ⌝ }
 {
     link(s, k, w, first, rows, prev);
     settle(s * w, k, w, first, rows, prev);

@@ -1,18 +1,18 @@
 // The call wing: it takes a list of cells and writes its table.
-use adjacency::table::fill;
-use adjacency::take::take;
+use adjacency::tabled::write_table;
 use rules::limits::Shape;
 use rules::refusal::Answer;
 use rules::refusal::Refusal;
+ghost use mathlib.Core.Logic.{_⊎_};
 ghost use mathlib.Core.Path.{_≡_};
 ghost use Prim.Native.Nat.{_≤_};
 ghost use lib.ListN.{length};
 ghost use Rattle.rules.specs.Numbers.{numberOf, outcomeOf};
 ghost use Rattle.wing.specs.Wing.{wingInput, wingOutcome, wingBuffer};
 
-// The refusal of one of the rows 6 to 11.
+// The refusal of one of the rows 6 to 11, or 15.
 fn refusal_of(k: u8) -> Refusal
-    requires { ⌜ (6 ≤ k) × (k ≤ 11) ⌝ }
+    requires { ⌜ ((6 ≤ k) × (k ≤ 11)) ⊎ (k ≡ 15) ⌝ }
     ensures { λ r. ⌜ numberOf r ≡ k ⌝ }
 {
     match k {
@@ -21,7 +21,8 @@ fn refusal_of(k: u8) -> Refusal
         8 => Refusal::VertexTwice,
         9 => Refusal::CellTwice,
         10 => Refusal::CrowdedFace,
-        _ => Refusal::EqualSigns,
+        11 => Refusal::EqualSigns,
+        _ => Refusal::NoRoom,
     }
 }
 
@@ -37,17 +38,9 @@ pub fn wing(d: usize, v: usize, s: usize, cells: &[u16], table: &mut [u16]) -> A
     if cells.len() != s * (d + 2) {
         return Answer::Refused(Refusal::WrongLength);
     }
-    let mut rows = [0u16; 32768];
-    let mut signs = [false; 4096];
-    let mut wings = [65535u16; 32768];
-    let k = take(d + 2, d, v, s, cells, &mut rows, &mut signs, &mut wings);
+    let k = write_table(d, v, s, cells, table);
     if k != 0 {
         return Answer::Refused(refusal_of(k));
     }
-    let n = s * (d + d + 3);
-    if table.len() < n {
-        return Answer::Refused(Refusal::NoRoom);
-    }
-    fill(d, s, &rows, &signs, &wings, table);
-    Answer::Written(n)
+    Answer::Written(s * (d + d + 3))
 }

@@ -29,7 +29,7 @@ use Rattle.complex.specs.Layout.{listSize, recordSize, tableLength}
 use Rattle.complex.specs.Table.{tableOfList}
 use Rattle.wing.specs.Wing.{WingInput, wingInput, wingOutcome, wingBuffer, wingRules}
 use Rattle.adjacency.proofs.Taking.{limits-of}
-use Rattle.wing.proofs.WingCases.{outcome-refused, outside, wrong-length}
+use Rattle.wing.proofs.WingCases.{row-2, row-3}
 use Rattle.prism.specs.Swept.{sweptCells}
 use Rattle.sweep.specs.Sweep.{SweepInput, sweepOutcome, sweepBuffer, sweepRules, sweptWords, sweepInput}
 use Rattle.sweep.proofs.InLimits.{limits-are}
@@ -57,13 +57,13 @@ sweep-after o i out e = ap (λ q. after q (sweptWords i) out) (sym e)
 module _ (d v s : ℕ) (cells : List ℕ) (x : ℕ) where
   pub wing-outside : shapeOk maxDimension d v s ≡ false → refused 2 ≡ wingRead d v s cells x
   unfolding wingRead
-  wing-outside e = rw e (outcome-refused d v s (words16 cells) x 2 cells (omega arith) (outside d v s (words16 cells) x e) .0)
+  wing-outside e = rw e (row-2 d v s (words16 cells) x e)
 
   pub wing-wrong : shapeOk maxDimension d v s ≡ true → (length cells ≡ s * listSize d * 2 → ⊥) → refused 3 ≡ wingRead d v s cells x
   unfolding wingRead
   wing-wrong ok n =
       sym (hosted-wrong (shapeOk maxDimension d v s) cells (s * listSize d) (wingOutcome (wingInput d v s (words16 cells) x)) ok n
-      (λ w. sym (outcome-refused d v s (words16 cells) x 3 cells (omega arith) (wrong-length d v s (words16 cells) x ok w) .0)))
+      (λ w. sym (row-3 d v s (words16 cells) x ok w)))
 
   pub wing-right : length cells ≡ s * listSize d * 2 → wingOutcome (wingInput d v s (words16 cells) x) ≡ wingRead d v s cells x
   unfolding wingRead

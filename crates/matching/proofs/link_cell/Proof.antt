@@ -1,18 +1,18 @@
 -- The keys of a cell are linked one after the other.
-use mathlib.Core.Path.{_≡_, subst}
+use mathlib.Core.Path.{_≡_, refl, subst}
 use Prim.Native.Nat.{ℕ, _+_, _-_, _*_, _≤_, _<_}
 use native.Mathlib.Nat.{add-zero, add-assoc}
 use native.Mathlib.Omega.{arith}
 use lib.ListN.{getD, set}
 use borrow.Author.Needs.{needs}
-use Rattle.matching.specs.Matching.{keyRow}
+use Rattle.matching.specs.Matching.{keyRow, Behind}
 use Rattle.matching.specs.Buckets.{Linking}
-use Rattle.matching.proofs.Links.{linking-more, bucket-is, key-below}
+use Rattle.matching.proofs.Links.{linking-more, behind-set, bucket-is, key-below}
 use Rattle.matching.proofs.link_cell.Statement.{statement}
 use Rattle.matching.proofs.link_cell.Tie as tie
 
 abbrev Inv-loop : tie.InvT-loop
-Inv-loop k w first p rows head₀ prev₀ sum i₀ head prev i = (i ≤ w) × Linking (keyRow rows k w first) head prev (p * w + i)
+Inv-loop k w first p rows head₀ prev₀ sum i₀ head prev i = (i ≤ w) × Linking (keyRow rows k w first) head prev (p * w + i) × Behind (p * w + w) prev prev₀
 
 abbrev μ-loop : tie.MeasureT-loop
 μ-loop k w first p rows head₀ prev₀ sum i₀ head prev i = w - i
@@ -21,7 +21,7 @@ weigh-requires : tie.Need-weigh-requires Inv-loop μ-loop
 weigh-requires c κs = search needs
 
 loop-holds : tie.Need-loop-holds Inv-loop μ-loop
-loop-holds c = (omega arith, rw (add-zero (c .before .args .p * c .before .args .w)) (c .before .pre .1))
+loop-holds c = (omega arith, rw (add-zero (c .before .args .p * c .before .args .w)) (c .before .pre .1), (λ g h. refl))
 
 add-bucket : tie.Need-add-bucket Inv-loop μ-loop
 add-bucket c = search needs
@@ -82,6 +82,7 @@ loop-again c =
           (bucket-is (a .p) (l .i) (a .w) (c .before .before .loop-test .taken) (a .rows .now) (a .k) (a .first) (b .result) (b .ensures .0))
           (b .ensures .1)
           (l .inv .1)),
+      behind-set (a .p * a .w + a .w) (l .prev) (a .prev .now) (a .p * a .w + l .i) (getD (l .head) (b .result) 0) (omega arith) (l .inv .2),
     )
 
 returns : tie.Need-returns Inv-loop μ-loop
@@ -89,7 +90,7 @@ returns c =
     let a = c .before .before .before .args in
     let l = c .before .loop in
     let e : l .i ≡ a .w = omega arith in
-    subst (λ (i : ℕ). Linking (keyRow (a .rows .now) (a .k) (a .w) (a .first)) (l .head) (l .prev) (a .p * a .w + i)) e (l .inv .1)
+    (subst (λ (i : ℕ). Linking (keyRow (a .rows .now) (a .k) (a .w) (a .first)) (l .head) (l .prev) (a .p * a .w + i)) e (l .inv .1), l .inv .2)
 
 pub link-cell-spec : {M : Type 1} → statement M
 link-cell-spec =

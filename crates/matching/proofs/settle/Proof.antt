@@ -5,9 +5,9 @@ use native.Mathlib.Nat.{div-le-self}
 use native.Mathlib.Omega.{arith}
 use lib.ListN.{length, getD, length-set}
 use borrow.Author.Needs.{needs}
-use Rattle.matching.specs.Matching.{keyRow, earlier}
+use Rattle.matching.specs.Matching.{keyRow, earlier, Behind}
 use Rattle.matching.specs.Buckets.{Linked}
-use Rattle.matching.proofs.Links.{answered-more, linked-below}
+use Rattle.matching.proofs.Links.{answered-more, linked-below, behind-set}
 use Rattle.matching.proofs.settle.Statement.{statement}
 use Rattle.matching.proofs.settle.Tie as tie
 
@@ -17,6 +17,7 @@ Inv-loop n k w first rows prev₀ part g₀ prev g =
     × (length prev ≡ 32768)
     × Linked (keyRow rows k w first) prev g
     × ((f : ℕ) → g ≤ f → f < n → getD prev f 0 ≡ earlier rows k w first f)
+    × Behind n prev prev₀
 
 abbrev μ-loop : tie.MeasureT-loop
 μ-loop n k w first rows prev₀ part g₀ prev g = g
@@ -28,7 +29,7 @@ add-part : tie.Need-add-part Inv-loop μ-loop
 add-part c = omega (arith, div-le-self 1048576 (c .args .w))
 
 loop-holds : tie.Need-loop-holds Inv-loop μ-loop
-loop-holds c = (omega arith, c .pre .0 .2, c .pre .1, (λ f h t. absurd (omega arith)))
+loop-holds c = (omega arith, c .pre .0 .2, c .pre .1, (λ f h t. absurd (omega arith)), (λ g h. refl))
 
 sub-g : tie.Need-sub-g Inv-loop μ-loop
 sub-g c = search needs
@@ -58,10 +59,13 @@ loop-again c =
       answered-more (earlier (a .rows .now) (a .k) (a .w) (a .first)) (l .prev) (a .n) (l .g - 1) (c .back .result) (omega (arith, l .inv .1))
           (c .back .ensures)
           (λ f h t. l .inv .3 f (omega arith) t),
+      behind-set (a .n) (l .prev) (a .prev .now) (l .g - 1) (c .back .result) (omega arith) (l .inv .4),
     )
 
 returns : tie.Need-returns Inv-loop μ-loop
-returns c = (c .before .loop .inv .1, (λ g h. c .before .loop .inv .3 g (omega arith) h))
+returns c =
+    let inv = c .before .loop .inv in
+    (inv .1, ((λ g h. inv .3 g (omega arith) h), inv .4))
 
 pub settle-spec : {M : Type 1} → statement M
 settle-spec =

@@ -65,7 +65,7 @@ returns-4 c =
     let ne = c .before .before .before .before .before .before .before .before .before .if1 .left in
     let x = c .before .before .before .before .before .before .before .earlier-equal in
     let m = c .before .before .before .before .pair .ensures in
-    (found-10 (a .d) (a .s) (a .rows .now) (a .signs .now) (s .pre .0 .0) (s .pre .0 .1) (s .pre .0 .2) (x .last .1 .1 .1 .1 .1 .0) (a .s * (a .d + 1)) (sym (face-count (a .d) (a .s) ne)) (x .ensures .1) (sym (c .before .any-repeated2 .ensures (a .signs .now)) ∙ c .if4 .left) (sym (m .twice) ∙ c .before .before .before .if3 .taken), (λ z. absurd (omega (arith, z))))
+    (found-10 (a .d) (a .s) (a .rows .now) (a .signs .now) (s .pre .0 .0) (s .pre .0 .1) (s .pre .0 .2) (x .last .1 .1 .1 .1 .1 .0) (a .s * (a .d + 1)) (sym (face-count (a .d) (a .s) ne)) (x .ensures .1 .0) (sym (c .before .any-repeated2 .ensures (a .signs .now)) ∙ c .if4 .left) (sym (m .twice) ∙ c .before .before .before .if3 .taken), (λ z. absurd (omega (arith, z))))
 
 returns-5 : tie.Need-returns-5
 returns-5 c =
@@ -74,7 +74,7 @@ returns-5 c =
     let ne = c .before .before .before .before .before .before .before .if1 .left in
     let x = c .before .before .before .before .before .earlier-equal in
     let m = c .before .before .pair .ensures in
-    (found-9 (a .d) (a .s) (a .rows .now) (a .signs .now) (s .pre .0 .0) (s .pre .0 .1) (s .pre .0 .2) (twins-are (a .d) (a .s) (a .rows .now) (a .signs .now) (s .pre .0 .0) (s .pre .0 .1) (s .pre .0 .2) (x .last .1 .1 .1 .1 .1 .0) (a .s * (a .d + 1)) (sym (face-count (a .d) (a .s) ne)) (x .ensures .1) (sym (m .twice) ∙ c .before .if3 .left) ne ∙ sym (m .twin) ∙ c .if5 .taken), (λ z. absurd (omega (arith, z))))
+    (found-9 (a .d) (a .s) (a .rows .now) (a .signs .now) (s .pre .0 .0) (s .pre .0 .1) (s .pre .0 .2) (twins-are (a .d) (a .s) (a .rows .now) (a .signs .now) (s .pre .0 .0) (s .pre .0 .1) (s .pre .0 .2) (x .last .1 .1 .1 .1 .1 .0) (a .s * (a .d + 1)) (sym (face-count (a .d) (a .s) ne)) (x .ensures .1 .0) (sym (m .twice) ∙ c .before .if3 .left) ne ∙ sym (m .twin) ∙ c .if5 .taken), (λ z. absurd (omega (arith, z))))
 
 returns-6 : tie.Need-returns-6
 returns-6 c =
@@ -83,7 +83,7 @@ returns-6 c =
     let ne = c .before .before .before .before .before .before .before .before .if1 .left in
     let x = c .before .before .before .before .before .before .earlier-equal in
     let m = c .before .before .before .pair .ensures in
-    (found-11 (a .d) (a .s) (a .rows .now) (a .signs .now) (s .pre .0 .0) (s .pre .0 .1) (s .pre .0 .2) (x .last .1 .1 .1 .1 .1 .0) (a .s * (a .d + 1)) (sym (face-count (a .d) (a .s) ne)) (x .ensures .1) (sym (m .twice) ∙ c .before .before .if3 .left) (twins-are (a .d) (a .s) (a .rows .now) (a .signs .now) (s .pre .0 .0) (s .pre .0 .1) (s .pre .0 .2) (x .last .1 .1 .1 .1 .1 .0) (a .s * (a .d + 1)) (sym (face-count (a .d) (a .s) ne)) (x .ensures .1) (sym (m .twice) ∙ c .before .before .if3 .left) ne ∙ sym (m .twin) ∙ c .before .if5 .left) (sym (m .like) ∙ c .if6 .taken), (λ z. absurd (omega (arith, z))))
+    (found-11 (a .d) (a .s) (a .rows .now) (a .signs .now) (s .pre .0 .0) (s .pre .0 .1) (s .pre .0 .2) (x .last .1 .1 .1 .1 .1 .0) (a .s * (a .d + 1)) (sym (face-count (a .d) (a .s) ne)) (x .ensures .1 .0) (sym (m .twice) ∙ c .before .before .if3 .left) (twins-are (a .d) (a .s) (a .rows .now) (a .signs .now) (s .pre .0 .0) (s .pre .0 .1) (s .pre .0 .2) (x .last .1 .1 .1 .1 .1 .0) (a .s * (a .d + 1)) (sym (face-count (a .d) (a .s) ne)) (x .ensures .1 .0) (sym (m .twice) ∙ c .before .before .if3 .left) ne ∙ sym (m .twin) ∙ c .before .if5 .left) (sym (m .like) ∙ c .if6 .taken), (λ z. absurd (omega (arith, z))))
 
 returns-7 : tie.Need-returns-7
 returns-7 c =
@@ -92,8 +92,8 @@ returns-7 c =
     let ne = c .before .before .before .before .before .before .before .before .if1 .left in
     let x = c .before .before .before .before .before .before .earlier-equal in
     let m = c .before .before .before .pair .ensures in
-    (found-none (a .d) (a .s) (a .rows .now) (a .signs .now) (s .pre .0 .0) (s .pre .0 .1) (s .pre .0 .2) (x .last .1 .1 .1 .1 .1 .0) (a .s * (a .d + 1)) (sym (face-count (a .d) (a .s) ne)) (x .ensures .1) (sym (m .twice) ∙ c .before .before .if3 .left) (twins-are (a .d) (a .s) (a .rows .now) (a .signs .now) (s .pre .0 .0) (s .pre .0 .1) (s .pre .0 .2) (x .last .1 .1 .1 .1 .1 .0) (a .s * (a .d + 1)) (sym (face-count (a .d) (a .s) ne)) (x .ensures .1) (sym (m .twice) ∙ c .before .before .if3 .left) ne ∙ sym (m .twin) ∙ c .before .if5 .left) (sym (m .like) ∙ c .if6 .left)
-    , λ z. found-wings (a .d) (a .s) (a .rows .now) (a .signs .now) (s .pre .0 .0) (s .pre .0 .1) (s .pre .0 .2) (x .last .1 .1 .1 .1 .1 .0) (a .s * (a .d + 1)) (sym (face-count (a .d) (a .s) ne)) (x .ensures .1) (sym (m .twice) ∙ c .before .before .if3 .left) (a .wings .now) _ (s .pre .1) (s .pre .0 .3) (m .wings))
+    (found-none (a .d) (a .s) (a .rows .now) (a .signs .now) (s .pre .0 .0) (s .pre .0 .1) (s .pre .0 .2) (x .last .1 .1 .1 .1 .1 .0) (a .s * (a .d + 1)) (sym (face-count (a .d) (a .s) ne)) (x .ensures .1 .0) (sym (m .twice) ∙ c .before .before .if3 .left) (twins-are (a .d) (a .s) (a .rows .now) (a .signs .now) (s .pre .0 .0) (s .pre .0 .1) (s .pre .0 .2) (x .last .1 .1 .1 .1 .1 .0) (a .s * (a .d + 1)) (sym (face-count (a .d) (a .s) ne)) (x .ensures .1 .0) (sym (m .twice) ∙ c .before .before .if3 .left) ne ∙ sym (m .twin) ∙ c .before .if5 .left) (sym (m .like) ∙ c .if6 .left)
+    , λ z. found-wings (a .d) (a .s) (a .rows .now) (a .signs .now) (s .pre .0 .0) (s .pre .0 .1) (s .pre .0 .2) (x .last .1 .1 .1 .1 .1 .0) (a .s * (a .d + 1)) (sym (face-count (a .d) (a .s) ne)) (x .ensures .1 .0) (sym (m .twice) ∙ c .before .before .if3 .left) (a .wings .now) _ (s .pre .1) (s .pre .0 .3) (m .wings))
 
 pub adjacent-spec : {M : Type 1} → statement M
 adjacent-spec =
