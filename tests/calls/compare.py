@@ -1,9 +1,9 @@
 """Compares the calls read and move with the unrelated reference.
 
-usage: compare.py SHOW_READ SHOW_MOVE [SEED]
+usage: compare.py SHOW [SEED]
 
-The two programs are crates/show_read and crates/show_move; their first lines say what they take and print. A case
-gives the number that it is made to be refused with, 0 for accepted, or None where only the reference tells.
+The program is crates/show; the first lines of its files say what it takes and prints. A case gives the number that it
+is made to be refused with, 0 for accepted, or None where only the reference tells.
 Last line: 'N passed, M failed'.
 """
 
@@ -75,11 +75,12 @@ def compare(name, program, cases, last, rows, count):
 
 
 def main():
-    seed = int(sys.argv[3]) if len(sys.argv) > 3 else 20262
+    program = sys.argv[1]
+    seed = int(sys.argv[2]) if len(sys.argv) > 2 else 20262
     count = Count()
-    for name, program, cases, last, rows in (
-            ("read", sys.argv[1], read_cases.cases, "behind", {0, 1, 2, 3, 4, 5, 6, 7, 8, 15}),
-            ("move", sys.argv[2], move_cases.cases, "buffer", {0, 2, 3, 4, 5, 12, 13, 15})):
+    for name, cases, last, rows in (
+            ("read", read_cases.cases, "behind", {0, 1, 2, 3, 4, 5, 6, 7, 8, 15}),
+            ("move", move_cases.cases, "buffer", {0, 2, 3, 4, 5, 12, 13, 15})):
         compare(name, program, list(cases(random.Random(seed))), last, rows, count)
     print(f"{count.passed} passed, {count.failed} failed")
     return 1 if count.failed else 0

@@ -16,7 +16,7 @@ HUGE = (2**32, 2**63, 2**64 - 1)
 
 
 def step_numbers(step):
-    """A step as show_move takes it."""
+    """A step as the program takes it."""
     if isinstance(step, Slide):
         return struct.pack("<3Q3d", 1, step.axis, 0, step.amount, 0.0, 0.0)
     if isinstance(step, Slant):

@@ -40,7 +40,7 @@ def step_text(step):
 
 
 def expected(data, words, floats):
-    """What show_read is to print."""
+    """What the program is to print."""
     a = reference.read(data, words, floats)
     if isinstance(a, reference.Refused):
         return f"refused {a.number}\nbehind 0 0"
@@ -50,7 +50,7 @@ def expected(data, words, floats):
 
 
 def case(name, data, words=WORDS, floats=FLOATS, row=None):
-    return Case(name, struct.pack("<3Q", len(data), words, floats) + data, expected(data, words, floats), row)
+    return Case(name, struct.pack("<4Q", 4, len(data), words, floats) + data, expected(data, words, floats), row)
 
 
 class Solid:

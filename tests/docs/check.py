@@ -14,7 +14,7 @@ from tally import Tally  # noqa: E402
 
 DOCUMENTS = [ROOT / "README.md", ROOT / "examples" / "README.md", *sorted((ROOT / "docs").glob("*.md"))]
 CRATES = {p.name for p in (ROOT / "crates").iterdir()}
-INSIDE = re.compile(r"(?:crates/)?([a-z_]+)/(specs|proofs|src|must-fail)/([A-Za-z0-9_]+(?:/[A-Za-z0-9_]+)*)(\.antt|\.rt|\.edit)?")
+INSIDE = re.compile(r"(?:crates/)?([a-z_]+)/(specs|proofs|src|must-fail|slips)/([A-Za-z0-9_]+(?:/[A-Za-z0-9_]+)*)(\.antt|\.rt|\.edit)?")
 OUTSIDE = re.compile(r"(?<![\w/.-])((?:docs|examples|include|rust|tests|tools|bench)/[\w./-]*[\w])")
 NAMED = re.compile(r"((?:`[^`]+`(?:, | and )?)+) \(((?:[a-z_]+)/(?:specs|proofs|src)/[A-Za-z_/.]+)\)")
 

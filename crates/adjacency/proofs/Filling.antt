@@ -17,7 +17,8 @@ use Rattle.words.proofs.Placed.{concat-tabulate-length, placed-length, placed-n
 use Rattle.words.proofs.Records.{EachLong, part-concat, tabulate-at, tabulate-ext, tabulate-length}
 use Rattle.simplex.specs.Cell.{Sign, sameRow}
 use Rattle.adjacency.specs.Held.{heldWords, recordHeld, run}
-use Rattle.complex.specs.Layout.{recordSize, signWord, tableLength}
+use Rattle.simplex.specs.SignWords.{signWord}
+use Rattle.complex.specs.Layout.{recordSize, tableLength}
 use Rattle.complex.proofs.Codec.{part-length}
 use Rattle.matching.proofs.KeptRows.{same-false}
 use Rattle.adjacency.proofs.Repeats.{same-rows}

@@ -40,12 +40,6 @@ module _ (n : ℕ) (P : List ℕ) (g f : ℕ) (e : f ≡ getD P g 0) where
   pub twin-not : (k : ℕ) (rows : List ℕ) → n ≤ f → twinAt k n rows P g ≡ false
   twin-not k rows l = rw (sym e, le-ltb f n l) refl
 
--- (-1)^n is plus at the even numbers
-pub alternating-even : (n : ℕ) → alternating n ≡ eqb (n % 2) 0
-alternating-even zero = refl
-alternating-even (suc zero) = refl
-alternating-even (suc (suc n)) = not-not (alternating n) ∙ alternating-even n ∙ ap (λ m. eqb m 0) {x = n % 2} {y = suc (suc n) % 2} (omega arith)
-
 module _ (k n : ℕ) (rows : List ℕ) (signs : List Sign) (P : List ℕ) (g : ℕ) (W : List ℕ) (c r e : Bool) where
   module _ (f : ℕ) (is : f ≡ getD P g 0) where
     -- key g, at position a of cell p, was not seen before

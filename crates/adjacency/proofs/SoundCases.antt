@@ -13,7 +13,8 @@ use Rattle.complex.specs.Accept.{acceptable, solidRules}
 use Rattle.adjacency.specs.Held.{Blank, Taken, heldWords, recordList}
 use Rattle.complex.specs.Layout.{recordSize, tableLength}
 use Rattle.complex.specs.Table.{ownTable, sound}
-use Rattle.adjacency.proofs.Taking.{limits-of, taken-table}
+use Rattle.rules.proofs.InLimits.{limits-of}
+use Rattle.adjacency.proofs.Taking.{taken-table}
 
 pub fresh-blank : Blank (replicate 32768 65535)
 fresh-blank = (length-replicate {A = ℕ} 32768 65535, λ g h. getD-replicate {A = ℕ} 32768 g 65535 0 h)

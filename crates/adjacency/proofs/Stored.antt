@@ -14,7 +14,7 @@ use Rattle.simplex.specs.Sort.{rowOdd, rowSorted}
 use Rattle.simplex.proofs.Signs.{not-not}
 use Rattle.simplex.proofs.Sorting.{sorted-length}
 use Rattle.adjacency.specs.Held.{Gathered, cellRead}
-use Rattle.complex.specs.Layout.{signOf}
+use Rattle.simplex.specs.SignWords.{signOf}
 
 -- two lists with one record p
 pub part-same : (n p : ℕ) (X Y : List ℕ) → p * n + n ≤ length X → length X ≡ length Y → ((i : ℕ) → i < n → getD X (p * n + i) 0 ≡ getD Y (p * n + i) 0) → part n p X ≡ part n p Y

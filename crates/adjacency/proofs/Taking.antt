@@ -1,5 +1,4 @@
--- What was taken from a list of cells: its limits, its refusals, its table.
---   limits-of             numbers within the limits are small
+-- What was taken from a list of cells: its refusals, its table.
 --   solid-range           rows 6 to 11
 --   whole-list            a list of words is the list of its records
 --   taken-table           the table of what was taken
@@ -26,14 +25,6 @@ use Rattle.complex.specs.Layout.{listSize, tableWords}
 use Rattle.complex.specs.Table.{tableOf, tableOfList}
 use Rattle.adjacency.proofs.Filling.{parts-of}
 use Rattle.adjacency.proofs.TableWords.{table-words}
-
--- what the limits say
-pub limits-of : (d v s : ℕ) → shapeOk maxDimension d v s ≡ true → (d ≤ 7) × (1 ≤ s) × (s ≤ 4096)
-limits-of d v s e =
-    let a = and-parts (leb d 7) (sizesOk v s) e in
-    let b = and-parts (verticesOk v) (within 1 maxCells s) (a .1) in
-    let c = and-parts (leb 1 s) (leb s maxCells) (b .1) in
-    (leb-true d 7 (a .0), leb-true 1 s (c .0), leb-true s 4096 (c .1))
 
 six-range : (a b c d e f : Bool) (k : ℕ) → k ≡ cond a 6 (cond b 7 (cond c 8 (cond d 9 (cond e 10 (cond f 11 0))))) → (k ≡ 0 → ⊥) → (6 ≤ k) × (k ≤ 11)
 six-range true b c d e f k h n = omega arith

@@ -23,7 +23,8 @@ use Rattle.rules.specs.Limits.{empty}
 use Rattle.simplex.specs.Cell.{Sign, Cell, cell}
 use Rattle.simplex.specs.Order.{ascending}
 use Rattle.simplex.specs.Faces.{without, facets}
-use Rattle.complex.specs.Layout.{listSize, signWord, cellOf}
+use Rattle.simplex.specs.SignWords.{signWord}
+use Rattle.complex.specs.Layout.{listSize, cellOf}
 use Rattle.adjacency.specs.Scan.{anyBelow}
 use Rattle.complex.specs.Accept.{Listed, solidOf, cellTwice, crowdedFace, equalSigns}
 use Rattle.complex.specs.Wings.{neighbour}

@@ -3,6 +3,7 @@
 use matching::earlier_equal;
 use matching::place_of;
 use matching::Place;
+use simplex::sign_words::product;
 ghost use mathlib.Core.Bool.{false, _||_, _&&_};
 ghost use mathlib.Core.List.{List};
 ghost use mathlib.Core.Path.{_≡_};
@@ -51,13 +52,6 @@ fn any_repeated(d: usize, s: usize, rows: &[u16; 32768], prev: &mut [u16; 32768]
     let k = d + 1;
     earlier_equal(s, k, 1, k, rows, prev);
     any_seen(s, prev)
-}
-
-// The product of two signs.
-pub fn product(s: bool, t: bool) -> bool
-    ensures { λ r. ⌜ r ≡ times s t ⌝ }
-{
-    if s { t } else { !t }
 }
 
 fn either(s: bool, t: bool) -> bool

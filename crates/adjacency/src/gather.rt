@@ -1,7 +1,7 @@
 // Cells from words: each row in ascending order, eight words a cell, and its sign; and the tests of rows 6, 7 and 8.
 // A record has size words: a sign word, d + 1 vertices, and perhaps more.
-use crate::adjacency::product;
 use crate::adjacency::wide;
+use simplex::sign_words::product;
 use simplex::sort::sort_row;
 ghost use mathlib.Core.Path.{_≡_};
 ghost use Prim.Native.Nat.{ℕ, _+_, _*_, _<_, _≤_};

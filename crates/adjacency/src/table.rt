@@ -4,14 +4,9 @@ ghost use Prim.Native.Nat.{_+_, _*_, _<_, _≤_};
 ghost use lib.ListN.{length};
 ghost use Rattle.words.specs.Placed.{placed};
 ghost use Rattle.simplex.specs.Cell.{sameRow};
-ghost use Rattle.complex.specs.Layout.{signWord, recordSize, tableLength};
+ghost use Rattle.complex.specs.Layout.{recordSize, tableLength};
 ghost use Rattle.adjacency.specs.Held.{run, recordHeld, heldWords};
-
-fn sign_word(s: bool) -> u16
-    ensures { λ r. ⌜ r ≡ signWord s ⌝ }
-{
-    if s { 0 } else { 1 }
-}
+use simplex::sign_words::sign_word;
 
 // Writes n of the words, from place `from` on, to place `to` of the table and on. There are always eight turns, which
 // the compiler writes out.

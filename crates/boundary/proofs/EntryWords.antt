@@ -17,8 +17,9 @@ use Rattle.rules.specs.Limits.{empty}
 use Rattle.simplex.specs.Cell.{Cell, Row, filled, times, alternating}
 use Rattle.simplex.specs.Faces.{face, without}
 use Rattle.simplex.proofs.FaceCounts.{without-filled}
-use Rattle.complex.specs.Layout.{recordSize, listSize, entryOf, cellWords, signOf, signWord}
-use Rattle.boundary.specs.FaceWords.{turnedSign}
+use Rattle.simplex.specs.SignWords.{signOf, signWord}
+use Rattle.complex.specs.Layout.{recordSize, listSize, entryOf, cellWords}
+use Rattle.simplex.specs.SignWords.{turnedSign}
 use Rattle.boundary.specs.Written.{onBoundary}
 
 -- record p of s records of n words

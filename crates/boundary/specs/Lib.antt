@@ -2,4 +2,3 @@
 pub mod Boundary
 pub mod Faces
 pub mod Written
-pub mod FaceWords

@@ -5,26 +5,10 @@ ghost use lib.ListN.{length, getD};
 ghost use Rattle.simplex.specs.Faces.{face};
 ghost use Rattle.complex.specs.Layout.{recordSize, entryOf, cellWords};
 ghost use Rattle.boundary.specs.Written.{onBoundary, facesAt, cellFaces};
-ghost use Rattle.boundary.specs.FaceWords.{turnedSign};
+use simplex::sign_words::turned;
 
 // The wing word for no neighbour.
 const EMPTY: u16 = 65535;
-
-// The sign word w, turned over n times.
-fn turned(w: u16, n: usize) -> u16
-    ensures { λ r. ⌜ r ≡ turnedSign w n ⌝ }
-{
-    if n % 2 == 0 {
-        if w == 0 {
-            return 0;
-        }
-        return 1;
-    }
-    if w == 0 {
-        return 1;
-    }
-    0
-}
 
 // Whether wing a is empty; a cell of dimension 0 has no face.
 pub fn on_boundary(d: usize, entry: &[u16], a: usize) -> bool

@@ -4,16 +4,15 @@ ghost use lib.ListN.{length};
 ghost use Rattle.rules.specs.Numbers.{outcomeOf};
 ghost use Rattle.boundary.specs.Faces.{facesOutcome, facesBuffer};
 ghost use Rattle.boundary.specs.Written.{facesInput};
+use adjacency::sizes::table_words;
 use adjacency::sound::is_sound;
 use rules::limits::Shape;
 use rules::refusal::Answer;
 use rules::refusal::Refusal;
-use crate::limits::table_words;
 use crate::writing::count_faces;
 use crate::writing::write_faces;
 
 mod faces_of;
-mod limits;
 pub mod writing;
 
 // Writes the faces from the start of out, a sign word and d vertices each, and answers their count, or says why not.

@@ -25,7 +25,8 @@ use Rattle.simplex.proofs.Ascending.{ascending-of-asc}
 use Rattle.simplex.proofs.Sorting.{sorted-ascends, sorted-length}
 use Rattle.simplex.proofs.Sums.{plusOn, sumChain}
 use Rattle.complex.specs.Accept.{Listed, acceptable, badSign, cellTwice, crowdedFace, equalSigns, listedCells, repeats, solidOf, solidRules, vertexBeyond, vertexTwice}
-use Rattle.complex.specs.Layout.{cellOf, cellWords, cellsOf, listSize, signWord}
+use Rattle.simplex.specs.SignWords.{signWord}
+use Rattle.complex.specs.Layout.{cellOf, cellWords, cellsOf, listSize}
 use Rattle.complex.proofs.Codec.{cells-back, list-record, part-length}
 use Rattle.complex.proofs.Solid.{Solid}
 use Rattle.complex.proofs.Tables.{cellAt}

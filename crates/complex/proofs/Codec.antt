@@ -14,7 +14,8 @@ use Rattle.simplex.specs.Cell.{Cell, Sign, cell}
 use Rattle.simplex.specs.Faces.{without}
 use Rattle.simplex.proofs.Counts.{All}
 use Rattle.simplex.proofs.Rows.{Long}
-use Rattle.complex.specs.Layout.{Entry, cellOf, cellWords, cellsOf, entriesOf, entryOf, entryWords, listSize, ownList, recordSize, signOf, signWord, tableWords}
+use Rattle.simplex.specs.SignWords.{signOf, signWord}
+use Rattle.complex.specs.Layout.{Entry, cellOf, cellWords, cellsOf, entriesOf, entryOf, entryWords, listSize, ownList, recordSize, tableWords}
 use Rattle.complex.specs.Table.{entriesFrom, entryAt}
 use Rattle.complex.specs.Wings.{neighbour}
 use Rattle.complex.proofs.Tables.{cellAt, wings-tabulated}

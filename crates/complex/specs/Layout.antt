@@ -10,9 +10,9 @@ use mathlib.Core.List.{List, [], _∷_, _++_, map}
 use Prim.Native.Nat.{ℕ, _+_, _*_}
 use lib.Dec.{eqb}
 use lib.ListN.{take, drop, getD}
-use mathlib.Core.Bool.{true, false}
 use Rattle.words.specs.Records.{tabulate, part, concat}
-use Rattle.simplex.specs.Cell.{Sign, Row, Cell, cell}
+use Rattle.simplex.specs.Cell.{Row, Cell, cell}
+use Rattle.simplex.specs.SignWords.{signOf, signWord}
 
 -- words of a list cell, and of a table record
 abbrev pub listSize : ℕ → ℕ
@@ -24,13 +24,6 @@ recordSize d = d + d + 3
 -- words of a table of s cells
 abbrev pub tableLength : ℕ → ℕ → ℕ
 tableLength d s = s * recordSize d
-
-abbrev pub signOf : ℕ → Sign
-signOf x = eqb x 0
-
-abbrev pub signWord : Sign → ℕ
-signWord true = 0
-signWord false = 1
 
 -- the cell of a sign word and its vertices
 abbrev pub cellOf : List ℕ → Cell

@@ -1,6 +1,7 @@
 // The cells of a file, and rows 6 to 8 of the refusal table.
 use crate::numbers;
 use words::copy;
+use simplex::sign_words::sign_word;
 use words::little;
 ghost use mathlib.Core.Path.{_≡_};
 ghost use mathlib.Core.Bool.{not, _||_};
@@ -12,7 +13,7 @@ ghost use lib.Seq.{sets};
 ghost use Rattle.words.specs.Records.{anyOf};
 ghost use Rattle.words.specs.Bytes.{wordsFrom};
 ghost use Rattle.rules.specs.Calls.{written};
-ghost use Rattle.complex.specs.Layout.{signWord};
+ghost use Rattle.simplex.specs.SignWords.{signWord};
 ghost use Rattle.complex.specs.Accept.{vertexBeyond, vertexTwice, repeats};
 ghost use Rattle.file.specs.File.{headerSize, dimensionOf, vertexCountOf, cellCountOf, cellsStart, cellBytes, fileLength, signBytes, fileCells};
 ghost use Rattle.file.specs.Tests.{cellsLength, fileWords};
@@ -152,18 +153,12 @@ pub fn words(b: &[u8]) -> usize
     numbers::cell_count(b) * (numbers::dimension(b) + 2)
 }
 
-fn sign_word(x: u8) -> u16
-    ensures { λ r. ⌜ r ≡ signWord (eqb x 43) ⌝ }
-{
-    if x == 43 { 0 } else { 1 }
-}
-
 // Writes the sign word and the m vertices of the cell at `at` to the places from `to`.
 fn write_cell(b: &[u8], at: usize, m: usize, out: &mut [u16], to: usize)
     requires { ⌜ (at + 1 + m * 2 ≤ length (now b)) × (to + 1 + m ≤ length (now out)) ⌝ }
     ensures { λ _. ⌜ now (out .exit) ≡ sets (now (out .entry)) to (signWord (eqb (getD (now (b .entry)) at 0) 43) ∷ wordsFrom (now (b .entry)) (at + 1) m) ⌝ }
 {
-    out[to] = sign_word(b[at]);
+    out[to] = sign_word(b[at] == 43);
     copy::copy16(b, at + 1, m, out, to + 1);
 }
 

@@ -1,5 +1,6 @@
 // Floats of a file, read by their bits, and row 4 of the refusal table.
 use crate::numbers;
+use points::range;
 use words::little;
 ghost use mathlib.Core.Path.{_≡_};
 ghost use mathlib.Core.Bool.{true, not};
@@ -24,11 +25,7 @@ fn in_range(b: &[u8], at: usize) -> bool
     if exponent == 2047 {
         return false;
     }
-    let x = f64::from_bits(bits);
-    if -1048576.0 < x {
-        return x < 1048576.0;
-    }
-    false
+    range::in_range(f64::from_bits(bits))
 }
 
 // The float at a place, one in range.

@@ -15,7 +15,8 @@ use lib.ListN.{length, take, drop, getD, length-append}
 use lib.Seq.{take-nil, slice, length-slice, take-take, drop-drop, getD-take, getD-drop}
 use Rattle.simplex.specs.Cell.{Row, Sign, times, alternating}
 use Rattle.simplex.specs.Faces.{without, face}
-use Rattle.complex.specs.Layout.{signOf, recordSize}
+use Rattle.simplex.specs.SignWords.{signOf}
+use Rattle.complex.specs.Layout.{recordSize}
 use Rattle.printing.specs.Decimal.{digits}
 use Rattle.printing.specs.Fields.{fields, restOfLine}
 use Rattle.printing.proofs.Bounds.{fields-length}

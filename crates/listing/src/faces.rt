@@ -9,7 +9,7 @@ ghost use Prim.Native.Nat.{_+_, _≤_};
 ghost use lib.ListN.{length};
 ghost use Rattle.simplex.specs.Cell.{times, alternating};
 ghost use Rattle.simplex.specs.Faces.{face};
-ghost use Rattle.complex.specs.Layout.{signOf};
+ghost use Rattle.simplex.specs.SignWords.{signOf};
 ghost use Rattle.printing.specs.Put.{Put};
 ghost use Rattle.listing.specs.Lines.{signText, faceLine, faceLines};
 ghost use Rattle.listing.specs.Parts.{recordAt, boundaryFaces, RecordOf, FaceOf, SizeOf, Table, facesOf};

@@ -21,7 +21,7 @@ use Rattle.complex.specs.Table.{tableOfList}
 use Rattle.wing.specs.Wing.{WingInput, wingInput, wingOutcome, wingBuffer}
 use Rattle.prism.specs.Swept.{sweptCells}
 use Rattle.sweep.specs.Sweep.{sweepOutcome, sweepBuffer, sweepRules, sweptLength, sweptWords, sweepInput}
-use Rattle.sweep.proofs.InLimits.{Limits, limits-are}
+use Rattle.rules.proofs.InLimits.{SweepLimits, sweep-limits-are}
 use Rattle.motion.specs.Move.{MoveInput, moveInput, movedLength, movedLevels, moveOutcome, moveBuffer, moveRules}
 use Rattle.points.specs.declared.step.Step.{Step}
 use Rattle.points.proofs.LevelLaws.{length-levels}
@@ -50,10 +50,10 @@ unfolding moveBuffer
 moved-front i out w k e a = front-of (movedLevels i) out w k (e ∙ ap (λ o. after o (movedLevels i) out) a) (moved-long i k a)
 
 module _ (d v s h : ℕ) (ws : List ℕ) (x k : ℕ) (a : sweepOutcome (sweepInput d v s h ws x) ≡ accepted k) where
-  pub swept-limits : Limits d v s h
+  pub swept-limits : SweepLimits d v s h
   unfolding sweepOutcome sweepRules
   swept-limits =
-      limits-are d v s h (not-false (shapeOk maxSource d v s && stepsOk h) (accepted-by sweepRules sweptLength (sweepInput d v s h ws x) k refl a .1 .0))
+      sweep-limits-are d v s h (not-false (shapeOk maxSource d v s && stepsOk h) (accepted-by sweepRules sweptLength (sweepInput d v s h ws x) k refl a .1 .0))
 
   pub swept-front : (out w : List ℕ) → w ≡ sweepBuffer (sweepInput d v s h ws x) out → (k ≤ length w) × (take k w ≡ sweptWords (sweepInput d v s h ws x))
   unfolding sweepBuffer

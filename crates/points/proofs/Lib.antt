@@ -1,4 +1,5 @@
--- Laws of tests on lists, of copies, of moved points and of their levels.
+-- Laws of floats in range, of tests on lists, of copies, of moved points and of their levels.
+pub mod Finite
 pub mod AllOf
 pub mod Copies
 pub mod Moved

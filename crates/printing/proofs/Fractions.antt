@@ -1,11 +1,10 @@
 -- A float in range as a fraction, by its bits: m 2^x / 2^1074, with m and x from the fields of the exponent and the digits.
---   range-no-nan          a float in range is a number
 --   thousandths-zero      a field below 1012: less than half a thousandth
 --   thousandths-shifted   else the field is at most 1042, and with k = 1075 - field the float is m / 2^k
 --   negative-bits         the sign is the highest bit
 -- Assumes nothing.
 use mathlib.Core.Path.{_≡_, refl, sym, ap, _∙_, subst}
-use mathlib.Core.Bool.{Bool, true, false, not, cond, _&&_}
+use mathlib.Core.Bool.{Bool, true, false, not, cond, _&&_, true≢false}
 use Prim.Native.Nat.{ℕ, zero, suc, _+_, _-_, _*_, _/_, _%_, _^_, _≤_, _<_}
 use native.Mathlib.Nat.{add-mul, mul-assoc, mul-comm, mul-right-comm, mul-div-mul-left, mul-div-mul-right, div-eq-of-lt, mul-lt-mul-of-pos-right, lt-of-mul-lt-mul-right, lt-of-le-of-lt, mul-le-mul-right, pow-suc, not-le-of-lt}
 use native.Mathlib.Omega.{arith}
@@ -21,6 +20,7 @@ use lib.Ieee.Fits.{down-pos}
 use borrow.Author.Tests.{ltb-true}
 use Rattle.rules.proofs.Tests.{and-parts}
 use Rattle.points.specs.Step.{magnitudeLimit, inRange}
+use Rattle.points.proofs.Finite.{nan-out, inf-out}
 use Rattle.printing.specs.Decimal.{thousandths, negative}
 
 limit-is : magnitudeLimit ≡ fin false 1 (pos 20)
@@ -44,24 +44,6 @@ range-below false m e h =
     let p = and-parts (lt (neg (fin false 1 (pos 20))) (fin false m e)) (ltb (m * up e * 1) (1 * 1048576 * down e)) (range-is (fin false m e) h) in
     omega (arith, ltb-true (m * up e * 1) (1 * 1048576 * down e) (p .1))
 
-false-not-true : false ≡ true → ⊥
-false-not-true e = let z : _≡_ {A = ℕ} 0 1 = cc in omega arith
-
-nan-out : inRange nan ≡ true → ⊥
-unfolding between lt neg
-nan-out h = false-not-true (range-is nan h)
-
-inf-out : (s : Bool) → inRange (inf s) ≡ true → ⊥
-unfolding between lt neg
-inf-out true h = false-not-true (range-is (inf true) h)
-inf-out false h = false-not-true (range-is (inf false) h)
-
-pub range-no-nan : (x : Float) → inRange x ≡ true → T (not (isNan x))
-unfolding isNan
-range-no-nan nan h = absurd (nan-out h)
-range-no-nan (inf s) h = tt
-range-no-nan (fin s m e) h = tt
-
 -- the mantissa and the exponent of two fields: a field of 0 has no leading digit
 mant : ℕ → ℕ → ℕ
 mant zero t = t
@@ -73,8 +55,8 @@ expo (suc x) = x
 
 number-or-not : (s b z : Bool) (v : Float) (a c : ℕ) → HasValue v s a c → inRange (cond b (cond z (inf s) nan) v) ≡ true →
     HasValue (cond b (cond z (inf s) nan) v) s a c
-number-or-not s true true v a c h r = absurd (inf-out s r)
-number-or-not s true false v a c h r = absurd (nan-out r)
+number-or-not s true true v a c h r = absurd (true≢false (sym r ∙ inf-out s))
+number-or-not s true false v a c h r = absurd (true≢false (sym r ∙ nan-out))
 number-or-not s false z v a c h r = h
 
 fields-value : (s : Bool) (y t : ℕ) → inRange (ofFields binary64 s y t) ≡ true →

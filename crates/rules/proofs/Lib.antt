@@ -1,5 +1,6 @@
 -- Laws of tests, of shapes, and of what calls answer.
 pub mod Tests
+pub mod InLimits
 pub mod Shaping
 pub mod Answers
 pub mod Accepting

@@ -1,7 +1,11 @@
 -- Laws of signs.
-use mathlib.Core.Path.{_≡_, refl, sym}
+use mathlib.Core.Path.{_≡_, refl, sym, ap, _∙_}
 use mathlib.Core.Bool.{Bool, true, false, not}
-use Rattle.simplex.specs.Cell.{times}
+use Prim.Native.Nat.{ℕ, zero, suc, _%_}
+use native.Mathlib.Omega.{arith}
+use lib.Dec.{eqb}
+use borrow.Author.Tests.{eq-eqb, ne-eqb}
+use Rattle.simplex.specs.Cell.{times, alternating}
 
 pub times-not : (s b : Bool) → times (not s) b ≡ not (times s b)
 times-not true b = refl
@@ -43,3 +47,17 @@ pub times-not-not : (s t : Bool) → times (not s) (not t) ≡ times s t
 times-not-not true true = refl
 times-not-not true false = refl
 times-not-not false t = refl
+
+-- (-1)^n by the rest of n
+pub alternating-rest : (n : ℕ) → alternating n ≡ eqb (n % 2) 0
+alternating-rest zero = refl
+alternating-rest (suc zero) = refl
+alternating-rest (suc (suc n)) =
+    let same : n % 2 ≡ suc (suc n) % 2 = omega arith in
+    not-not (alternating n) ∙ alternating-rest n ∙ ap (λ m. eqb m 0) same
+
+pub even-plus : (n : ℕ) → n % 2 ≡ 0 → alternating n ≡ true
+even-plus n e = alternating-rest n ∙ eq-eqb (n % 2) 0 e
+
+pub odd-minus : (n : ℕ) → (n % 2 ≡ 0 → ⊥) → alternating n ≡ false
+odd-minus n e = alternating-rest n ∙ ne-eqb (n % 2) 0 e

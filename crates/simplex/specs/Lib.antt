@@ -1,5 +1,6 @@
 -- Signed simplices: cells, their ascending order, their faces, and lists of them.
 pub mod Cell
+pub mod SignWords
 pub mod Order
 pub mod Faces
 pub mod Chain

@@ -3,12 +3,12 @@ ghost use mathlib.Core.Path.{_≡_};
 ghost use lib.ListN.{length};
 ghost use Rattle.rules.specs.Numbers.{outcomeOf};
 ghost use Rattle.sweep.specs.Sweep.{sweepOutcome, sweepBuffer, sweepInput};
+use adjacency::sizes::table_words;
 use adjacency::sound::is_sound;
 use rules::refusal::Answer;
 use rules::refusal::Refusal;
 use crate::limits::in_limits;
 use crate::limits::swept_cells;
-use crate::limits::table_words;
 use crate::limits::too_large;
 use sweeping::writing::write_swept;
 

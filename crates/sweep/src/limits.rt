@@ -5,7 +5,6 @@ ghost use Prim.Native.Nat.{_≤_};
 ghost use lib.Dec.{ltb};
 ghost use Rattle.rules.specs.Limits.{maxSource, maxVertices, maxCells, stepsOk, sweptVertices};
 ghost use Rattle.rules.specs.Shapes.{shapeOk};
-ghost use Rattle.complex.specs.Layout.{tableLength};
 ghost use Rattle.prism.specs.Swept.{sweptCells};
 use rules::limits::Shape;
 
@@ -19,14 +18,6 @@ pub fn in_limits(d: usize, v: usize, s: usize, h: usize) -> bool
         return false;
     }
     Shape::within(Shape::MAX_SOURCE, d, v, s)
-}
-
-// Words of a table.
-pub fn table_words(d: usize, s: usize) -> usize
-    requires { ⌜ (d ≤ 7) × (s ≤ 4096) ⌝ }
-    ensures { λ r. ⌜ r ≡ tableLength d s ⌝ }
-{
-    s * (d + d + 3)
 }
 
 pub fn swept_vertices(v: usize, h: usize) -> usize

@@ -1,18 +1,14 @@
--- Steps of the search for the position back, the cell of a side pair, and signs by the rest of a number.
+-- Steps of the search for the position back, and the cell of a side pair.
 --   back-here, back-next, back-end    the search at position b: found there, or go on, or past the last
 --   pair-cell                         the cell of a side pair that is in the table
---   even-plus, odd-minus              (-1)^n by the rest of n
 -- Assumes nothing.
 use mathlib.Core.Path.{_≡_, refl, sym, ap, ap₂, _∙_}
-use mathlib.Core.Bool.{true, false}
-use Prim.Native.Nat.{ℕ, zero, suc, _+_, _-_, _%_, _≤_, _<_}
+use Prim.Native.Nat.{ℕ, suc, _+_, _-_, _≤_, _<_}
 use native.Mathlib.Numerals.{add-one}
 use native.Mathlib.Omega.{arith}
 use lib.Dec.{eqb}
 use borrow.Author.Tests.{eq-eqb, ne-eqb, le-leb, lt-ltb}
 use Rattle.rules.specs.Limits.{maxSource}
-use Rattle.simplex.specs.Cell.{alternating}
-use Rattle.simplex.proofs.Signs.{not-not}
 use Rattle.prism.specs.Sides.{sidePair}
 use Rattle.sweeping.specs.SideTable.{sidePairOf}
 use Rattle.prism.specs.Wings.{backFrom, backTo}
@@ -38,16 +34,3 @@ back-start wing p q d = let all : suc d ≡ d + 1 - 0 = omega arith in ap (backF
 pub pair-cell : (d b l : ℕ) → d ≤ maxSource → b ≤ d → l < d → sidePairOf d b l .cell ≡ sidePair d b l .cell
 unfolding sidePairOf
 pair-cell d b l hd hb hl = rw (le-leb d maxSource hd, le-leb b d hb, lt-ltb l d hl) refl
-
-alternating-rest : (n : ℕ) → alternating n ≡ eqb (n % 2) 0
-alternating-rest zero = refl
-alternating-rest (suc zero) = refl
-alternating-rest (suc (suc n)) =
-    let same : n % 2 ≡ suc (suc n) % 2 = omega arith in
-    not-not (alternating n) ∙ alternating-rest n ∙ ap (λ m. eqb m 0) same
-
-pub even-plus : (n : ℕ) → n % 2 ≡ 0 → alternating n ≡ true
-even-plus n e = alternating-rest n ∙ eq-eqb (n % 2) 0 e
-
-pub odd-minus : (n : ℕ) → (n % 2 ≡ 0 → ⊥) → alternating n ≡ false
-odd-minus n e = alternating-rest n ∙ ne-eqb (n % 2) 0 e

@@ -7,7 +7,7 @@ ghost use Rattle.words.specs.Records.{tabulate};
 ghost use Rattle.words.specs.Placed.{placed};
 ghost use Rattle.prism.specs.Cells.{atLevel};
 ghost use Rattle.prism.specs.Swept.{sweptCells};
-ghost use Rattle.sweeping.specs.RecordWords.{turnedSign, liftedFrom};
+ghost use Rattle.sweeping.specs.RecordWords.{liftedFrom};
 ghost use Rattle.sweeping.specs.Across.{SidesFit, Across, sideWord, wingWord};
 ghost use Rattle.sweeping.specs.Written.{recordWords, Ready};
 use crate::reading::sign;
@@ -15,22 +15,7 @@ use crate::reading::vertex;
 use crate::reading::wide;
 use crate::wings::wing_above;
 use crate::wings::wing_below;
-
-// The sign word w, turned over n times.
-fn turned(w: u16, n: usize) -> u16
-    ensures { λ r. ⌜ r ≡ turnedSign w n ⌝ }
-{
-    if n % 2 == 0 {
-        if w == 0 {
-            return 0;
-        }
-        return 1;
-    }
-    if w == 0 {
-        return 1;
-    }
-    0
-}
+use simplex::sign_words::turned;
 
 // Vertex x at level i.
 fn lift(v: usize, h: usize, i: usize, x: usize) -> u16

@@ -28,11 +28,10 @@ use Rattle.complex.specs.Accept.{solidRules}
 use Rattle.complex.specs.Layout.{listSize, recordSize, tableLength}
 use Rattle.complex.specs.Table.{tableOfList}
 use Rattle.wing.specs.Wing.{WingInput, wingInput, wingOutcome, wingBuffer, wingRules}
-use Rattle.adjacency.proofs.Taking.{limits-of}
+use Rattle.rules.proofs.InLimits.{limits-of, sweep-limits-are}
 use Rattle.wing.proofs.WingCases.{row-2, row-3}
 use Rattle.prism.specs.Swept.{sweptCells}
 use Rattle.sweep.specs.Sweep.{SweepInput, sweepOutcome, sweepBuffer, sweepRules, sweptWords, sweepInput}
-use Rattle.sweep.proofs.InLimits.{limits-are}
 use Rattle.sweep.proofs.Outcomes.{tooLarge, large-not, refused-at-2, refused-at-3, refused-at-12}
 use Rattle.winged.specs.Host.{hosted, hostAnswer, wordsIn, hostList, hostWing, hostWingOutcome, hostWingBuffer, hostSweepInput, hostSweep, hostSweepOutcome, hostSweepBuffer}
 use Rattle.winged.specs.Sent.{lesser, tableRoom, wingRead, sweepRead}
@@ -151,7 +150,7 @@ sweep-same d v s h ws x = go (shapeOk maxSource d v s && stepsOk h) refl (tooLar
     go false e b f = rw e refl
     go true e true f = rw f refl
     go true e false f =
-        let l = limits-are d v s h e in
+        let l = sweep-limits-are d v s h e in
         let n = large-not (sweepInput d v s h ws x) f .1 in
         rw (room-cut x tableRoom (tableLength (suc d) (sweptCells d s h)) (table-fits (suc d) (sweptCells d s h) (omega (arith, l .dimension)) n)) refl
 

@@ -15,7 +15,8 @@ use Rattle.complex.specs.Layout.{tableLength, cellWords}
 use Rattle.boundary.specs.Faces.{FacesInput, boundaryCells, facesLength}
 use Rattle.boundary.specs.Written.{facesInput, allFaces, allWords}
 use Rattle.boundary.proofs.Counting.{boundary-is, words-are, words-long}
-use Rattle.boundary.proofs.InLimits.{Limits, limits-are}
+use Rattle.rules.specs.Limits.{maxDimension}
+use Rattle.rules.proofs.InLimits.{Limits, limits-are}
 use Rattle.boundary.proofs.Outcomes.{inLimits, rightLength, isSound, refused-at-2, refused-at-3, refused-at-14, refused-at-15, accepted-with, left-alone, left-written}
 use Rattle.words.proofs.Placed.{placed-first}
 use Rattle.boundary.proofs.faces.Statement.{statement}
@@ -41,8 +42,8 @@ input c = facesInput (c .args .d) (c .args .v) (c .args .s) (c .args .table .now
 inside : (c : tie.Else1) → inLimits (input (start c)) ≡ true
 inside c = sym (c .before .within .ensures) ∙ not-false _ (c .if1 .left)
 
-limits : (c : tie.Else1) → Limits (start c .args .d) (start c .args .v) (start c .args .s)
-limits c = limits-are (start c .args .d) (start c .args .v) (start c .args .s) (inside c)
+limits : (c : tie.Else1) → Limits maxDimension (start c .args .d) (start c .args .v) (start c .args .s)
+limits c = limits-are maxDimension (start c .args .d) (start c .args .v) (start c .args .s) (inside c)
 
 -- the table has the right length,
 long : (c : tie.Else2) → length (start (one c) .args .table .now) ≡ tableLength (start (one c) .args .d) (start (one c) .args .s)

@@ -12,7 +12,7 @@ use Rattle.rules.specs.Calls.{accepted}
 use Rattle.complex.specs.Layout.{tableLength}
 use Rattle.sweep.specs.Sweep.{SweepInput, sweptLength, sweepInput}
 use Rattle.sweeping.specs.Written.{allWords, Ready}
-use Rattle.sweep.proofs.InLimits.{Limits, limits-are}
+use Rattle.rules.proofs.InLimits.{SweepLimits, sweep-limits-are}
 use Rattle.sweep.proofs.Outcomes.{inLimits, rightLength, tooLarge, isSound, refused-at-2, refused-at-3, refused-at-12, refused-at-14, refused-at-15, accepted-with, left-alone, left-written, large-not}
 use Rattle.words.proofs.Placed.{placed-first}
 use Rattle.sweeping.proofs.SoundTable.{sound-ready}
@@ -43,8 +43,8 @@ input c = sweepInput (c .args .d) (c .args .v) (c .args .s) (c .args .h) (c .arg
 within : (c : tie.Else1) → inLimits (input (start c)) ≡ true
 within c = sym (c .before .in-limits .ensures) ∙ not-false _ (c .if1 .left)
 
-limits : (c : tie.Else1) → Limits (start c .args .d) (start c .args .v) (start c .args .s) (start c .args .h)
-limits c = limits-are (start c .args .d) (start c .args .v) (start c .args .s) (start c .args .h) (within c)
+limits : (c : tie.Else1) → SweepLimits (start c .args .d) (start c .args .v) (start c .args .s) (start c .args .h)
+limits c = sweep-limits-are (start c .args .d) (start c .args .v) (start c .args .s) (start c .args .h) (within c)
 
 -- the table has the right length,
 right : (c : tie.Else2) → rightLength (input (start (one c))) ≡ true

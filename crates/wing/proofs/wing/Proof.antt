@@ -10,7 +10,7 @@ use borrow.Author.Tests.{not-true, not-false}
 use Rattle.rules.specs.Calls.{accepted, refused}
 use Rattle.rules.specs.Limits.{maxDimension}
 use Rattle.rules.specs.Shapes.{shapeOk}
-use Rattle.adjacency.proofs.Taking.{limits-of}
+use Rattle.rules.proofs.InLimits.{limits-of}
 use Rattle.adjacency.proofs.Tabling.{table-range}
 use Rattle.wing.proofs.WingCases.{outside, wrong-length, table-left, told-refused, told-accepted}
 use Rattle.wing.proofs.wing.Statement.{statement}

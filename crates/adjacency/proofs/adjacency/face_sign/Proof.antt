@@ -4,7 +4,7 @@ use mathlib.Core.Path.{sym, ap, _∙_}
 use lib.ListN.{getD}
 use borrow.Author.Needs.{needs}
 use Rattle.simplex.specs.Cell.{times}
-use Rattle.adjacency.proofs.Seeing.{alternating-even}
+use Rattle.simplex.proofs.Signs.{alternating-rest}
 use Rattle.adjacency.proofs.adjacency.face_sign.Statement.{statement}
 use Rattle.adjacency.proofs.adjacency.face_sign.Tie as tie
 
@@ -17,7 +17,7 @@ product-requires c κs = search needs
 returns : tie.Need-returns
 returns c =
     let a = c .before .before .args in
-    c .product .ensures ∙ ap (λ (s : Bool). times s (getD (a .signs .now) (a .p) false)) (sym (alternating-even (a .a)))
+    c .product .ensures ∙ ap (λ (s : Bool). times s (getD (a .signs .now) (a .p) false)) (sym (alternating-rest (a .a)))
 
 pub face-sign-spec : {M : Type 1} → statement M
 face-sign-spec = tie.close (tie.spec element-copy-out-product product-requires returns)

@@ -8,7 +8,7 @@ use lib.ListN.{length-replicate}
 use borrow.Author.Needs.{needs}
 use borrow.Author.Tests.{not-true, not-false}
 use Rattle.adjacency.proofs.SoundCases.{fresh-blank, unsound-outside, unsound-length, unsound-refused, sound-same}
-use Rattle.adjacency.proofs.Taking.{limits-of}
+use Rattle.rules.proofs.InLimits.{limits-of}
 use Rattle.adjacency.proofs.sound.is_sound.Statement.{statement}
 use Rattle.adjacency.proofs.sound.is_sound.Tie as tie
 

@@ -7,7 +7,8 @@ use native.Mathlib.Omega.{arith}
 use lib.ListN.{length, length-replicate}
 use borrow.Author.Needs.{needs}
 use Rattle.adjacency.proofs.SoundCases.{fresh-blank}
-use Rattle.adjacency.proofs.Taking.{taken-written, limits-of}
+use Rattle.rules.proofs.InLimits.{limits-of}
+use Rattle.adjacency.proofs.Taking.{taken-written}
 use Rattle.adjacency.proofs.Tabling.{table-refused, table-no-room, table-accepted, after-refused, after-accepted}
 use Rattle.adjacency.proofs.tabled.write_table.Statement.{statement}
 use Rattle.adjacency.proofs.tabled.write_table.Tie as tie

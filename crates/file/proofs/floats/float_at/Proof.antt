@@ -3,7 +3,7 @@ use mathlib.Core.Path.{ap, _∙_}
 use lib.Ieee.{binary64, ofBits}
 use borrow.Author.Needs.{needs}
 use Rattle.points.specs.Step.{inRange}
-use Rattle.file.proofs.Range.{range-no-nan}
+use Rattle.file.proofs.Range.{bits-no-nan}
 use Rattle.file.proofs.floats.float_at.Statement.{statement}
 use Rattle.file.proofs.floats.float_at.Tie as tie
 
@@ -12,7 +12,7 @@ word64-requires c κs = search needs
 
 float-from-bits-result : tie.Need-float-from-bits-result
 float-from-bits-result c =
-    range-no-nan _ (ap (λ n. inRange (ofBits binary64 n)) (c .word64 .ensures) ∙ c .before .before .pre .1)
+    bits-no-nan _ (ap (λ n. inRange (ofBits binary64 n)) (c .word64 .ensures) ∙ c .before .before .pre .1)
 
 returns : tie.Need-returns
 returns c = ap (ofBits binary64) (c .word64 .ensures)

@@ -1,9 +1,9 @@
--- `in_range` answers `inRange`: an exponent field of all ones is in no range, and any other is compared with both ends. Assumes nothing.
+-- `in_range` answers `inRange`: an exponent field of all ones is in no range, and any other is a number's. Assumes nothing.
 use mathlib.Core.Path.{sym, ap, _∙_}
 use lib.Ieee.{binary64, ofBits}
 use borrow.Author.Needs.{needs}
 use Rattle.points.specs.Step.{inRange}
-use Rattle.file.proofs.Range.{field-out, field-no-nan, range-low, range-high}
+use Rattle.file.proofs.Range.{field-out, field-no-nan}
 use Rattle.file.proofs.floats.in_range.Statement.{statement}
 use Rattle.file.proofs.floats.in_range.Tie as tie
 
@@ -13,16 +13,14 @@ word64-requires c κs = search needs
 returns : tie.Need-returns
 returns c = sym (ap (λ n. inRange (ofBits binary64 n)) (sym (c .before .word64 .ensures)) ∙ field-out _ (c .if1 .taken))
 
-float-from-bits-x : tie.Need-float-from-bits-x
-float-from-bits-x c = field-no-nan _ (c .if1 .left)
+float-from-bits-in-range : tie.Need-float-from-bits-in-range
+float-from-bits-in-range c = field-no-nan _ (c .if1 .left)
+
+in-range-requires : tie.Need-in-range-requires
+in-range-requires c κs = search needs
 
 returns-2 : tie.Need-returns-2
-returns-2 c =
-    sym (ap (λ n. inRange (ofBits binary64 n)) (sym (c .before .before .word64 .ensures)) ∙ range-high (ofBits binary64 (c .before .before .word64 .result)) (c .if2 .taken))
-
-returns-3 : tie.Need-returns-3
-returns-3 c =
-    sym (ap (λ n. inRange (ofBits binary64 n)) (sym (c .before .before .word64 .ensures)) ∙ range-low (ofBits binary64 (c .before .before .word64 .result)) (c .if2 .left))
+returns-2 c = c .in-range .ensures ∙ ap (λ n. inRange (ofBits binary64 n)) (c .before .before .word64 .ensures)
 
 pub in-range-spec : {M : Type 1} → statement M
-in-range-spec = tie.close (tie.spec word64-requires returns float-from-bits-x returns-2 returns-3)
+in-range-spec = tie.close (tie.spec word64-requires returns float-from-bits-in-range in-range-requires returns-2)

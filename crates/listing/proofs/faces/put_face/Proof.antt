@@ -6,7 +6,7 @@ use native.Mathlib.Omega.{arith}
 use lib.ListN.{length, getD}
 use borrow.Author.Needs.{needs}
 use Rattle.simplex.specs.Cell.{times, alternating}
-use Rattle.complex.specs.Layout.{signOf}
+use Rattle.simplex.specs.SignWords.{signOf}
 use Rattle.printing.proofs.Placing.{left-start, left-step, left-last, left-fits}
 use Rattle.listing.specs.Lines.{signText}
 use Rattle.listing.proofs.FaceText.{face-pieces, lowFields, highFields}

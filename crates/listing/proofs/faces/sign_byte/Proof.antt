@@ -1,7 +1,7 @@
 -- `faces::sign_byte` meets its contract: even positions keep the cell's sign. Assumes nothing.
 use Prim.Native.Nat.{_-_}
 use borrow.Author.Tests.{eq-eqb, ne-eqb}
-use Rattle.boundary.proofs.Turning.{even-plus, odd-minus}
+use Rattle.simplex.proofs.Signs.{even-plus, odd-minus}
 use Rattle.listing.proofs.faces.sign_byte.Statement.{statement}
 use Rattle.listing.proofs.faces.sign_byte.Tie as tie
 

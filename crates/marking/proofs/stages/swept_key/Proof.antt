@@ -11,7 +11,7 @@ use lib.Seq.{length-take-le}
 use Rattle.rules.specs.Calls.{Outcome, accepted}
 use Rattle.rules.specs.Numbers.{numberOf, outcomeOf}
 use Rattle.sweep.specs.Sweep.{SweepInput, sweepOutcome, sweptWords, sweepInput}
-use Rattle.sweep.proofs.InLimits.{Limits}
+use Rattle.rules.proofs.InLimits.{SweepLimits}
 use Rattle.marking.specs.Key.{wordRoom}
 use Rattle.marking.specs.Stages.{counted, left, movedKey}
 use Rattle.marking.proofs.Staged.{swept-front, swept-limits, swept-refused, swept-accepted}
@@ -38,7 +38,7 @@ front c =
     let i = told (call c) in
     swept-front (i .d) (i .v) (i .s) (i .h) (i .table) wordRoom (c .m .given .0 .0) (ok c) _ (buffer c) (call c .sweep .ensures .1)
 
-limits : (c : tie.After-m) → Limits (told (call c) .d) (told (call c) .v) (told (call c) .s) (told (call c) .h)
+limits : (c : tie.After-m) → SweepLimits (told (call c) .d) (told (call c) .v) (told (call c) .s) (told (call c) .h)
 limits c = let i = told (call c) in swept-limits (i .d) (i .v) (i .s) (i .h) (i .table) wordRoom (c .m .given .0 .0) (ok c)
 
 few : (c : tie.After-m) → (told (call c) .s * (told (call c) .d + 1) ≤ 28672) × (told (call c) .h * (told (call c) .s * (told (call c) .d + 1)) ≤ 1835008)

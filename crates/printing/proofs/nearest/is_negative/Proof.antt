@@ -1,5 +1,6 @@
 -- `nearest::is_negative` meets its contract: the sign is the highest bit. Assumes nothing.
-use Rattle.printing.proofs.Fractions.{range-no-nan, negative-bits}
+use Rattle.points.proofs.Finite.{range-no-nan}
+use Rattle.printing.proofs.Fractions.{negative-bits}
 use Rattle.printing.proofs.nearest.is_negative.Statement.{statement}
 use Rattle.printing.proofs.nearest.is_negative.Tie as tie
 

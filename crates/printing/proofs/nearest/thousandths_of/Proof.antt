@@ -6,7 +6,8 @@ use native.Mathlib.Omega.{arith}
 use lib.Pow.{pow-mono}
 use lib.Ieee.{binary64, toBits}
 use borrow.Author.Needs.{needs}
-use Rattle.printing.proofs.Fractions.{range-no-nan, thousandths-zero, field-in-range, thousandths-shifted, digitsOf, fieldOf}
+use Rattle.points.proofs.Finite.{range-no-nan}
+use Rattle.printing.proofs.Fractions.{thousandths-zero, field-in-range, thousandths-shifted, digitsOf, fieldOf}
 use Rattle.printing.proofs.nearest.thousandths_of.Statement.{statement}
 use Rattle.printing.proofs.nearest.thousandths_of.Tie as tie
 

@@ -5,12 +5,12 @@ use native.Mathlib.Omega.{arith}
 use borrow.Author.Tests.{lt-ltb, le-ltb}
 use Rattle.rules.specs.Limits.{maxVertices, maxCells, sweptVertices}
 use Rattle.prism.specs.Swept.{sweptCells}
-use Rattle.sweep.proofs.InLimits.{Limits, limits-are}
+use Rattle.rules.proofs.InLimits.{SweepLimits, sweep-limits-are}
 use Rattle.sweep.proofs.limits.too_large.Statement.{statement}
 use Rattle.sweep.proofs.limits.too_large.Tie as tie
 
-limits : (c : tie.Start) → Limits (c .args .d) (c .args .v) (c .args .s) (c .args .h)
-limits c = limits-are (c .args .d) (c .args .v) (c .args .s) (c .args .h) (c .pre)
+limits : (c : tie.Start) → SweepLimits (c .args .d) (c .args .v) (c .args .s) (c .args .h)
+limits c = sweep-limits-are (c .args .d) (c .args .v) (c .args .s) (c .args .h) (c .pre)
 
 swept-vertices-requires : tie.Need-swept-vertices-requires
 swept-vertices-requires c κs = (limits c .vertices, limits c .steps)

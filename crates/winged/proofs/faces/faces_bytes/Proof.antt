@@ -14,7 +14,7 @@ use Rattle.words.specs.Bytes.{words16}
 use Rattle.rules.specs.Limits.{maxDimension}
 use Rattle.rules.specs.Shapes.{shapeOk}
 use Rattle.complex.specs.Layout.{tableLength}
-use Rattle.boundary.proofs.InLimits.{limits-are}
+use Rattle.rules.proofs.InLimits.{limits-are}
 use Rattle.winged.specs.Sent.{tableRoom, facesAnswer, facesAfter}
 use Rattle.winged.proofs.Inward.{decoded-front, table-fits}
 use Rattle.winged.proofs.FaceOutcomes.{host-outside, host-wrong, host-right}
@@ -31,7 +31,7 @@ inside c = sym (c .before .within .ensures) ∙ not-false _ (c .if1 .left)
 few : (c : tie.Else1) → (start c .args .d ≤ 7) × (tableLength (start c .args .d) (start c .args .s) ≤ tableRoom)
 few c =
     let a = start c .args in
-    let l = limits-are (a .d) (a .v) (a .s) (inside c) in
+    let l = limits-are maxDimension (a .d) (a .v) (a .s) (inside c) in
     (l .dimension, table-fits (a .d) (a .s) (l .dimension) (l .cells))
 
 -- the table lent, and its words

@@ -19,7 +19,8 @@ use Rattle.complex.specs.Layout.{tableLength, cellWords}
 use Rattle.boundary.specs.Faces.{FacesInput, boundaryCells, facesLength}
 use Rattle.boundary.specs.Written.{allFaces, allWords}
 use Rattle.boundary.proofs.Counting.{boundary-is, words-are, words-long}
-use Rattle.boundary.proofs.InLimits.{Limits, limits-are}
+use Rattle.rules.specs.Limits.{maxDimension}
+use Rattle.rules.proofs.InLimits.{Limits, limits-are}
 use Rattle.boundary.proofs.Outcomes.{rightLength, isSound, refused-at-14, refused-at-15, accepted-with}
 use Rattle.words.proofs.Placed.{placed-first}
 use Rattle.winged.specs.Sent.{facesIn}
@@ -33,8 +34,8 @@ start c = c .before .before .before
 abbrev input : tie.Start → FacesInput
 input c = facesIn (c .args .d) (c .args .v) (c .args .s) (c .args .table .now) (c .args .out .now)
 
-limits : (c : tie.Start) → Limits (c .args .d) (c .args .v) (c .args .s)
-limits c = limits-are (c .args .d) (c .args .v) (c .args .s) (c .pre .0)
+limits : (c : tie.Start) → Limits maxDimension (c .args .d) (c .args .v) (c .args .s)
+limits c = limits-are maxDimension (c .args .d) (c .args .v) (c .args .s) (c .pre .0)
 
 right : (c : tie.Start) → rightLength (input c) ≡ true
 right c = eq-eqb (length (c .args .table .now)) (tableLength (c .args .d) (c .args .s)) (c .pre .1)

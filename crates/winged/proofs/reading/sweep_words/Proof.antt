@@ -14,7 +14,7 @@ use Rattle.rules.specs.Limits.{maxSource, stepsOk}
 use Rattle.rules.specs.Shapes.{shapeOk}
 use Rattle.complex.specs.Layout.{recordSize}
 use Rattle.sweep.specs.Sweep.{sweepOutcome, sweepBuffer, sweepInput}
-use Rattle.sweep.proofs.InLimits.{limits-are}
+use Rattle.rules.proofs.InLimits.{sweep-limits-are}
 use Rattle.winged.proofs.Inward.{decoded-front, sweep-after, sweep-large, sweep-outside, sweep-wrong, sweep-right}
 use Rattle.winged.proofs.reading.sweep_words.Statement.{statement}
 use Rattle.winged.proofs.reading.sweep_words.Tie as tie
@@ -29,7 +29,7 @@ inside c = sym (c .before .in-limits .ensures) ∙ not-false _ (c .if1 .left)
 few : (c : tie.Else1) → (start c .args .d ≤ 6) × (start c .args .s * recordSize (start c .args .d) ≤ 61440)
 few c =
     let a = start c .args in
-    let l = limits-are (a .d) (a .v) (a .s) (a .h) (inside c) in
+    let l = sweep-limits-are (a .d) (a .v) (a .s) (a .h) (inside c) in
     (l .dimension, mul-le-mul {n₁ = a .s} {m₁ = recordSize (a .d)} {n₂ = 4096} {m₂ = 15} (l .cells) (omega (arith, l .dimension)))
 
 -- the table lent, and its words

@@ -13,7 +13,7 @@ use Rattle.words.specs.Bytes.{words16}
 use Rattle.rules.specs.Limits.{maxDimension}
 use Rattle.rules.specs.Shapes.{shapeOk}
 use Rattle.wing.specs.Wing.{wingInput, wingOutcome, wingBuffer}
-use Rattle.adjacency.proofs.Taking.{limits-of}
+use Rattle.rules.proofs.InLimits.{limits-of}
 use Rattle.winged.proofs.Inward.{decoded-front, wing-after, wing-outside, wing-wrong, wing-right}
 use Rattle.winged.proofs.reading.wing_words.Statement.{statement}
 use Rattle.winged.proofs.reading.wing_words.Tie as tie
