@@ -126,6 +126,7 @@ module _ (d s : ℕ) (rows : List ℕ) (signs : List Sign) (hd : d ≤ 7) (hs : 
           heads p l =
               ap (λ i. getD rows i 0) (sym (add-zero (p * 8))) ∙ held-vertex p 0 (omega arith)
               ∙ ap (λ (c : Cell). getD (c .row) 0 0) (sym (held-at p (subst (λ n. p < n) held-length l)))
+
           twins : (c : ℕ) → (c ≡ 0 → ⊥) → All (Long (suc c)) (heldCells d s rows signs) →
               cellTwice (heldCells d s rows signs) ≡ anyBelow (faceCount d s) (twinAt (suc c) (faceCount d s) rows P)
           twins zero ne long = absurd (ne refl)

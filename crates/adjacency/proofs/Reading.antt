@@ -33,8 +33,8 @@ read-all n at ws j row read h l room =
     let b : length (take n (drop at ws)) ≡ n = length-take-le n (drop at ws) (omega (arith, length-drop at ws)) in
     ext-getD 0 (take n row) (take n (drop at ws)) (a ∙ sym b)
     (λ i k.
-      let m : i < n = omega arith in
-      getD-take n row i 0 m ∙ read .1 i (omega arith) m ∙ sym (getD-take n (drop at ws) i 0 m ∙ getD-drop at ws i 0))
+    let m : i < n = omega arith in
+    getD-take n row i 0 m ∙ read .1 i (omega arith) m ∙ sym (getD-take n (drop at ws) i 0 m ∙ getD-drop at ws i 0))
 
 -- one more word stored
 pub store-more : (rows row : List ℕ) (at j : ℕ) (X : List ℕ) → X ≡ paste rows at row j → at + j < length rows → j < length row →

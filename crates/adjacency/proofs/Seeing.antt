@@ -49,7 +49,8 @@ module _ (k n : ℕ) (rows : List ℕ) (signs : List Sign) (P : List ℕ) (g : �
           wings = sym (pair-no n P g f is k W l);
           twice = ap (λ t. t || c) (sym (twice-not n P g f is l));
           twin = ap (λ t. t || r) (sym (twin-not n P g f is k rows l));
-          like = ap (λ t. t || e) (sym (like-not n P g f is (keySign k signs) l)) }
+          like = ap (λ t. t || e) (sym (like-not n P g f is (keySign k signs) l));
+        }
 
     -- or was seen at f, at position b of cell q
     module _ (p a q b : ℕ) (ep : g / k ≡ p) (ea : g % k ≡ a) (eq : q ≡ f / k) (eb : b ≡ f % k) (l : f < n) where
@@ -59,14 +60,15 @@ module _ (k n : ℕ) (rows : List ℕ) (signs : List Sign) (P : List ℕ) (g : �
           Met k n rows signs P g W c r e X c′ r′ e′
       met-seen X c′ r′ e′ hX hc hr he =
           let places : (eqb (g % k) 0 && (eqb (f % k) 0 && eqb (getD rows (g / k * 8) 0) (getD rows (f / k * 8) 0)))
-                  ≡ (eqb a 0 && (eqb b 0 && eqb (getD rows (p * 8) 0) (getD rows (q * 8) 0))) = rw (ea, sym eb, ep, sym eq) refl in
+          ≡ (eqb a 0 && (eqb b 0 && eqb (getD rows (p * 8) 0) (getD rows (q * 8) 0))) = rw (ea, sym eb, ep, sym eq) refl in
           let signed : times (keySign k signs g) (keySign k signs f)
-                  ≡ times (times (alternating a) (getD signs p false)) (times (alternating b) (getD signs q false)) = rw (ea, sym eb, ep, sym eq) refl in
+          ≡ times (times (alternating a) (getD signs p false)) (times (alternating b) (getD signs q false)) = rw (ea, sym eb, ep, sym eq) refl in
           record {
             wings = hX ∙ ap₂ {C = List ℕ} (λ x y. set (set W g x) f y) eq (sym ep) ∙ sym (pair-yes n P g f is k W l);
             twice = hc ∙ ap (λ t. t || c) (sym (twice-at n P g f is l));
             twin = hr ∙ ap (λ t. t || r) (sym (twin-at n P g f is k rows l ∙ places));
-            like = he ∙ ap (λ t. t || e) (sym (like-at n P g f is (keySign k signs) l ∙ signed)) }
+            like = he ∙ ap (λ t. t || e) (sym (like-at n P g f is (keySign k signs) l ∙ signed));
+          }
 
   -- one more key paired
   pub pairing-more : (X Y : List ℕ) (c′ r′ e′ : Bool) → Pairing k n rows signs P g W X c r e → Met k n rows signs P g X c r e Y c′ r′ e′ →
@@ -76,7 +78,8 @@ module _ (k n : ℕ) (rows : List ℕ) (signs : List Sign) (P : List ℕ) (g : �
         wings = m .wings ∙ ap (pairedAt k n P g) (h .wings) ∙ ap (λ i. paired k n P i W) (sym (add-one g));
         twice = m .twice ∙ ap (λ t. seenTwice n P g || t) (h .twice) ∙ ap (λ i. anyBelow i (seenTwice n P)) (sym (add-one g));
         twin = m .twin ∙ ap (λ t. twinAt k n rows P g || t) (h .twin) ∙ ap (λ i. anyBelow i (twinAt k n rows P)) (sym (add-one g));
-        like = m .like ∙ ap (λ t. seenLike n P (keySign k signs) g || t) (h .like) ∙ ap (λ i. anyBelow i (seenLike n P (keySign k signs))) (sym (add-one g)) }
+        like = m .like ∙ ap (λ t. seenLike n P (keySign k signs) g || t) (h .like) ∙ ap (λ i. anyBelow i (seenLike n P (keySign k signs))) (sym (add-one g));
+      }
 
   pub pairing-none : Pairing k n rows signs P 0 W W false false false
   pairing-none = record { wings = refl; twice = refl; twin = refl; like = refl }

@@ -72,9 +72,9 @@ module _ (d : ℕ) (rows : List ℕ) (cs : List Cell) (P : List ℕ) (long : All
       let q = f / k in
       let less : q < p = before (decLt q p) (seen .0) ga fb in
       let same : rowAt cs q ≡ rowAt cs p =
-              rejoin (suc d) (rowAt cs q) (rowAt cs p) (all-at (Long k) cs long q hq) (all-at (Long k) cs long p hp)
-              (sym (heads q hq) ∙ sym h ∙ heads p hp)
-              (ap (λ a. without a (rowAt cs q)) (sym fb) ∙ sym (face-row f hf) ∙ seen .1 ∙ face-row g (r .1) ∙ ap (λ a. without a (rowAt cs p)) ga) in
+      rejoin (suc d) (rowAt cs q) (rowAt cs p) (all-at (Long k) cs long q hq) (all-at (Long k) cs long p hp)
+      (sym (heads q hq) ∙ sym h ∙ heads p hp)
+      (ap (λ a. without a (rowAt cs q)) (sym fb) ∙ sym (face-row f hf) ∙ seen .1 ∙ face-row g (r .1) ∙ ap (λ a. without a (rowAt cs p)) ga) in
       let w = rowAt cs p in
       omega (arith, few-of 1 cs e w, total-counts w cs, count-two (onRow w) cs q p less hp (same-rows (rowAt cs q) w same) (same-rows w w refl))
     where
@@ -98,8 +98,8 @@ module _ (d : ℕ) (rows : List ℕ) (cs : List Cell) (P : List ℕ) (long : All
       let less : f < g = key-less q p (r .2) in
       let is : getD P g 0 ≡ f = seen-only (facets cs) P small prev meet f g less (G .0) rows-same in
       let head : getD rows (g / k * 8) 0 ≡ getD rows (f / k * 8) 0 =
-              ap (λ i. getD rows (i * 8) 0) (cell-of-key p 0 k (omega arith)) ∙ heads p (r .3) ∙ ap (λ (v : Row). getD v 0 0) (sym same) ∙ sym (heads q hq)
-              ∙ ap (λ i. getD rows (i * 8) 0) (sym (cell-of-key q 0 k (omega arith))) in
+      ap (λ i. getD rows (i * 8) 0) (cell-of-key p 0 k (omega arith)) ∙ heads p (r .3) ∙ ap (λ (v : Row). getD v 0 0) (sym same) ∙ sym (heads q hq)
+      ∙ ap (λ i. getD rows (i * 8) 0) (sym (cell-of-key q 0 k (omega arith))) in
       absurd
       (below-false (twinAt k n rows P) n e g (G .0)
       (and-both _ _ (is-seen (facets cs) P small prev f g less (G .0) rows-same .0)

@@ -1,8 +1,8 @@
 // Rows 9 to 11, and wings, from the keys that were seen before: prev[g] is the last key before g with the
 // row of key g, or 65535. k keys belong to a cell.
+use matching::Place;
 use matching::earlier_equal;
 use matching::place_of;
-use matching::Place;
 use simplex::sign_words::product;
 ghost use mathlib.Core.Bool.{false, _||_, _&&_};
 ghost use mathlib.Core.List.{List};

@@ -92,8 +92,10 @@ cell-boundary d e row wings =
   where
     fs : List Cell
     fs = faces (e .cell .sign) (e .cell .row)
+
     many : length fs ≡ d + 1
     many = faces-length (e .cell .sign) (e .cell .row) ∙ row
+
     pick : ℕ → Cell → List Cell
     pick a f = cond (eqb (getD (e .wings) a empty) empty && filled (f .row)) (f ∷ []) []
 
@@ -122,7 +124,7 @@ module _ (d s : ℕ) (ws : List ℕ) (long : length ws ≡ tableLength d s) wher
   boundary-is =
       boundary-tabulated s (entryIn d ws)
       ∙ ap concat (tabulate-ext s _ (λ p. cellFaces d (entryIn d ws p)) (λ p l. cell-boundary d (entryIn d ws p) (row-long d (part (recordSize d) p ws) (record-of p l) ∙ sym (add-one d))
-        (length-drop (listSize d) (part (recordSize d) p ws) ∙ omega (arith, record-of p l))))
+      (length-drop (listSize d) (part (recordSize d) p ws) ∙ omega (arith, record-of p l))))
 
   face-words-long : (p a : ℕ) → p < s → a ≤ d → length (faceWords (entryIn d ws p) a) ≡ length (facesAt (entryIn d ws p) a) * (d + 1)
   face-words-long p a hp ha = go (onBoundary (entryIn d ws p) a) refl

@@ -38,8 +38,10 @@ module _ (nv : ℕ) (all : List Cell) (s : Solid nv all) (two : All (λ v. 2 ≤
     where
       count : othersWith p 0 w all + 1 ≡ total w (allFaces all)
       count = omega (arith, total-faceIn w all (has-filled w (rowAt all p) hf) (s .asc), faceIn-total w all, othersWith-pick p 0 w all hp, ap (λ m. othersWith m 0 w all) (zero-add p), ap one hf)
+
       far : Wing p 0 w all (neighbourFrom p 0 w all) → 1 ≤ othersWith p 0 w all
       far r = omega (arith, othersWith-ge p 0 (r .0) w all (r .1) (r .3), ap one (r .4))
+
       go : (t : Bool) → eqb (neighbourFrom p 0 w all) 65535 ≡ t → t ≡ loneIn (allFaces all) w
       go true e = sym (eq-eqb (total w (allFaces all)) 1 (omega (arith, count, neighbour-empty p 0 w all (omega arith) (eqb-true (neighbourFrom p 0 w all) 65535 e))))
       go false e = sym (ne-eqb (total w (allFaces all)) 1 (λ z. omega (arith, count, far (neighbour-is p 0 w all (eqb-false (neighbourFrom p 0 w all) 65535 e)))))
@@ -52,7 +54,7 @@ module _ (nv : ℕ) (all : List Cell) (s : Solid nv all) (two : All (λ v. 2 ≤
       (ap (keep (λ f. filled (f .row))) (empty-keep (λ w. neighbourFrom p 0 w all) (faces (c .sign) (c .row)))
       ∙ keep-all filled (keep (λ f. eqb (neighbourFrom p 0 (f .row) all) 65535) (faces (c .sign) (c .row))) (All-keep (λ w. filled w ≡ true) (λ f. eqb (neighbourFrom p 0 (f .row) all) 65535) (faces (c .sign) (c .row)) (faces-filled (c .sign) (c .row) (a .0)))
       ∙ keep-ext (λ w. hasFace w (c .row) ≡ true) (λ w. eqb (neighbourFrom p 0 w all) 65535) (loneIn (allFaces all)) (faces (c .sign) (c .row)) (faces-have (c .sign) (c .row) (a .0))
-        (λ w e. lone-eq p w (omega arith) (subst (λ v. hasFace w v ≡ true) (h 0 (omega arith) ∙ ap (rowAt all) (add-zero p)) e)))
+      (λ w e. lone-eq p w (omega arith) (subst (λ v. hasFace w v ≡ true) (h 0 (omega arith) ∙ ap (rowAt all) (add-zero p)) e)))
       (bd-from (suc p) cs (a .1) (omega arith) (λ n k. h (suc n) (omega arith) ∙ ap (rowAt all) (omega arith)))
       ∙ sym (keep-append (λ c. loneIn (allFaces all) (c .row)) (faces (c .sign) (c .row)) (allFaces cs))
 

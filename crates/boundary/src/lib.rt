@@ -4,13 +4,13 @@ ghost use lib.ListN.{length};
 ghost use Rattle.rules.specs.Numbers.{outcomeOf};
 ghost use Rattle.boundary.specs.Faces.{facesOutcome, facesBuffer};
 ghost use Rattle.boundary.specs.Written.{facesInput};
+use crate::writing::count_faces;
+use crate::writing::write_faces;
 use adjacency::sizes::table_words;
 use adjacency::sound::is_sound;
 use rules::limits::Shape;
 use rules::refusal::Answer;
 use rules::refusal::Refusal;
-use crate::writing::count_faces;
-use crate::writing::write_faces;
 
 mod faces_of;
 pub mod writing;

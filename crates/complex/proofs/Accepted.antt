@@ -79,6 +79,7 @@ sorted-below nv w b = from (sorted w) (sortBy-all itself (λ x. x < nv) w (to w 
     to : (w : Row) → Below nv w → Each (λ x. x < nv) w
     to [] b = tt
     to (x ∷ w) b = (b .0, to w (b .1))
+
     from : (w : Row) → Each (λ x. x < nv) w → Below nv w
     from [] b = tt
     from (x ∷ w) b = (b .0, from w (b .1))
@@ -89,25 +90,31 @@ long-filled n (x ∷ w) e = tt
 
 -- accepted cells are a solid
 pub accepted-solid : (l : Listed) → length (l .words) ≡ l .s * listSize (l .d) → acceptable l ≡ true → Solid (l .v) (solidOf l) × All (Long (suc (l .d))) (solidOf l)
-accepted-solid l e k =
-    (record {
-      rows = all-sorted (λ w. Long (suc (l .d)) w × Below (l .v) w) (Good (l .v)) cells
-          (λ w r. (long-filled (l .d) (sorted w) (sorted-length w ∙ r .0), sorted-below (l .v) w (r .1))) (All-both (Long (suc (l .d))) (Below (l .v)) cells long (all-below (l .v) cells (p .vertex)));
-      asc = all-sorted (λ w. repeats w ≡ false) Asc cells (λ w r. sorted-ascends w (once-each w r))
-          (each-row (λ w. repeats w ≡ false) (λ c. repeats (c .row) ≡ false) cells (λ c r. r) (none-of (λ c. repeats (c .row)) cells (p .twice)));
-      distinct = few-of 1 (solidOf l) (p .cell);
-      meet = few-of 2 (facets (solidOf l)) (p .crowded);
-      paired = λ w n. paired w n }
-    , all-sorted (Long (suc (l .d))) (Long (suc (l .d))) cells (λ w r. sorted-length w ∙ r) long)
+accepted-solid l e k = (
+  record {
+    rows = all-sorted (λ w. Long (suc (l .d)) w × Below (l .v) w) (Good (l .v)) cells
+        (λ w r. (long-filled (l .d) (sorted w) (sorted-length w ∙ r .0), sorted-below (l .v) w (r .1))) (All-both (Long (suc (l .d))) (Below (l .v)) cells long (all-below (l .v) cells (p .vertex)));
+    asc = all-sorted (λ w. repeats w ≡ false) Asc cells (λ w r. sorted-ascends w (once-each w r))
+        (each-row (λ w. repeats w ≡ false) (λ c. repeats (c .row) ≡ false) cells (λ c r. r) (none-of (λ c. repeats (c .row)) cells (p .twice)));
+    distinct = few-of 1 (solidOf l) (p .cell);
+    meet = few-of 2 (facets (solidOf l)) (p .crowded);
+    paired = λ w n. paired w n;
+  },
+  all-sorted (Long (suc (l .d))) (Long (suc (l .d))) cells (λ w r. sorted-length w ∙ r) long,
+)
   where
     p : Passed l
     p = passed l k
+
     cells : List Cell
     cells = listedCells l
+
     long : All (Long (suc (l .d))) cells
     long = listed-long (l .d) (l .s) (l .words) e
+
     F : List Cell
     F = facets (solidOf l)
+
     paired : (w : Row) → loneIn F w ≡ false → sumChain (plusOn w) true F ≡ sumChain (plusOn w) false F
     paired w n =
         let not-one : total w F ≢ 1 = eqb-false (total w F) 1 n in
@@ -134,6 +141,7 @@ sign-words d cs long =
     small : (s : Sign) → not (leb (signWord s) 1) ≡ false
     small true = refl
     small false = refl
+
     go : (n : ℕ) (f : ℕ → Sign) → anyOf (λ x. not (leb x 1)) (tabulate n (λ p. signWord (f p))) ≡ false
     go zero f = refl
     go (suc n) f = rw (small (f 0)) (go n (λ p. f (suc p)))
@@ -148,15 +156,19 @@ solid-accepted d v cs solid long =
       twice = ap vertexTwice (cells-back d cs long) ∙ of-none (λ c. repeats (c .row)) cs (row-each Asc (λ c. repeats (c .row) ≡ false) cs (λ c a. asc-once (c .row) a) (solid .asc));
       cell = ap cellTwice back ∙ of-few 1 cs (solid .distinct) cs;
       crowded = ap (λ xs. crowdedFace (facets xs)) back ∙ of-few 2 F (solid .meet) F;
-      equal = ap (λ xs. equalSigns (facets xs)) back ∙ once-signs F signs F })
+      equal = ap (λ xs. equalSigns (facets xs)) back ∙ once-signs F signs F;
+    })
   where
     back : solidOf (listOf d v cs) ≡ cs
     back = solid-back d v cs solid long
+
     F : List Cell
     F = facets cs
+
     case : (w : Row) (t : Bool) → loneIn F w ≡ t → (sumChain (plusOn w) true F ≤ 1) × (sumChain (plusOn w) false F ≤ 1)
     case w true e = omega (arith, plus-minus w F, eqb-true (total w F) 1 e)
     case w false e = omega (arith, plus-minus w F, solid .meet w, solid .paired w e)
+
     signs : (s : Sign) (w : Row) → sumChain (plusOn w) s F ≤ 1
     signs true w = case w (loneIn F w) refl .0
     signs false w = case w (loneIn F w) refl .1

@@ -51,8 +51,10 @@ module _ (nv d : ℕ) (cs : List Cell) (solid : Solid nv cs) (long : All (Long (
     where
       at-p : one (sameRow (rowAt cs p) (rowAt cs p)) ≡ 1
       at-p = ap one (sameRow-refl (rowAt cs p))
+
       at-q : one (sameRow (rowAt cs q) (rowAt cs p)) ≡ 1
       at-q = ap (λ v. one (sameRow v (rowAt cs p))) (sym e) ∙ at-p
+
       go : Dec (p < q) → ⊥
       go (yes l) = omega (arith, sumRows-two (hits (rowAt cs p)) p q cs l hq, solid .distinct (rowAt cs p), at-p, at-q)
       go (no l) = omega (arith, sumRows-two (hits (rowAt cs p)) q p cs (omega arith) hp, solid .distinct (rowAt cs p), at-p, at-q)
@@ -79,6 +81,7 @@ module _ (nv d : ℕ) (cs : List Cell) (solid : Solid nv cs) (long : All (Long (
             rows-apart q p hq hp (λ z. pq (sym z))
             (two-faces (rowAt cs q) (rowAt cs p) m b (r .0) a (all-at Asc cs (solid .asc) q hq) (all-at Asc cs (solid .asc) p hp) l
             (omega (arith, row-length q hq)) (r .1) (omega (arith, row-length p hp)) (sym (r .2)) f)
+
         go : Wing q 0 (without m (rowAt cs q)) cs (wing q m) → ⊥
         go r = two (has-is (without m (rowAt cs q)) (rowAt cs p) (subst (λ k. hasFace (without m (rowAt cs q)) (rowAt cs k) ≡ true) (omega (arith, r .2)) (r .4)))
 
@@ -87,7 +90,7 @@ module _ (nv d : ℕ) (cs : List Cell) (solid : Solid nv cs) (long : All (Long (
         let b = r .0 in
         let hb : b ≤ d = omega (arith, r .1, row-length q hq) in
         let e : wing q b ≡ p = neighbour-at q p (without b (rowAt cs q)) hq hp (λ z. pq (sym z)) (has-face b (rowAt cs q) (r .1) (omega (arith, row-length q hq)))
-            (subst (λ w. hasFace w (rowAt cs p) ≡ true) (sym (r .2)) (has-face a (rowAt cs p) (omega (arith, row-length p hp)) (omega (arith, row-length p hp)))) in
+        (subst (λ w. hasFace w (rowAt cs p) ≡ true) (sym (r .2)) (has-face a (rowAt cs p) (omega (arith, row-length p hp)) (omega (arith, row-length p hp)))) in
         (b, hq, pq, hb, sym (r .2), e, (λ m l. only p a q b m hp ha hq pq hb (r .2) l))
 
     pub wings-symmetric : (p a : ℕ) → p < length cs → a ≤ d → (wing p a ≡ empty → ⊥) → Across p a (wing p a)

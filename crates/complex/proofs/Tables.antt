@@ -70,6 +70,7 @@ neighbour-long n p w cs long h = go (eqb (neighbour p w cs) empty) refl
     not-one r =
         let f = has-is w (rowAt cs (r .0)) (r .4) in
         omega (arith, without-length (f .0) (rowAt cs (r .0)) (f .1), ap length (f .2), all-at (Long n) cs long (r .0) (r .1))
+
     go : (t : Bool) → eqb (neighbour p w cs) empty ≡ t → neighbour p w cs ≡ empty
     go true e = eqb-true (neighbour p w cs) empty e
     go false e = absurd (not-one (neighbour-is p 0 w cs (eqb-false (neighbour p w cs) empty e)))
@@ -84,6 +85,7 @@ table-wing n cs long p a = go (decLt p (length cs))
   where
     row : Row
     row = rowAt cs p
+
     at : p < length cs → Dec (a < length row) → getD (tabulate (length row) (λ j. neighbour p (without j row) cs)) a empty ≡ neighbour p (without a row) cs
     at hp (yes l) = tabulate-at (length row) (λ j. neighbour p (without j row) cs) a empty l
     at hp (no l) =
@@ -91,6 +93,7 @@ table-wing n cs long p a = go (decLt p (length cs))
         let k : length row ≤ a = omega arith in
         List·getD-eq-default (tabulate (length row) f) empty (rw (tabulate-length (length row) f) k)
         ∙ sym (ap (λ w. neighbour p w cs) (without-none a row k) ∙ neighbour-long n p row cs long (omega (arith, all-at (Long n) cs long p hp)))
+
     go : Dec (p < length cs) → wingAt (tableOf cs) p a ≡ neighbour p (without a row) cs
     go (yes hp) =
         ap (λ (e : Entry). getD (e .wings) a empty) (table-at cs p hp) ∙ ap (λ ws. getD ws a empty) (wings-tabulated cs p (cellAt cs p)) ∙ at hp (decLt a (length row))

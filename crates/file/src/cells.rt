@@ -1,7 +1,7 @@
 // The cells of a file, and rows 6 to 8 of the refusal table.
 use crate::numbers;
-use words::copy;
 use simplex::sign_words::sign_word;
+use words::copy;
 use words::little;
 ghost use mathlib.Core.Path.{_≡_};
 ghost use mathlib.Core.Bool.{not, _||_};

@@ -1,7 +1,7 @@
 // The call list: it takes a table and its points and writes the key's text.
+use adjacency::sound::is_sound;
 use listing::key::key_size;
 use listing::key::put_key;
-use adjacency::sound::is_sound;
 use points::range::all_in_range;
 use rules::limits::Shape;
 use rules::refusal::Answer;

@@ -65,8 +65,8 @@ module _ (b : List ℕ) where
         let floats = ap (λ (y : Header). y .v * y .n) (by .0) in
         let numbers = not-false (numbersOk b) (by .1 .1 .0) in
         let shape =
-            and-parts (shapeOk maxSource (dimensionOf b) (vertexCountOf b) (cellCountOf b))
-            ((axesOk (axesOf b) && leb (suc (dimensionOf b)) (axesOf b)) && (stepsOk (stepsOf b) && within 1 3 (kindOf b))) numbers .0 in
+        and-parts (shapeOk maxSource (dimensionOf b) (vertexCountOf b) (cellCountOf b))
+        ((axesOk (axesOf b) && leb (suc (dimensionOf b)) (axesOf b)) && (stepsOk (stepsOf b) && within 1 3 (kindOf b))) numbers .0 in
         let low = leb-true (dimensionOf b) maxSource (and-parts (leb (dimensionOf b) maxSource) (sizesOk (vertexCountOf b) (cellCountOf b)) shape .0) in
         let rooms = rooms-parts b wordRoom floatRoom (by .1 .1 .1 .1 .1 .1 .1 .1 .1 .0) in
         record {
@@ -74,7 +74,8 @@ module _ (b : List ℕ) where
           words = words ∙ sym (words-count b (right-length b (by .1 .1 .1 .0)));
           floats = floats ∙ sym (points-length b);
           few-words = omega (arith, words, rooms .0);
-          few-floats = omega (arith, floats, rooms .1) }
+          few-floats = omega (arith, floats, rooms .1);
+        }
 
     pub cells-front : (out w : List ℕ) → w ≡ readCells (readIn b) out → (x .s * (x .d + 2) ≤ length w) × (take (x .s * (x .d + 2)) w ≡ fileWords b)
     unfolding readCells

@@ -57,8 +57,14 @@ moveIn b x = record { n = x .n; v = x .v; h = x .h; step = x .step; points = fil
 abbrev pub listIn : List ℕ → Header → ListInput
 listIn b x =
     record {
-      d = suc (x .d); n = x .n; v = sweptVertices (x .v) (x .h); s = sweptCells (x .d) (x .s) (x .h);
-      table = sweptWords (sweepIn b x); points = movedLevels (moveIn b x); room = byteRoom }
+      d = suc (x .d);
+      n = x .n;
+      v = sweptVertices (x .v) (x .h);
+      s = sweptCells (x .d) (x .s) (x .h);
+      table = sweptWords (sweepIn b x);
+      points = movedLevels (moveIn b x);
+      room = byteRoom;
+    }
 
 -- the calls after read, one after the other
 abbrev pub callsOn : List ℕ → Header → Outcome (List ℕ)

@@ -4,15 +4,15 @@ ghost use lib.ListN.{length};
 ghost use Rattle.rules.specs.Numbers.{outcomeOf};
 ghost use Rattle.marking.specs.Key.{byteRoom, keyOutcome};
 ghost use Rattle.marking.specs.Stages.{counted, left, movedKey, sweptKey, wingedKey};
-use wing::wing;
-use read::ReadAnswer;
-use read::read;
 use list::list;
 use motion::move_points;
 use points::step::Step;
+use read::ReadAnswer;
+use read::read;
 use rules::refusal::Answer;
 use rules::refusal::Refusal;
 use sweep::sweep;
+use wing::wing;
 
 // The points of all levels, then the key. d and s are the swept table's, v and h the solid's and its steps.
 fn moved_key(
@@ -104,7 +104,17 @@ pub fn page_key(input: &[u8], page: &mut [u8]) -> Answer
             let step = x.step;
             let words = s * (d + 2);
             let floats = v * n;
-            winged_key(d, n, v, s, h, step, &cells[..words], &points[..floats], page)
+            winged_key(
+                d,
+                n,
+                v,
+                s,
+                h,
+                step,
+                &cells[..words],
+                &points[..floats],
+                page,
+            )
         }
         ReadAnswer::Refused(r) => Answer::Refused(r),
     }

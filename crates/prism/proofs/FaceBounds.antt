@@ -35,6 +35,7 @@ cell-count g lo hi b (x ∷ w) n =
     one-cell c l u =
         sumFaces-countFaces g c (raised lo l ++ raised hi u) ∙ countFaces-append g (raised lo l) (raised hi u)
         ∙ ap₂ (λ a b. a + b) (countFaces-map (λ y. g (y ++ raised hi u)) (λ n. n + lo) l) (countFaces-map (λ y. g (raised lo l ++ y)) (λ n. n + hi) u)
+
     step : overPrism (sumFaces (λ c y. g y)) lo hi b (x ∷ w) ≡ sumPrism (λ c l u. countFaces (λ y. raisedRow g lo hi y u) l + countFaces (λ y. raisedRow g lo hi l y) u) (dimensionSign (x ∷ w)) b (x ∷ w)
     step = ap (λ (f : OnPairs). sumPrism f (dimensionSign (x ∷ w)) b (x ∷ w)) (fun-ext (λ c. fun-ext (λ l. fun-ext (λ u. one-cell c l u))))
 
@@ -65,13 +66,19 @@ flatOn nv w v = one (sameRow [] (upperIn nv w) && sameRow v (lowerIn nv w))
 
 countInner-bound : (nv i : ℕ) (w v : Row) → Below nv v → countInner (raisedRow (hits w) (i * nv) (suc i * nv)) v ≤ cond (eqb (levelIn nv w) i) (innerOn nv w v) 0
 countInner-bound nv i w v bd =
-    omega (arith, countInner-le nv (raisedRow (hits w) (i * nv) (suc i * nv)) (λ l u. cond (eqb (levelIn nv w) i) (hitsPair (lowerIn nv w) (upperIn nv w) l u) 0) v bd (λ l u bl bu n. decode nv i w l u bl bu n)
-    , cond-countInner (eqb (levelIn nv w) i) (lowerIn nv w) (upperIn nv w) v)
+    omega (
+      arith,
+      countInner-le nv (raisedRow (hits w) (i * nv) (suc i * nv)) (λ l u. cond (eqb (levelIn nv w) i) (hitsPair (lowerIn nv w) (upperIn nv w) l u) 0) v bd (λ l u bl bu n. decode nv i w l u bl bu n),
+      cond-countInner (eqb (levelIn nv w) i) (lowerIn nv w) (upperIn nv w) v,
+    )
 
 pub countPrism-bound : (nv i : ℕ) (w v : Row) → Below nv v → countPrism (raisedRow (hits w) (i * nv) (suc i * nv)) v ≤ cond (eqb (levelIn nv w) i) (sideOn nv w v) 0
 countPrism-bound nv i w v bd =
-    omega (arith, countPrism-le nv (raisedRow (hits w) (i * nv) (suc i * nv)) (λ l u. cond (eqb (levelIn nv w) i) (hitsPair (lowerIn nv w) (upperIn nv w) l u) 0) v bd (λ l u bl bu n. decode nv i w l u bl bu n)
-    , cond-countPrism (eqb (levelIn nv w) i) (lowerIn nv w) (upperIn nv w) v)
+    omega (
+      arith,
+      countPrism-le nv (raisedRow (hits w) (i * nv) (suc i * nv)) (λ l u. cond (eqb (levelIn nv w) i) (hitsPair (lowerIn nv w) (upperIn nv w) l u) 0) v bd (λ l u bl bu n. decode nv i w l u bl bu n),
+      cond-countPrism (eqb (levelIn nv w) i) (lowerIn nv w) (upperIn nv w) v,
+    )
 
 pub flat-bound : (nv i : ℕ) (w v : Row) → Good nv v → hits w (raised (i * nv) v) ≤ cond (eqb (levelIn nv w) i) (flatOn nv w v) 0
 flat-bound nv i w v g = omega (arith, ap (hits w) (append-nil (raised (i * nv) v)), decode nv i w v [] (g .1) tt (g .0))
@@ -83,11 +90,15 @@ copiesOn nv i w cs = sumRows (λ v. hits w (raised (i * nv) v)) cs
 cell-bound : (nv i : ℕ) (w : Row) (c : Bool) (v : Row) → Good nv v →
     overPrism (sumFaces (λ c y. hits w y)) (i * nv) (suc i * nv) c v
     ≤ cond (eqb (levelIn nv w) i) (innerOn nv w v) 0 + cond (eqb (levelIn nv w) i) (innerOn nv w v) 0 + cond (eqb (levelIn nv w) i) (countFaces (sideOn nv w) v) 0
-      + hits w (raised (suc i * nv) v) + hits w (raised (i * nv) v)
+    + hits w (raised (suc i * nv) v) + hits w (raised (i * nv) v)
 cell-bound nv i w c v g =
-    omega (arith, cell-count (hits w) (i * nv) (suc i * nv) c v (g .0), countInner-bound nv i w v (g .1)
-    , countFaces-le nv (countPrism (raisedRow (hits w) (i * nv) (suc i * nv))) (λ y. cond (eqb (levelIn nv w) i) (sideOn nv w y) 0) v (g .1) (λ y b. countPrism-bound nv i w y b)
-    , countFaces-cond (eqb (levelIn nv w) i) (sideOn nv w) v)
+    omega (
+      arith,
+      cell-count (hits w) (i * nv) (suc i * nv) c v (g .0),
+      countInner-bound nv i w v (g .1),
+      countFaces-le nv (countPrism (raisedRow (hits w) (i * nv) (suc i * nv))) (λ y. cond (eqb (levelIn nv w) i) (sideOn nv w y) 0) v (g .1) (λ y b. countPrism-bound nv i w y b),
+      countFaces-cond (eqb (levelIn nv w) i) (sideOn nv w) v,
+    )
 
 level-bound : (nv i : ℕ) (w : Row) (cs : List Cell) → All (Good nv) cs →
     total w (allFaces (level nv i cs))
@@ -98,10 +109,20 @@ level-bound nv i w cs a =
     let f2 : Row → ℕ = λ v. cond t (countFaces (sideOn nv w) v) 0 in
     let f3 : Row → ℕ = λ v. hits w (raised (suc i * nv) v) in
     let f4 : Row → ℕ = λ v. hits w (raised (i * nv) v) in
-    omega (arith, sumChain-sumRows (hits w) true (allFaces (level nv i cs)), sumChain-allFaces (λ c y. hits w y) true (level nv i cs), sumChain-level (sumFaces (λ c y. hits w y)) nv i true cs
-    , sumChain-le (Good nv) (overPrism (sumFaces (λ c y. hits w y)) (i * nv) (suc i * nv)) (λ v. f1 v + f1 v + f2 v + f3 v + f4 v) true cs a (λ c v g. cell-bound nv i w c v g)
-    , sumRows-add (λ v. f1 v + f1 v + f2 v + f3 v) f4 cs, sumRows-add (λ v. f1 v + f1 v + f2 v) f3 cs, sumRows-add (λ v. f1 v + f1 v) f2 cs, sumRows-add f1 f1 cs
-    , sumRows-cond t (innerOn nv w) cs, sumRows-cond t (countFaces (sideOn nv w)) cs, cond3 t (sumRows (innerOn nv w) cs) (sumRows (countFaces (sideOn nv w)) cs))
+    omega (
+      arith,
+      sumChain-sumRows (hits w) true (allFaces (level nv i cs)),
+      sumChain-allFaces (λ c y. hits w y) true (level nv i cs),
+      sumChain-level (sumFaces (λ c y. hits w y)) nv i true cs,
+      sumChain-le (Good nv) (overPrism (sumFaces (λ c y. hits w y)) (i * nv) (suc i * nv)) (λ v. f1 v + f1 v + f2 v + f3 v + f4 v) true cs a (λ c v g. cell-bound nv i w c v g),
+      sumRows-add (λ v. f1 v + f1 v + f2 v + f3 v) f4 cs,
+      sumRows-add (λ v. f1 v + f1 v + f2 v) f3 cs,
+      sumRows-add (λ v. f1 v + f1 v) f2 cs,
+      sumRows-add f1 f1 cs,
+      sumRows-cond t (innerOn nv w) cs,
+      sumRows-cond t (countFaces (sideOn nv w)) cs,
+      cond3 t (sumRows (innerOn nv w) cs) (sumRows (countFaces (sideOn nv w)) cs),
+    )
   where
     cond3 : (t : Bool) (m n : ℕ) → cond t (m + m + n) 0 ≡ cond t m 0 + cond t m 0 + cond t n 0
     cond3 true m n = refl
@@ -109,8 +130,11 @@ level-bound nv i w cs a =
 
 pub copies-bound : (nv i : ℕ) (w : Row) (cs : List Cell) → All (Good nv) cs → copiesOn nv i w cs ≤ cond (eqb (levelIn nv w) i) (sumRows (flatOn nv w) cs) 0
 copies-bound nv i w cs a =
-    omega (arith, sumRows-le (Good nv) (λ v. hits w (raised (i * nv) v)) (λ v. cond (eqb (levelIn nv w) i) (flatOn nv w v) 0) cs a (λ v g. flat-bound nv i w v g)
-    , sumRows-cond (eqb (levelIn nv w) i) (flatOn nv w) cs)
+    omega (
+      arith,
+      sumRows-le (Good nv) (λ v. hits w (raised (i * nv) v)) (λ v. cond (eqb (levelIn nv w) i) (flatOn nv w v) 0) cs a (λ v g. flat-bound nv i w v g),
+      sumRows-cond (eqb (levelIn nv w) i) (flatOn nv w) cs,
+    )
 
 -- the sum over h levels, of what stands at level j
 abbrev pub acrossLevels : ℕ → ℕ → ℕ → ℕ → ℕ
@@ -121,5 +145,12 @@ pub sweep-bound : (nv h : ℕ) (w : Row) (cs : List Cell) → All (Good nv) cs �
     total w (allFaces (sweepOf nv h cs)) ≤ acrossLevels (levelIn nv w) (sumRows (innerOn nv w) cs + sumRows (innerOn nv w) cs + sumRows (countFaces (sideOn nv w)) cs) (sumRows (flatOn nv w) cs) h
 sweep-bound nv zero w cs a = omega arith
 sweep-bound nv (suc h) w cs a =
-    omega (arith, sweep-bound nv h w cs a, level-bound nv h w cs a, copies-bound nv h w cs a, copies-bound nv (suc h) w cs a
-    , ap (sumRows (hits w)) (allFaces-append (sweepOf nv h cs) (level nv h cs)), sumRows-append (hits w) (allFaces (sweepOf nv h cs)) (allFaces (level nv h cs)))
+    omega (
+      arith,
+      sweep-bound nv h w cs a,
+      level-bound nv h w cs a,
+      copies-bound nv h w cs a,
+      copies-bound nv (suc h) w cs a,
+      ap (sumRows (hits w)) (allFaces-append (sweepOf nv h cs) (level nv h cs)),
+      sumRows-append (hits w) (allFaces (sweepOf nv h cs)) (allFaces (level nv h cs)),
+    )

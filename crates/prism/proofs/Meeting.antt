@@ -214,16 +214,22 @@ module _ (nv d h : ℕ) (cs : List Cell) (s : Solid nv cs) (ln : All (Long (suc 
     where
       v : Row
       v = rowAt cs p
+
       g : Good nv (rowAt cs p)
       g = all-at (Good nv) cs (s .rows) p hp
+
       w : Row
       w = raised (i * nv) (rowAt cs p)
+
       m : ℕ
       m = sumRows (innerOn nv w) cs + sumRows (innerOn nv w) cs + sumRows (countFaces (sideOn nv w)) cs
+
       lv : levelIn nv w ≡ i
       lv = ap (levelIn nv) (sym (append-nil w)) ∙ cell-lev nv i (rowAt cs p) [] (g .1) (g .0)
+
       hi0 : upperIn nv w ≡ []
       hi0 = ap (upperIn nv) (sym (append-nil w)) ∙ cell-hi nv i (rowAt cs p) [] (g .1) tt (g .0)
+
       go : (i ≡ 0) ⊎ (i ≡ h) → acrossLevels i m (sumRows (flatOn nv w) cs) h ≤ m + sumRows (flatOn nv w) cs
       go (inl z) = omega (arith, ap (λ j. acrossLevels j m (sumRows (flatOn nv w) cs) h) z, acrossLevels-zero m (sumRows (flatOn nv w) cs) h)
       go (inr z) = omega (arith, ap (λ j. acrossLevels j m (sumRows (flatOn nv w) cs) h) z, acrossLevels-top m (sumRows (flatOn nv w) cs) h)
@@ -239,14 +245,19 @@ module _ (nv d h : ℕ) (cs : List Cell) (s : Solid nv cs) (ln : All (Long (suc 
     where
       w : Row
       w = prismRow (i * nv) (suc i * nv) l u
+
       lo0 : lowerIn nv w ≡ drop l u
       lo0 = cell-lo nv i (drop l u) (take (suc l) u) (below-drop nv l u bu) (below-take nv (suc l) u bu) (drop-non l u hl)
+
       hi0 : upperIn nv w ≡ take (suc l) u
       hi0 = cell-hi nv i (drop l u) (take (suc l) u) (below-drop nv l u bu) (below-take nv (suc l) u bu) (drop-non l u hl)
+
       dw : doubled (lowerIn nv w) (upperIn nv w) ≡ true
       dw = ap₂ doubled lo0 hi0 ∙ doubled-cell l u hl
+
       jw : upperIn nv w ++ rest (lowerIn nv w) ≡ u
       jw = ap₂ {C = Row} (λ a b. b ++ rest a) lo0 hi0 ∙ join-cell l u hl
+
       go : Kind cs (lowerIn nv w) (upperIn nv w) → total w (allFaces T) ≤ 1
       go (isFlat e i k f) = absurd (false≢true (sym (ap (doubled (lowerIn nv w)) e) ∙ dw))
       go (isSide e i k f) =

@@ -47,8 +47,12 @@ allFaces-below nv (c ∷ cs) a = All-append (Below nv) (faces (c .sign) (c .row)
 
 overPrism-bound : (nv i : ℕ) (w : Row) (c : Bool) (y : Row) → Below nv y → overPrism (plusOn w) (i * nv) (suc i * nv) c y ≤ sideOn nv w y
 overPrism-bound nv i w c y b =
-    omega (arith, sumPrism-le-countPrism (raisedPair (plusOn w) (i * nv) (suc i * nv)) (raisedRow (hits w) (i * nv) (suc i * nv)) (dimensionSign y) c y (λ c l u. ind-le w c (raised (i * nv) l ++ raised (suc i * nv) u))
-    , countPrism-bound nv i w y b, go (eqb (levelIn nv w) i) (sideOn nv w y))
+    omega (
+      arith,
+      sumPrism-le-countPrism (raisedPair (plusOn w) (i * nv) (suc i * nv)) (raisedRow (hits w) (i * nv) (suc i * nv)) (dimensionSign y) c y (λ c l u. ind-le w c (raised (i * nv) l ++ raised (suc i * nv) u)),
+      countPrism-bound nv i w y b,
+      go (eqb (levelIn nv w) i) (sideOn nv w y),
+    )
   where
     go : (t : Bool) (n : ℕ) → cond t n 0 ≤ n
     go true n = omega arith
@@ -58,8 +62,13 @@ overPrism-bound nv i w c y b =
 sweep-none : (nv h : ℕ) (w : Row) (b : Bool) (F : List Cell) → All (Below nv) F → sumRows (sideOn nv w) F ≡ 0 → sumChain (plusOn w) b (sweepOf nv h F) ≡ 0
 sweep-none nv zero w b F a e = refl
 sweep-none nv (suc h) w b F a e =
-    omega (arith, sumChain-append (plusOn w) b (sweepOf nv h F) (level nv h F), sweep-none nv h w b F a e, sumChain-level (plusOn w) nv h b F
-    , sumChain-le (Below nv) (overPrism (plusOn w) (h * nv) (suc h * nv)) (sideOn nv w) b F a (λ c y q. overPrism-bound nv h w c y q))
+    omega (
+      arith,
+      sumChain-append (plusOn w) b (sweepOf nv h F) (level nv h F),
+      sweep-none nv h w b F a e,
+      sumChain-level (plusOn w) nv h b F,
+      sumChain-le (Below nv) (overPrism (plusOn w) (h * nv) (suc h * nv)) (sideOn nv w) b F a (λ c y q. overPrism-bound nv h w c y q),
+    )
 
 -- a functional that is 0 off the row r
 sumChain-off : (nv : ℕ) (r : Row) (f : Functional) (b : Bool) (F : List Cell) → All (Below nv) F → ((c : Bool) (y : Row) → Below nv y → f c y ≤ hits r y) →
@@ -83,8 +92,17 @@ sweep-bal nv zero w F a e = refl
 sweep-bal nv (suc h) w F a e =
     let r : Row = upperIn nv w ++ rest (lowerIn nv w) in
     let f : Functional = overPrism (plusOn w) (h * nv) (suc h * nv) in
-    omega (arith, sumChain-append (plusOn w) true (sweepOf nv h F) (level nv h F), sumChain-append (plusOn w) false (sweepOf nv h F) (level nv h F), sweep-bal nv h w F a e
-    , sumChain-level (plusOn w) nv h true F, sumChain-level (plusOn w) nv h false F, sumChain-off nv r f true F a (off h), sumChain-off nv r f false F a (off h), on-bal f r F e)
+    omega (
+      arith,
+      sumChain-append (plusOn w) true (sweepOf nv h F) (level nv h F),
+      sumChain-append (plusOn w) false (sweepOf nv h F) (level nv h F),
+      sweep-bal nv h w F a e,
+      sumChain-level (plusOn w) nv h true F,
+      sumChain-level (plusOn w) nv h false F,
+      sumChain-off nv r f true F a (off h),
+      sumChain-off nv r f false F a (off h),
+      on-bal f r F e,
+    )
   where
     off : (h : ℕ) (c : Bool) (y : Row) → Below nv y → overPrism (plusOn w) (h * nv) (suc h * nv) c y ≤ hits (upperIn nv w ++ rest (lowerIn nv w)) y
     off h c y q = omega (arith, overPrism-bound nv h w c y q, one-and (doubled (lowerIn nv w) (upperIn nv w)) (sameRow y (upperIn nv w ++ rest (lowerIn nv w))))
@@ -129,19 +147,28 @@ module _ (nv : ℕ) (cs : List Cell) (s : Solid nv cs) where
     where
       m : ℕ
       m = sumRows (innerOn nv w) cs + sumRows (innerOn nv w) cs + sumRows (countFaces (sideOn nv w)) cs
+
       go-flat : sideCount cs (lowerIn nv w) (upperIn nv w) ≡ 0 → innerCount cs (lowerIn nv w) (upperIn nv w) ≡ 0 → flatCount cs (lowerIn nv w) (upperIn nv w) ≤ 1 → Dec (levelIn nv w ≡ h) → Dec (levelIn nv w ≡ 0) →
           sumChain (plusOn w) true (allFaces (sweepOf nv h cs)) ≡ sumChain (plusOn w) false (allFaces (sweepOf nv h cs))
       go-flat k i f (yes e) _ = few h w n (omega (arith, bound h w, ap (λ j. acrossLevels j m (sumRows (flatOn nv w) cs) h) e, acrossLevels-top m (sumRows (flatOn nv w) cs) h))
       go-flat k i f (no e) (yes z) = few h w n (omega (arith, bound h w, ap (λ j. acrossLevels j m (sumRows (flatOn nv w) cs) h) z, acrossLevels-zero m (sumRows (flatOn nv w) cs) h))
       go-flat k i f (no e) (no z) = bal h w (omega (arith, off-level h w true e, off-level h w false e, off-level 0 w true z, off-level 0 w false z, no-side h w true k, no-side h w false k))
+
       go-side : sideCount cs (lowerIn nv w) (upperIn nv w) ≡ total (upperIn nv w ++ rest (lowerIn nv w)) (facets cs) → doubled (lowerIn nv w) (upperIn nv w) ≡ true → innerCount cs (lowerIn nv w) (upperIn nv w) ≡ 0 → flatCount cs (lowerIn nv w) (upperIn nv w) ≡ 0 →
           (t : Bool) → loneIn (facets cs) (upperIn nv w ++ rest (lowerIn nv w)) ≡ t →
           sumChain (plusOn w) true (allFaces (sweepOf nv h cs)) ≡ sumChain (plusOn w) false (allFaces (sweepOf nv h cs))
       go-side k y i f true e =
           few h w n (omega (arith, bound h w, acrossLevels-le (levelIn nv w) m (sumRows (flatOn nv w) cs) h, eqb-true (total (upperIn nv w ++ rest (lowerIn nv w)) (facets cs)) 1 e))
       go-side k y i f false e =
-          bal h w (omega (arith, no-copy h w true f, no-copy h w false f, no-copy 0 w true f, no-copy 0 w false f
-          , sweep-bal nv h w (allFaces cs) (allFaces-below nv cs (s .rows)) (whole (upperIn nv w ++ rest (lowerIn nv w)) (doubled-filled (lowerIn nv w) (upperIn nv w) y) (s .paired (upperIn nv w ++ rest (lowerIn nv w)) e))))
+          bal h w (omega (
+            arith,
+            no-copy h w true f,
+            no-copy h w false f,
+            no-copy 0 w true f,
+            no-copy 0 w false f,
+            sweep-bal nv h w (allFaces cs) (allFaces-below nv cs (s .rows)) (whole (upperIn nv w ++ rest (lowerIn nv w)) (doubled-filled (lowerIn nv w) (upperIn nv w) y) (s .paired (upperIn nv w ++ rest (lowerIn nv w)) e)),
+          ))
+
       go : Kind cs (lowerIn nv w) (upperIn nv w) → sumChain (plusOn w) true (allFaces (sweepOf nv h cs)) ≡ sumChain (plusOn w) false (allFaces (sweepOf nv h cs))
       go (isFlat e i k f) = go-flat k i f (ℕ-discrete (levelIn nv w) h) (ℕ-discrete (levelIn nv w) 0)
       go (isSide e i k f) = go-side k e i f (loneIn (facets cs) (upperIn nv w ++ rest (lowerIn nv w))) refl

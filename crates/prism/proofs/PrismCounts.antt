@@ -40,8 +40,11 @@ pub countPrism-le : (nv : ℕ) (f g : Row → Row → ℕ) (v : Row) → Below n
     ((l u : Row) → Below nv l → Below nv u → Filled l → f l u ≤ g l u) → countPrism f v ≤ countPrism g v
 countPrism-le nv f g [] bd h = omega arith
 countPrism-le nv f g (x ∷ w) bd h =
-    omega (arith, h (x ∷ w) (x ∷ []) bd (bd .0, tt) tt
-    , countPrism-le nv (λ l u. f l (x ∷ u)) (λ l u. g l (x ∷ u)) w (bd .1) (λ l u bl bu n. h l (x ∷ u) bl (bd .0, bu) n))
+    omega (
+      arith,
+      h (x ∷ w) (x ∷ []) bd (bd .0, tt) tt,
+      countPrism-le nv (λ l u. f l (x ∷ u)) (λ l u. g l (x ∷ u)) w (bd .1) (λ l u bl bu n. h l (x ∷ u) bl (bd .0, bu) n),
+    )
 
 -- the indicator of a pair of rows
 abbrev pub hitsPair : Row → Row → Row → Row → ℕ
@@ -104,8 +107,11 @@ pub countInner-le : (nv : ℕ) (f g : Row → Row → ℕ) (v : Row) → Below n
 countInner-le nv f g [] bd h = omega arith
 countInner-le nv f g (x ∷ []) bd h = omega arith
 countInner-le nv f g (x ∷ y ∷ w) bd h =
-    omega (arith, h (y ∷ w) (x ∷ []) (bd .1) (bd .0, tt) tt
-    , countInner-le nv (λ l u. f l (x ∷ u)) (λ l u. g l (x ∷ u)) (y ∷ w) (bd .1) (λ l u bl bu n. h l (x ∷ u) bl (bd .0, bu) n))
+    omega (
+      arith,
+      h (y ∷ w) (x ∷ []) (bd .1) (bd .0, tt) tt,
+      countInner-le nv (λ l u. f l (x ∷ u)) (λ l u. g l (x ∷ u)) (y ∷ w) (bd .1) (λ l u bl bu n. h l (x ∷ u) bl (bd .0, bu) n),
+    )
 
 countFirst-zero : (v : Row) → countFirst (λ l u. 0) v ≡ 0
 countFirst-zero [] = refl

@@ -102,18 +102,23 @@ non-cell lo hi k v h = go (drop k v) (drop-non k v h)
     go (x ∷ r) n = tt
 
 good-cell : (nv h i k : ℕ) (v : Row) → i < h → Below nv v → k < length v → Good (suc h * nv) (prismRow (i * nv) (suc i * nv) k v)
-good-cell nv h i k v l b hk =
-    (non-cell (i * nv) (suc i * nv) k v hk
-    , below-append (suc h * nv) (raised (i * nv) (drop k v)) (raised (suc i * nv) (take (suc k) v)) (below-up nv i (suc h) (drop k v) (below-drop nv k v b) (omega arith))
-      (below-up nv (suc i) (suc h) (take (suc k) v) (below-take nv (suc k) v b) (omega arith)))
+good-cell nv h i k v l b hk = (
+  non-cell (i * nv) (suc i * nv) k v hk,
+  below-append (suc h * nv) (raised (i * nv) (drop k v)) (raised (suc i * nv) (take (suc k) v)) (below-up nv i (suc h) (drop k v) (below-drop nv k v b) (omega arith))
+      (below-up nv (suc i) (suc h) (take (suc k) v) (below-take nv (suc k) v b) (omega arith)),
+)
 
 -- no two swept cells are on one row
 level-once : (nv i : ℕ) (w : Row) (cs : List Cell) → All (Good nv) cs → total w (level nv i cs) ≤ cond (eqb (levelIn nv w) i) (sumRows (sideOn nv w) cs) 0
 level-once nv i w cs a =
-    omega (arith, sumChain-sumRows (hits w) true (level nv i cs), sumChain-level (λ c y. hits w y) nv i true cs
-    , sumChain-le (Good nv) (overPrism (λ c y. hits w y) (i * nv) (suc i * nv)) (λ v. cond (eqb (levelIn nv w) i) (sideOn nv w v) 0) true cs a
-      (λ c v g. omega (arith, sumPrism-countPrism (raisedRow (hits w) (i * nv) (suc i * nv)) (dimensionSign v) c v, countPrism-bound nv i w v (g .1)))
-    , sumRows-cond (eqb (levelIn nv w) i) (sideOn nv w) cs)
+    omega (
+      arith,
+      sumChain-sumRows (hits w) true (level nv i cs),
+      sumChain-level (λ c y. hits w y) nv i true cs,
+      sumChain-le (Good nv) (overPrism (λ c y. hits w y) (i * nv) (suc i * nv)) (λ v. cond (eqb (levelIn nv w) i) (sideOn nv w v) 0) true cs a
+          (λ c v g. omega (arith, sumPrism-countPrism (raisedRow (hits w) (i * nv) (suc i * nv)) (dimensionSign v) c v, countPrism-bound nv i w v (g .1))),
+      sumRows-cond (eqb (levelIn nv w) i) (sideOn nv w) cs,
+    )
 
 sweep-once : (nv h : ℕ) (w : Row) (cs : List Cell) → All (Good nv) cs → total w (sweepOf nv h cs) ≤ acrossLevels (levelIn nv w) (sumRows (sideOn nv w) cs) 0 h
 sweep-once nv zero w cs a = omega arith
@@ -131,12 +136,18 @@ swept-facets nv h cs s = facets-same (sweepOf nv h cs) (swept-two nv h cs (s .ro
 
 pub swept-solid : (nv h : ℕ) (cs : List Cell) → Solid nv cs → Solid (suc h * nv) (sweepOf nv h cs)
 swept-solid nv h cs s = record {
-    rows = all-sweep (Good (suc h * nv)) (Good nv) nv h cs (s .rows) (λ i v l g k hk. good-cell nv h i k v l (g .1) hk);
-    asc = all-sweep Asc (λ v. Good nv v × Asc v) nv h cs (both (Good nv) Asc cs (s .rows) (s .asc)) (λ i v l g k hk. asc-cell nv i k v (g .0 .1) (g .1));
-    distinct = λ w. omega (arith, sweep-once nv h w cs (s .rows), acrossLevels-le (levelIn nv w) (sumRows (sideOn nv w) cs) 0 h
-        , sumRows-le Asc (sideOn nv w) (hits (upperIn nv w ++ rest (lowerIn nv w))) cs (s .asc) (λ y _. one-and (doubled (lowerIn nv w) (upperIn nv w)) (sameRow y (upperIn nv w ++ rest (lowerIn nv w)))), s .distinct (upperIn nv w ++ rest (lowerIn nv w)));
-    meet = λ w. omega (arith, swept-meet nv cs s h w, facets-le w (sweepOf nv h cs));
-    paired = subst Paired (sym (swept-facets nv h cs s)) (swept-paired nv cs s h) }
+  rows = all-sweep (Good (suc h * nv)) (Good nv) nv h cs (s .rows) (λ i v l g k hk. good-cell nv h i k v l (g .1) hk);
+  asc = all-sweep Asc (λ v. Good nv v × Asc v) nv h cs (both (Good nv) Asc cs (s .rows) (s .asc)) (λ i v l g k hk. asc-cell nv i k v (g .0 .1) (g .1));
+  distinct = λ w. omega (
+    arith,
+    sweep-once nv h w cs (s .rows),
+    acrossLevels-le (levelIn nv w) (sumRows (sideOn nv w) cs) 0 h,
+    sumRows-le Asc (sideOn nv w) (hits (upperIn nv w ++ rest (lowerIn nv w))) cs (s .asc) (λ y _. one-and (doubled (lowerIn nv w) (upperIn nv w)) (sameRow y (upperIn nv w ++ rest (lowerIn nv w)))),
+    s .distinct (upperIn nv w ++ rest (lowerIn nv w)),
+  );
+  meet = λ w. omega (arith, swept-meet nv cs s h w, facets-le w (sweepOf nv h cs));
+  paired = subst Paired (sym (swept-facets nv h cs s)) (swept-paired nv cs s h);
+}
 
 pub swept-long : (nv h n : ℕ) (cs : List Cell) → All (Long n) cs → All (Long (suc n)) (sweepOf nv h cs)
 swept-long nv h n cs a = all-sweep (Long (suc n)) (Long n) nv h cs a (λ i v l g k hk. len-cell (i * nv) (suc i * nv) k n v g (omega arith))

@@ -73,8 +73,14 @@ levelParts-sum : (f : Functional) (nv i : ℕ) (b : Bool) (cs : List Cell) →
     sumChain (levelParts f (i * nv) (suc i * nv)) b cs ≡ sumChain (atHeight f (suc i * nv)) b cs + sumChain (atHeight f (i * nv)) (not b) cs + sumChain f b (level nv i (allFaces cs))
 levelParts-sum f nv i b cs =
     let lo = i * nv in let hi = suc i * nv in
-    omega (arith, sumChain-add (λ c y. atHeight f hi c y + atHeight f lo (not c) y) (sumFaces (overPrism f lo hi)) b cs, sumChain-add (atHeight f hi) (λ c y. atHeight f lo (not c) y) b cs
-    , sumChain-not (atHeight f lo) b cs, sumChain-level f nv i b (allFaces cs), sumChain-allFaces (overPrism f lo hi) b cs)
+    omega (
+      arith,
+      sumChain-add (λ c y. atHeight f hi c y + atHeight f lo (not c) y) (sumFaces (overPrism f lo hi)) b cs,
+      sumChain-add (atHeight f hi) (λ c y. atHeight f lo (not c) y) b cs,
+      sumChain-not (atHeight f lo) b cs,
+      sumChain-level f nv i b (allFaces cs),
+      sumChain-allFaces (overPrism f lo hi) b cs,
+    )
 
 level-id : (f : Functional) (nv i : ℕ) (b : Bool) (cs : List Cell) →
     sumChain (sumFaces f) b (level nv i cs) + sumChain (levelParts f (i * nv) (suc i * nv)) (not b) cs ≡ sumChain (levelParts f (i * nv) (suc i * nv)) b cs + sumChain (sumFaces f) (not b) (level nv i cs)
@@ -82,7 +88,7 @@ level-id f nv i b cs =
     omega (arith, sumChain-eq (overPrism (sumFaces f) (i * nv) (suc i * nv)) (levelParts f (i * nv) (suc i * nv)) go b cs, sumChain-level (sumFaces f) nv i b cs, sumChain-level (sumFaces f) nv i (not b) cs)
   where
     go : (b : Bool) (v : Row) → overPrism (sumFaces f) (i * nv) (suc i * nv) b v + levelParts f (i * nv) (suc i * nv) (not b) v
-         ≡ levelParts f (i * nv) (suc i * nv) b v + overPrism (sumFaces f) (i * nv) (suc i * nv) (not b) v
+        ≡ levelParts f (i * nv) (suc i * nv) b v + overPrism (sumFaces f) (i * nv) (suc i * nv) (not b) v
     go true v = cell-id f (i * nv) (suc i * nv) true v
     go false v = cell-id f (i * nv) (suc i * nv) false v
 
@@ -93,6 +99,14 @@ pub sweep-id : (f : Functional) (nv h : ℕ) (cs : List Cell) →
     sumChain (sumFaces f) true (sweepOf nv h cs) + sweptParts f nv h false cs ≡ sweptParts f nv h true cs + sumChain (sumFaces f) false (sweepOf nv h cs)
 sweep-id f nv zero cs = omega arith
 sweep-id f nv (suc h) cs =
-    omega (arith, sweep-id f nv h cs, level-id f nv h true cs, levelParts-sum f nv h true cs, levelParts-sum f nv h false cs
-    , sumChain-append (sumFaces f) true (sweepOf nv h cs) (level nv h cs), sumChain-append (sumFaces f) false (sweepOf nv h cs) (level nv h cs)
-    , sumChain-append f true (sweepOf nv h (allFaces cs)) (level nv h (allFaces cs)), sumChain-append f false (sweepOf nv h (allFaces cs)) (level nv h (allFaces cs)))
+    omega (
+      arith,
+      sweep-id f nv h cs,
+      level-id f nv h true cs,
+      levelParts-sum f nv h true cs,
+      levelParts-sum f nv h false cs,
+      sumChain-append (sumFaces f) true (sweepOf nv h cs) (level nv h cs),
+      sumChain-append (sumFaces f) false (sweepOf nv h cs) (level nv h cs),
+      sumChain-append f true (sweepOf nv h (allFaces cs)) (level nv h (allFaces cs)),
+      sumChain-append f false (sweepOf nv h (allFaces cs)) (level nv h (allFaces cs)),
+    )

@@ -68,7 +68,7 @@ module _ (d v s h : ℕ) (es : List Entry) where
       (omega (arith, suc-mul p (suc d), mul-le-mul-right {m = suc p} {n = s} (suc d) hp))
       ∙ ap (λ xs. getD xs (k + p * suc d) none) (tabulate-at h levelEntries i [] hi)
       ∙ concat-at (suc d) none (tabulate s (prismEntries i)) p k (each-tabulated (suc d) s (prismEntries i) (λ p. tabulate-length (suc d) (sweptEntry d v s h es i p)))
-        (rw (tabulate-length s (prismEntries i)) hp) hk
+      (rw (tabulate-length s (prismEntries i)) hp) hk
       ∙ ap (λ xs. getD xs k none) (tabulate-at s (prismEntries i) p [] hp)
       ∙ tabulate-at (suc d) (sweptEntry d v s h es i p) k none hk
     where
@@ -86,10 +86,10 @@ module _ (nv d h : ℕ) (cs : List Cell) (solid : Solid nv cs) (long : All (Long
   wings-at i p k hi hp hk =
       wings-tabulated T c (cellAt T c)
       ∙ ap (λ n. tabulate n (λ j. neighbour c (without j (rowAt T c)) T))
-        (all-at (Long (suc (suc d))) T (swept-long nv h (suc d) cs long) c (omega (arith, len-sweep nv (suc d) h cs long, num-lt nv (suc d) h S i p k hi hp (omega arith))))
+      (all-at (Long (suc (suc d))) T (swept-long nv h (suc d) cs long) c (omega (arith, len-sweep nv (suc d) h cs long, num-lt nv (suc d) h S i p k hi hp (omega arith))))
       ∙ tabulate-ext (suc (suc d)) (λ j. neighbour c (without j (rowAt T c)) T) (sweptWing d S h (wingAt (tableOf cs)) i p k)
-        (λ j l. wings-are nv d h cs solid long small i p k j hi hp hk (omega arith)
-        ∙ ap (λ (wing : ℕ → ℕ → ℕ). sweptWing d S h wing i p k j) (sym (fun-ext (λ q. fun-ext (λ a. table-wing (suc d) cs long q a)))))
+      (λ j l. wings-are nv d h cs solid long small i p k j hi hp hk (omega arith)
+      ∙ ap (λ (wing : ℕ → ℕ → ℕ). sweptWing d S h wing i p k j) (sym (fun-ext (λ q. fun-ext (λ a. table-wing (suc d) cs long q a)))))
     where
       c : ℕ
       c = cellNumber d S i p k
@@ -98,8 +98,8 @@ module _ (nv d h : ℕ) (cs : List Cell) (solid : Solid nv cs) (long : All (Long
   entry-at i p k hi hp hk =
       table-at T (cellNumber d S i p k) (omega (arith, len-sweep nv (suc d) h cs long, num-lt nv (suc d) h S i p k hi hp (omega arith)))
       ∙ ap₂ {C = Entry} (λ c ws. record { cell = c; wings = ws })
-        (cell-num nv (suc d) h i p k cs long hi hp (omega arith) ∙ ap (λ (e : Entry). prismCell nv i k (e .cell)) (sym (table-at cs p hp)))
-        (wings-at i p k hi hp hk)
+      (cell-num nv (suc d) h i p k cs long hi hp (omega arith) ∙ ap (λ (e : Entry). prismCell nv i k (e .cell)) (sym (table-at cs p hp)))
+      (wings-at i p k hi hp hk)
       ∙ sym (swept-at d nv S h (tableOf cs) i p k hi hp (omega arith))
 
   -- every number below the count of swept cells is that of one
@@ -108,20 +108,27 @@ module _ (nv d h : ℕ) (cs : List Cell) (solid : Solid nv cs) (long : All (Long
     where
       k : ℕ
       k = c % suc d
+
       p : ℕ
       p = c / suc d % S
+
       i : ℕ
       i = c / suc d / S
+
       S-pos : 0 < S
       S-pos = pos-of S (suc d) h c hc
+
       c-is : c ≡ cellNumber d S (c / suc d / S) (c / suc d % S) (c % suc d)
       c-is =
           let m = c / suc d in
           omega (arith, div-add-mod' c (suc d), ap (λ x. x * suc d) (div-add-mod' m S), add-mul (m / S * S) (m % S) (suc d), mul-assoc (m / S) S (suc d))
+
       hk : c % suc d ≤ d
       hk = omega (arith, mod-lt c {m = suc d} (omega arith))
+
       hp : c / suc d % S < S
       hp = mod-lt (c / suc d) S-pos
+
       hi : c / suc d / S < h
       hi = div-lt-iff-lt-mul S-pos .1 (div-lt-iff-lt-mul {k = suc d} (omega arith) .1 (rw (mul-assoc h S (suc d)) hc))
 

@@ -64,21 +64,25 @@ module _ (nv d h : ℕ) (cs : List Cell) (s : Solid nv cs) (ln : All (Long (suc 
       top : (t : Bool) → eqb (suc i) h ≡ t → tw i p d 0 ≡ cond t 65535 (nu (suc i) p 0)
       top true e = top-none nv d h cs s ln i p (eqb-true (suc i) h e) hp
       top false e = let z : suc i ≢ h = eqb-false (suc i) h e in level-next nv d h cs s ln i p (omega arith) hp
+
       goA : (t : Bool) → ltb k d ≡ t → tw i p k 0 ≡ cond t (nu i p (suc k)) (cond (eqb (suc i) h) 65535 (nu (suc i) p 0))
       goA true e = inner-next nv d h cs s ln i p k hi hp (ltb-true k d e)
       goA false e = let z : d ≤ k = ltb-false k d e in ap (λ k. tw i p k 0) (omega arith) ∙ top (eqb (suc i) h) refl
+
       bot : (t : Bool) → eqb i 0 ≡ t → tw i p 0 (suc d) ≡ cond t 65535 (nu (i - 1) p d)
       bot true e = ap (λ i. tw i p 0 (suc d)) (eqb-true i 0 e) ∙ bottom-none nv d h cs s ln p (omega arith) hp
       bot false e =
           let z : i ≢ 0 = eqb-false i 0 e in
           let y : i ≡ suc (i - 1) = omega arith in
           ap (λ i. tw i p 0 (suc d)) y ∙ level-prev nv d h cs s ln (i - 1) p (omega arith) hp
+
       goB : (t : Bool) → eqb k 0 ≡ t → tw i p k (suc d) ≡ cond t (cond (eqb i 0) 65535 (nu (i - 1) p d)) (nu i p (k - 1))
       goB true e = ap (λ k. tw i p k (suc d)) (eqb-true k 0 e) ∙ bot (eqb i 0) refl
       goB false e =
           let z : k ≢ 0 = eqb-false k 0 e in
           let y : k ≡ suc (k - 1) = omega arith in
           ap (λ k. tw i p k (suc d)) y ∙ inner-prev nv d h cs s ln i p (k - 1) hi hp (omega arith)
+
       goC : (t : Bool) → leb (k + j) d ≡ t → j ≢ 0 → j ≢ suc d → tw i p k j ≡ wingAside d S h W i p (cond t (k + j) (k + j - suc d)) (cond t k (k - 1))
       goC true e n m =
           let z : k + j ≤ d = leb-true (k + j) d e in
@@ -92,10 +96,12 @@ module _ (nv d h : ℕ) (cs : List Cell) (s : Solid nv cs) (ln : All (Long (suc 
           let ek : k ≡ sideCell (k + j - suc d) (k - 1) = rw x (omega arith) in
           let ej : j ≡ sidePosition d (k + j - suc d) (k - 1) = rw x (omega arith) in
           ap₂ (tw i p) ek ej ∙ side-is i p (k + j - suc d) (k - 1) hi hp (omega arith) (omega arith)
+
       go1 : (t : Bool) → eqb j (suc d) ≡ t → j ≢ 0 → tw i p k j ≡ cond t (cond (eqb k 0) (cond (eqb i 0) 65535 (nu (i - 1) p d)) (nu i p (k - 1)))
           (wingAside d S h W i p (sideFace d k j) (sidePlace d k j))
       go1 true e n = ap (tw i p k) (eqb-true j (suc d) e) ∙ goB (eqb k 0) refl
       go1 false e n = goC (leb (k + j) d) refl n (eqb-false j (suc d) e)
+
       go0 : (t : Bool) → eqb j 0 ≡ t → tw i p k j ≡ cond t (cond (ltb k d) (nu i p (suc k)) (cond (eqb (suc i) h) 65535 (nu (suc i) p 0)))
           (cond (eqb j (suc d)) (cond (eqb k 0) (cond (eqb i 0) 65535 (nu (i - 1) p d)) (nu i p (k - 1)))
           (wingAside d S h W i p (sideFace d k j) (sidePlace d k j)))

@@ -18,9 +18,13 @@ impl Shape {
     pub const MAX_DIMENSION: usize = 7;
     // Of what is read or swept: the sweep has one dimension more.
     pub const MAX_SOURCE: usize = 6;
+
     pub const MAX_AXES: usize = 8;
+
     pub const MAX_VERTICES: usize = 4096;
+
     pub const MAX_CELLS: usize = 4096;
+
     pub const MAX_STEPS: usize = 64;
 
     // The shape, if d is at most top and the counts are within the limits. top is MAX_DIMENSION, or

@@ -40,8 +40,13 @@ on-one f v c y = go c (sameRow y v) (sameRow-true y v)
 on-sum : (f : Functional) (v : Row) (b : Bool) (cs : List Cell) → sumChain (restricted (λ y. sameRow y v) f) b cs ≡ sumChain (plusOn v) b cs * f true v + sumChain (plusOn v) (not b) cs * f false v
 on-sum f v b [] = omega (arith, zero-mul (f true v), zero-mul (f false v))
 on-sum f v b (c ∷ cs) =
-    rw (times-not-r (c .sign) b) (omega (arith, on-one f v (times (c .sign) b) (c .row), on-sum f v b cs
-    , add-mul (plusOn v (times (c .sign) b) (c .row)) (sumChain (plusOn v) b cs) (f true v), add-mul (plusOn v (not (times (c .sign) b)) (c .row)) (sumChain (plusOn v) (not b) cs) (f false v)))
+    rw (times-not-r (c .sign) b) (omega (
+      arith,
+      on-one f v (times (c .sign) b) (c .row),
+      on-sum f v b cs,
+      add-mul (plusOn v (times (c .sign) b) (c .row)) (sumChain (plusOn v) b cs) (f true v),
+      add-mul (plusOn v (not (times (c .sign) b)) (c .row)) (sumChain (plusOn v) (not b) cs) (f false v),
+    ))
 
 abbrev off : Row → Row → Bool
 off v y = not (sameRow y v)
@@ -74,8 +79,16 @@ rest : (n : ℕ) (f : Functional) (c : Cell) (cs : List Cell) → sumChain (plus
     sumChain f true (c ∷ cs) + sumChain f false (keep (λ a. off (c .row) (a .row)) cs) ≡ sumChain f false (c ∷ cs) + sumChain f true (keep (λ a. off (c .row) (a .row)) cs)
 rest n f c cs h e =
     let v : Row = c .row in
-    omega (arith, sumChain-split f v true (c ∷ cs), sumChain-split f v false (c ∷ cs), on-bal f v (c ∷ cs) h, sumChain-keep (off v) f true (c ∷ cs), sumChain-keep (off v) f false (c ∷ cs)
-    , ap (sumChain f true) e, ap (sumChain f false) e)
+    omega (
+      arith,
+      sumChain-split f v true (c ∷ cs),
+      sumChain-split f v false (c ∷ cs),
+      on-bal f v (c ∷ cs) h,
+      sumChain-keep (off v) f true (c ∷ cs),
+      sumChain-keep (off v) f false (c ∷ cs),
+      ap (sumChain f true) e,
+      ap (sumChain f false) e,
+    )
 
 -- where each row has as many plus cells as minus cells, every functional sums to nothing
 pub bal : (n : ℕ) (f : Functional) (cs : List Cell) → length cs ≤ n → ((w : Row) → sumChain (plusOn w) true cs ≡ sumChain (plusOn w) false cs) → sumChain f true cs ≡ sumChain f false cs
@@ -119,8 +132,16 @@ pub lone-cancel : (F : List Cell) → Paired F → (f : Functional) →
 lone-cancel F p f =
     let q : Row → Bool = loneIn F in
     let r : List Cell = keep (λ c. not (q (c .row))) F in
-    omega (arith, sumChain-splits q f true F, sumChain-splits q f false F, sumChain-keep q f true F, sumChain-keep q f false F, sumChain-keep (λ y. not (q y)) f true F, sumChain-keep (λ y. not (q y)) f false F
-    , bal (length r) f r (omega arith) (λ w. rw (count-keep (λ y. not (q y)) w true F, count-keep (λ y. not (q y)) w false F) (go w (q w) refl)))
+    omega (
+      arith,
+      sumChain-splits q f true F,
+      sumChain-splits q f false F,
+      sumChain-keep q f true F,
+      sumChain-keep q f false F,
+      sumChain-keep (λ y. not (q y)) f true F,
+      sumChain-keep (λ y. not (q y)) f false F,
+      bal (length r) f r (omega arith) (λ w. rw (count-keep (λ y. not (q y)) w true F, count-keep (λ y. not (q y)) w false F) (go w (q w) refl)),
+    )
   where
     go : (w : Row) (t : Bool) → loneIn F w ≡ t → cond (not t) (sumChain (plusOn w) true F) 0 ≡ cond (not t) (sumChain (plusOn w) false F) 0
     go w true h = refl

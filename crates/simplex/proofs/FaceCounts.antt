@@ -59,6 +59,7 @@ countFaces-once (y ∷ w) (x ∷ z ∷ v) s = go (eqb z y) refl (eqb x y) refl (
     one-le : (t : Bool) → one t ≤ 1
     one-le true = omega arith
     one-le false = omega arith
+
     go : (a : Bool) → eqb z y ≡ a → (b : Bool) → eqb x y ≡ b → countFaces (hits w) (z ∷ v) ≤ 1 → one (a && sameRow v w) + countFaces (λ r. one (b && sameRow r w)) (z ∷ v) ≤ 1
     go true e true f k = absurd (omega (arith, eqb-true z y e, eqb-true x y f))
     go true e false f k = omega (arith, countFaces-none (λ r. false) (z ∷ v) (λ r. refl), one-le (sameRow v w))
@@ -92,6 +93,7 @@ facets-same cs a = keep-all filled (allFaces cs) (go cs a)
     app : (xs ys : List Cell) → All (λ w. filled w ≡ true) xs → All (λ w. filled w ≡ true) ys → All (λ w. filled w ≡ true) (xs ++ ys)
     app [] ys a b = b
     app (c ∷ xs) ys a b = (a .0, app xs ys (a .1) b)
+
     go : (cs : List Cell) → All (λ v. 2 ≤ length v) cs → All (λ w. filled w ≡ true) (allFaces cs)
     go [] a = tt
     go (c ∷ cs) a = app (faces (c .sign) (c .row)) (allFaces cs) (faces-filled (c .sign) (c .row) (a .0)) (go cs (a .1))

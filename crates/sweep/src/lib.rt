@@ -3,13 +3,13 @@ ghost use mathlib.Core.Path.{_≡_};
 ghost use lib.ListN.{length};
 ghost use Rattle.rules.specs.Numbers.{outcomeOf};
 ghost use Rattle.sweep.specs.Sweep.{sweepOutcome, sweepBuffer, sweepInput};
+use crate::limits::in_limits;
+use crate::limits::swept_cells;
+use crate::limits::too_large;
 use adjacency::sizes::table_words;
 use adjacency::sound::is_sound;
 use rules::refusal::Answer;
 use rules::refusal::Refusal;
-use crate::limits::in_limits;
-use crate::limits::swept_cells;
-use crate::limits::too_large;
 use sweeping::writing::write_swept;
 
 pub mod limits;

@@ -49,10 +49,11 @@ module _ (d v s h : ℕ) (ws : List ℕ) (ready : Ready d v s h ws) (i p : ℕ) 
         let low : l < 8 = omega (arith, ready .dimension) in
         let cell : getD cells (56 + l) 0 ≡ empty = ac .cell (56 + l) (omega arith) ∙ cell-none d l in
         let is : wingAside d s h wing i p a l ≡ empty = rw (eq-eqb (wing p a) empty e) refl in
-        record
-        { word = ap₂ (λ f r. f + getD cells (r + l) 0) first row ∙ ap (λ (n : ℕ). 0 + n) cell ∙ omega (arith, is)
-        ; reach = omega arith
-        ; fits = omega (arith, is) }
+        record {
+          word = ap₂ (λ f r. f + getD cells (r + l) 0) first row ∙ ap (λ (n : ℕ). 0 + n) cell ∙ omega (arith, is);
+          reach = omega arith;
+          fits = omega (arith, is);
+        }
 
     side-full : (wing p a ≡ empty → ⊥) → Side
     side-full n =
@@ -67,10 +68,11 @@ module _ (d v s h : ℕ) (ws : List ℕ) (ready : Ready d v s h ws) (i p : ℕ) 
         let cell : getD cells (b * 8 + l) 0 ≡ k = ac .cell (b * 8 + l) (omega arith) ∙ cell-at d b l dim hb hl in
         let is : wingAside d s h wing i p a l ≡ cellNumber d s i q k = rw (ne-eqb q empty n) refl in
         let few = number-inside d s h i q k hi (ready .across p a hp ha n) hk in
-        record
-        { word = ap₂ (λ f r. f + getD cells (r + l) 0) first row ∙ omega (arith, cell, is)
-        ; reach = omega arith
-        ; fits = omega (arith, is, few, ready .cells) }
+        record {
+          word = ap₂ (λ f r. f + getD cells (r + l) 0) first row ∙ omega (arith, cell, is);
+          reach = omega arith;
+          fits = omega (arith, is, few, ready .cells);
+        }
 
     pub side-is : Side
     side-is = go (eqb (wing p a) empty) refl
@@ -81,17 +83,20 @@ module _ (d v s h : ℕ) (ws : List ℕ) (ready : Ready d v s h ws) (i p : ℕ) 
 
   pub sides-fit : SidesFit d firsts rows cells
   sides-fit =
-      record
-      { reach = λ a l ha hl. side-is a l ha hl .reach
-      ; fits = λ a l ha hl. omega (arith, side-is a l ha hl .word, side-is a l ha hl .fits) }
+      record {
+        reach = λ a l ha hl. side-is a l ha hl .reach;
+        fits = λ a l ha hl. omega (arith, side-is a l ha hl .word, side-is a l ha hl .fits);
+      }
 
   pub wing-word : (k j : ℕ) → k ≤ d → j ≤ suc d → wingWord d s h firsts rows cells i p k j ≡ sweptWing d s h wing i p k j
   wing-word k j hk hj = go (eqb j 0) (eqb j (suc d)) refl refl
     where
       above : ℕ
       above = wingAbove d s h wing i p k
+
       below : ℕ
       below = wingBelow d s h wing i p k
+
       go : (t u : Bool) → eqb j 0 ≡ t → eqb j (suc d) ≡ u →
           cond t above (cond u below (sideWord firsts rows cells (sideFace d k j) (sidePlace d k j)))
           ≡ cond t above (cond u below (wingAside d s h wing i p (sideFace d k j) (sidePlace d k j)))

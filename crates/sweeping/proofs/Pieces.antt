@@ -29,9 +29,9 @@ module _ (at m n here : ℕ) (f : ℕ → ℕ) (xs buf old out : List ℕ) where
       let rest : length (take n (drop m xs)) ≡ n = length-take-le n (drop m xs) (omega (arith, length-drop m xs)) in
       let from : here ≡ at + length (take m xs) = omega arith in
       let piece : tabulate n f ≡ take n (drop m xs) =
-          ext-getD 0 (tabulate n f) (take n (drop m xs)) (tabulate-length n f ∙ sym rest)
-          (λ j l. let less : j < n = omega (arith, tabulate-length n f) in
-          tabulate-at n f j 0 less ∙ hf j less ∙ sym (getD-take n (drop m xs) j 0 less ∙ getD-drop m xs j 0)) in
+      ext-getD 0 (tabulate n f) (take n (drop m xs)) (tabulate-length n f ∙ sym rest)
+      (λ j l. let less : j < n = omega (arith, tabulate-length n f) in
+      tabulate-at n f j 0 less ∙ hf j less ∙ sym (getD-take n (drop m xs) j 0 less ∙ getD-drop m xs j 0)) in
       e ∙ ap₂ {C = List ℕ} (λ a b. placed a (tabulate n f) b) from eo ∙ placed-then at (take m xs) (tabulate n f) buf (omega arith)
       ∙ ap (λ (l : List ℕ). placed at l buf) (ap (λ (l : List ℕ). take m xs ++ l) piece ∙ sym (take-add m n xs))
 

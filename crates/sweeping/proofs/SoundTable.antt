@@ -65,24 +65,34 @@ sound-solid d v s ws e =
   where
     l : Listed
     l = listed d v s ws
+
     cs : List Cell
     cs = solidOf l
+
     parts : (shapeOk maxDimension d v s ≡ true) × ((eqb (length ws) (tableLength d s) && (acceptable l && sameRow ws (tableWords (tableOf cs)))) ≡ true)
     parts = and-parts (shapeOk maxDimension d v s) (eqb (length ws) (tableLength d s) && (acceptable l && sameRow ws (tableWords (tableOf cs)))) e
+
     rest : (eqb (length ws) (tableLength d s) ≡ true) × ((acceptable l && sameRow ws (tableWords (tableOf cs))) ≡ true)
     rest = and-parts (eqb (length ws) (tableLength d s)) (acceptable l && sameRow ws (tableWords (tableOf cs))) (parts .1)
+
     own : (acceptable l ≡ true) × (sameRow ws (tableWords (tableOf cs)) ≡ true)
     own = and-parts (acceptable l) (sameRow ws (tableWords (tableOf cs))) (rest .1)
+
     long : length ws ≡ tableLength d s
     long = eqb-true (length ws) (tableLength d s) (rest .0)
+
     sizes : (verticesOk v ≡ true) × (within 1 maxCells s ≡ true)
     sizes = and-parts (verticesOk v) (within 1 maxCells s) (and-parts (leb d maxDimension) (sizesOk v s) (parts .0) .1)
+
     cells-small : s ≤ maxCells
     cells-small = leb-true s maxCells (and-parts (leb 1 s) (leb s maxCells) (sizes .1) .1)
+
     solid : Solid v cs × All (Long (suc d)) cs
     solid = accepted-solid l (own-long d s ws long) (own .0)
+
     words : ws ≡ tableWords (tableOf cs)
     words = sameRow-true ws (tableWords (tableOf cs)) (own .1)
+
     entries : entriesOf d s ws ≡ tableOf cs
     entries =
         ap (entriesOf d s) words ∙ ap (λ n. entriesOf d n (tableWords (tableOf cs))) (sym (count-is d v s ws))
@@ -112,10 +122,13 @@ module _ (d v s h : ℕ) (ws : List ℕ) (cs : List Cell) (t : TableOf d v s ws 
     across : (b : ℕ) × (solidWing d s ws p a < s) × (b ≤ d) × (solidWing d s ws (solidWing d s ws p a) b ≡ p) × ((m : ℕ) → m < b → solidWing d s ws (solidWing d s ws p a) m ≡ p → ⊥)
     across =
         let r = wings-symmetric v d cs (t .solid) (t .rows) (omega (arith, t .count, t .small)) p a (omega (arith, t .count)) ha (λ e. full (wing-is p a ∙ e)) in
-        let q-is = wing-is p a in
-        (r .0, omega (arith, q-is, r .1, t .count), r .3
-        , wing-is (solidWing d s ws p a) (r .0) ∙ ap (λ q. wing v d cs (t .solid) (t .rows) q (r .0)) q-is ∙ r .5
-        , (λ m l e. r .6 m l (sym (wing-is (solidWing d s ws p a) m ∙ ap (λ q. wing v d cs (t .solid) (t .rows) q m) q-is) ∙ e)))
+        let q-is = wing-is p a in (
+          r .0,
+          omega (arith, q-is, r .1, t .count),
+          r .3,
+          wing-is (solidWing d s ws p a) (r .0) ∙ ap (λ q. wing v d cs (t .solid) (t .rows) q (r .0)) q-is ∙ r .5,
+          (λ m l e. r .6 m l (sym (wing-is (solidWing d s ws p a) m ∙ ap (λ q. wing v d cs (t .solid) (t .rows) q m) q-is) ∙ e)),
+        )
 
     back-small : backTo (solidWing d s ws) p (solidWing d s ws p a) d ≤ d
     back-small =

@@ -52,7 +52,18 @@ fn write_vertices(
 }
 
 // Its sign word and vertices: from k to d at this level, then from 0 to k at the next.
-fn write_cell(d: usize, v: usize, s: usize, h: usize, table: &[u16], i: usize, p: usize, k: usize, at: usize, out: &mut [u16])
+fn write_cell(
+    d: usize,
+    v: usize,
+    s: usize,
+    h: usize,
+    table: &[u16],
+    i: usize,
+    p: usize,
+    k: usize,
+    at: usize,
+    out: &mut [u16],
+)
     requires ready { ⌜ Ready d v s h (now table) ⌝ }
     requires at { ⌜ (i < h) × (p < s) × (k ≤ d) ⌝ }
     requires room { ⌜ at + (d + d + 5) ≤ length (now out) ⌝ }
@@ -127,7 +138,17 @@ fn write_wings(
 {
     out[at] = wing_above(d, s, h, i, p, k);
     write_sides(d, k + 1, d - k, k, firsts, rows, cells, at + 1, out);
-    write_sides(d, 0, k, less_one(k), firsts, rows, cells, at + d + 1 - k, out);
+    write_sides(
+        d,
+        0,
+        k,
+        less_one(k),
+        firsts,
+        rows,
+        cells,
+        at + d + 1 - k,
+        out,
+    );
     out[at + d + 1] = wing_below(d, s, h, i, p, k);
 }
 

@@ -79,7 +79,16 @@ fn face_row(d: usize, v: usize, s: usize, h: usize, table: &[u16], p: usize, a: 
 }
 
 // The first cell at level i over the cell across face a; 0 if the wing is empty.
-fn face_first(d: usize, v: usize, s: usize, h: usize, table: &[u16], i: usize, p: usize, a: usize) -> usize
+fn face_first(
+    d: usize,
+    v: usize,
+    s: usize,
+    h: usize,
+    table: &[u16],
+    i: usize,
+    p: usize,
+    a: usize,
+) -> usize
     requires ready { ⌜ Ready d v s h (now table) ⌝ }
     requires at { ⌜ (i < h) × (p < s) × (a ≤ d) ⌝ }
     ensures { λ r. ⌜ r ≡ faceFirst d s (solidWing d s (now (table .entry))) i p a ⌝ }
@@ -92,7 +101,15 @@ fn face_first(d: usize, v: usize, s: usize, h: usize, table: &[u16], i: usize, p
 }
 
 // That of each face of cell p.
-pub fn face_rows(d: usize, v: usize, s: usize, h: usize, table: &[u16], p: usize, rows: &mut [usize; 8])
+pub fn face_rows(
+    d: usize,
+    v: usize,
+    s: usize,
+    h: usize,
+    table: &[u16],
+    p: usize,
+    rows: &mut [usize; 8],
+)
     requires ready { ⌜ Ready d v s h (now table) ⌝ }
     requires at { ⌜ p < s ⌝ }
     requires long { ⌜ length (now rows) ≡ 8 ⌝ }
@@ -106,7 +123,16 @@ pub fn face_rows(d: usize, v: usize, s: usize, h: usize, table: &[u16], p: usize
 }
 
 // The first cells over the cells across each face.
-pub fn face_firsts(d: usize, v: usize, s: usize, h: usize, table: &[u16], i: usize, p: usize, firsts: &mut [usize; 8])
+pub fn face_firsts(
+    d: usize,
+    v: usize,
+    s: usize,
+    h: usize,
+    table: &[u16],
+    i: usize,
+    p: usize,
+    firsts: &mut [usize; 8],
+)
     requires ready { ⌜ Ready d v s h (now table) ⌝ }
     requires at { ⌜ (i < h) × (p < s) ⌝ }
     requires long { ⌜ length (now firsts) ≡ 8 ⌝ }

@@ -44,7 +44,17 @@ fn write_prism(
 }
 
 // The records of level i.
-fn write_level(d: usize, v: usize, s: usize, h: usize, table: &[u16], i: usize, cells: &[usize; 64], at: usize, out: &mut [u16]) -> usize
+fn write_level(
+    d: usize,
+    v: usize,
+    s: usize,
+    h: usize,
+    table: &[u16],
+    i: usize,
+    cells: &[usize; 64],
+    at: usize,
+    out: &mut [u16],
+) -> usize
     requires ready { ⌜ Ready d v s h (now table) ⌝ }
     requires sides { ⌜ Holds 64 (sideCell d) (now cells) ⌝ }
     requires at { ⌜ i < h ⌝ }

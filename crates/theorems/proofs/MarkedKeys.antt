@@ -20,4 +20,5 @@ marked-keys =
       k7 = (refl, refl);
       k8 = (refl, refl, refl);
       k9 = (refl, refl);
-      k10 = refl }
+      k10 = refl;
+    }

@@ -129,7 +129,8 @@ module _ (d v s h : ℕ) (ws buf : List ℕ) (room : length buf ≡ wordRoom) (n
   unrefused : Unrefused d v h sitting
   unrefused = record {
     winged = first ∙ ap accepted (wing-count (toWing d v h sitting) n first);
-    swept = second ∙ ap accepted (sweep-count (toSweep d v h sitting) k second) }
+    swept = second ∙ ap accepted (sweep-count (toSweep d v h sitting) k second);
+  }
 
   swept-is : sweptWritten d v h sitting ≡ sweptWords (sweepInput d v s h table wordRoom)
   swept-is =

@@ -23,4 +23,5 @@ refusals =
       row14 = (refl, refl);
       row15 = (refl, refl);
       untouched = refl;
-      no-further = refl }
+      no-further = refl;
+    }

@@ -62,7 +62,8 @@ winged-is i n e =
     record {
       shape = not-false _ (r2 .0);
       size = eqb-true _ _ (not-false _ (r3 .0));
-      cells = passes l (record { sign = r6 .0; vertex = r7 .0; twice = r8 .0; cell = r9 .0; crowded = r10 .0; equal = r11 .0 }) }
+      cells = passes l (record { sign = r6 .0; vertex = r7 .0; twice = r8 .0; cell = r9 .0; crowded = r10 .0; equal = r11 .0 });
+    }
 
 pub record Swept (i : SweepInput) : Type 0 where
   pub shape : shapeOk maxSource (i .d) (i .v) (i .s) ≡ true
@@ -83,4 +84,5 @@ swept-is i n e =
       shape = numbers .0;
       steps = numbers .1;
       vertices = ltb-false _ _ (large .0);
-      cells = ltb-false _ _ (large .1) }
+      cells = ltb-false _ _ (large .1);
+    }

@@ -46,5 +46,14 @@ module _ (nv : ℕ) (cs : List Cell) (s : Solid nv cs) where
       sumChain f true (sweptBoundary nv h cs) + (sumChain (atHeight f (h * nv)) false cs + sumChain (atHeight f (zero * nv)) true cs + sumChain f false (sweepOf nv h (ownBoundary cs)))
       ≡ (sumChain (atHeight f (h * nv)) true cs + sumChain (atHeight f (zero * nv)) false cs + sumChain f true (sweepOf nv h (ownBoundary cs))) + sumChain f false (sweptBoundary nv h cs)
   boundary-sum h f =
-      omega (arith, bd-is h f, lone-cancel (facets cs) (s .paired) (overSweep f nv h), sumChain-facets (overSweep f nv h) true cs (λ c. overSweep-nil f nv h c), sumChain-facets (overSweep f nv h) false cs (λ c. overSweep-nil f nv h c)
-      , sumChain-sweep f nv h true (ownBoundary cs), sumChain-sweep f nv h false (ownBoundary cs), sumChain-sweep f nv h true (allFaces cs), sumChain-sweep f nv h false (allFaces cs))
+      omega (
+        arith,
+        bd-is h f,
+        lone-cancel (facets cs) (s .paired) (overSweep f nv h),
+        sumChain-facets (overSweep f nv h) true cs (λ c. overSweep-nil f nv h c),
+        sumChain-facets (overSweep f nv h) false cs (λ c. overSweep-nil f nv h c),
+        sumChain-sweep f nv h true (ownBoundary cs),
+        sumChain-sweep f nv h false (ownBoundary cs),
+        sumChain-sweep f nv h true (allFaces cs),
+        sumChain-sweep f nv h false (allFaces cs),
+      )

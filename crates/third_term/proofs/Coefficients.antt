@@ -69,16 +69,22 @@ coefficients nv d h cs s ln w = go (alternating d) (sumChain-copy (plusOn w) nv 
   where
     B⁺ : ℕ
     B⁺ = sumChain (plusOn w) true (sweptBoundary nv h cs)
+
     B⁻ : ℕ
     B⁻ = sumChain (plusOn w) false (sweptBoundary nv h cs)
+
     R⁺ : ℕ
     R⁺ = sumChain (plusOn w) true (sweepOf nv h (ownBoundary cs))
+
     R⁻ : ℕ
     R⁻ = sumChain (plusOn w) false (sweepOf nv h (ownBoundary cs))
+
     t : Bool → ℕ
     t b = sumChain (plusOn w) b (topCopy nv h cs)
+
     a : Bool → ℕ
     a b = sumChain (plusOn w) b cs
+
     go : (e : Bool) → ((b : Bool) (xs : List Cell) → All (Long (suc d)) xs → sumChain (atHeight (plusOn w) (h * nv)) b xs ≡ sumChain (plusOn w) (times e b) (topCopy nv h xs)) →
         ((b : Bool) → sumChain (atHeight (plusOn w) (0 * nv)) b cs ≡ sumChain (plusOn w) (times e b) cs) →
         pos B⁺ -ℤ pos B⁻ ≡ cond e ((pos (t true) -ℤ pos (t false)) -ℤ (pos (a true) -ℤ pos (a false))) (negℤ ((pos (t true) -ℤ pos (t false)) -ℤ (pos (a true) -ℤ pos (a false)))) +ℤ (pos R⁺ -ℤ pos R⁻)

@@ -59,13 +59,26 @@ module _ (nv h : ℕ) (xa xb : List Cell) (sa : Solid nv xa) (sb : Solid nv xb) 
     where
       once : (xs : List Cell) → sumChain (plusOn w) true (sweptBoundary nv h xs) + sumChain (plusOn w) false (sweptBoundary nv h xs) ≤ 1
       once xs = omega (arith, lone-once (facets (sweepOf nv h xs)) w, plus-minus w (sweptBoundary nv h xs))
+
       any : (f : Functional) → sumChain f true xa + sumChain f false xb ≡ sumChain f true xb + sumChain f false xa
       any f = coef-fun f xa xb (λ w. omega (arith, e w .0, e w .1))
+
       faces-of : (xs : List Cell) (b : Bool) → sumChain (plusOn w) b (sweepOf nv h (allFaces xs)) ≡ sumChain (sumFaces (overSweep (plusOn w) nv h)) b xs
       faces-of xs b = sumChain-sweep (plusOn w) nv h b (allFaces xs) ∙ sumChain-allFaces (overSweep (plusOn w) nv h) b xs
+
       eq : sumChain (plusOn w) true (sweptBoundary nv h xa) + sumChain (plusOn w) false (sweptBoundary nv h xb) ≡ sumChain (plusOn w) true (sweptBoundary nv h xb) + sumChain (plusOn w) false (sweptBoundary nv h xa)
-      eq = omega (arith, bd-is nv xa sa h (plusOn w), bd-is nv xb sb h (plusOn w), any (atHeight (plusOn w) (h * nv)), any (atHeight (plusOn w) (zero * nv)), any (sumFaces (overSweep (plusOn w) nv h))
-          , faces-of xa true, faces-of xa false, faces-of xb true, faces-of xb false)
+      eq = omega (
+        arith,
+        bd-is nv xa sa h (plusOn w),
+        bd-is nv xb sb h (plusOn w),
+        any (atHeight (plusOn w) (h * nv)),
+        any (atHeight (plusOn w) (zero * nv)),
+        any (sumFaces (overSweep (plusOn w) nv h)),
+        faces-of xa true,
+        faces-of xa false,
+        faces-of xb true,
+        faces-of xb false,
+      )
 
 low-level : (nv : ℕ) (w : Row) → Good nv w → levelIn nv w ≡ 0
 low-level nv [] g = refl
@@ -89,6 +102,7 @@ at-bottom nv w b cs = ap (λ (f : Functional). sumChain f b cs) (fun-ext (λ c. 
     same : (y : Row) (e c t : Bool) → (t ≡ true → y ≡ w) → one (times (dimensionSign y) c && t) ≡ one (times (dimensionSign w) c && t)
     same y e c true h = rw (h refl) refl
     same y e c false h = rw (and-false (times (dimensionSign y) c), and-false (times (dimensionSign w) c)) refl
+
     go : (c : Bool) (y : Row) → atHeight (plusOn w) (zero * nv) c y ≡ plusOn w (times (dimensionSign w) c) y
     go c y = rw (raised-zero nv y) (same y (dimensionSign y) c (sameRow y w) (sameRow-true y w))
 
@@ -107,19 +121,31 @@ module _ (nv h : ℕ) (xa xb : List Cell) (sa : Solid nv xa) (sb : Solid nv xb) 
     where
       goal : Type 0
       goal = (sumChain (plusOn w) true xa ≡ sumChain (plusOn w) true xb) × (sumChain (plusOn w) false xa ≡ sumChain (plusOn w) false xb)
+
       bottom : (cs : List Cell) → Solid nv cs → Good nv w →
           sumChain (plusOn w) true (sweptBoundary nv h cs) + sumChain (plusOn w) (times (dimensionSign w) true) cs ≡ sumChain (plusOn w) (times (dimensionSign w) false) cs + sumChain (plusOn w) false (sweptBoundary nv h cs)
       bottom cs s g =
-          omega (arith, bd-is nv cs s h (plusOn w), at-bottom nv w true cs, at-bottom nv w false cs
-          , off-level nv cs s h w true apart, off-level nv cs s h w false apart, no-side nv cs s h w true none, no-side nv cs s h w false none)
+          omega (
+            arith,
+            bd-is nv cs s h (plusOn w),
+            at-bottom nv w true cs,
+            at-bottom nv w false cs,
+            off-level nv cs s h w true apart,
+            off-level nv cs s h w false apart,
+            no-side nv cs s h w true none,
+            no-side nv cs s h w false none,
+          )
         where
           apart : levelIn nv w ≡ h → ⊥
           apart k = omega (arith, low-level nv w g)
+
           none : sideCount cs (lowerIn nv w) (upperIn nv w) ≡ 0
           none = ap (sideCount cs (lowerIn nv w)) (ap (λ j. uppers nv j w) (low-level nv w g) ∙ low-highs nv w (g .1)) ∙ sumRows-countFaces-zero cs
+
       case : Good nv w → (t : Bool) → dimensionSign w ≡ t → (sumChain (plusOn w) true xa ≡ sumChain (plusOn w) true xb) × (sumChain (plusOn w) false xa ≡ sumChain (plusOn w) false xb)
       case g true k = omega (arith, rw k at (bottom xa sa g), rw k at (bottom xb sb g), e w .0, e w .1, sa .distinct w, sb .distinct w, plus-minus w xa, plus-minus w xb)
       case g false k = omega (arith, rw k at (bottom xa sa g), rw k at (bottom xb sb g), e w .0, e w .1, sa .distinct w, sb .distinct w, plus-minus w xa, plus-minus w xb)
+
       go : (total w xa ≡ 0) ⊎ Good nv w → (total w xb ≡ 0) ⊎ Good nv w → (sumChain (plusOn w) true xa ≡ sumChain (plusOn w) true xb) × (sumChain (plusOn w) false xa ≡ sumChain (plusOn w) false xb)
       go (inl p) (inl q) = omega (arith, plus-minus w xa, plus-minus w xb)
       go (inl p) (inr g) = case g (dimensionSign w) refl

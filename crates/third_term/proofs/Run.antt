@@ -128,8 +128,13 @@ module _ (d v h : ℕ) (x : Sitting) (u : Unrefused d v h x) where
   swept-shape : shapeOk maxDimension (suc d) (sweptVertices v h) (sweptCells d (x .s) h) ≡ true
   swept-shape =
       let cells-some : 0 < h * (x .s * suc d) = mul-pos (numbers .4) (mul-pos (numbers .1) (omega arith)) in
-      rw (le-leb (suc d) maxDimension (omega (arith, numbers .3)), le-leb 1 (sweptVertices v h) (omega (arith, numbers .0, suc-mul h v)), le-leb (sweptVertices v h) maxVertices (sweep-facts .vertices)
-      , le-leb 1 (sweptCells d (x .s) h) cells-some, le-leb (sweptCells d (x .s) h) maxCells (sweep-facts .cells)) refl
+      rw (
+        le-leb (suc d) maxDimension (omega (arith, numbers .3)),
+        le-leb 1 (sweptVertices v h) (omega (arith, numbers .0, suc-mul h v)),
+        le-leb (sweptVertices v h) maxVertices (sweep-facts .vertices),
+        le-leb 1 (sweptCells d (x .s) h) cells-some,
+        le-leb (sweptCells d (x .s) h) maxCells (sweep-facts .cells),
+      ) refl
 
   swept-length-is : length (sweptWritten d v h x) ≡ tableLength (suc d) (sweptCells d (x .s) h)
   swept-length-is = ap length swept-table-is ∙ words-length (suc d) (sweptVertices v h) T swept-is-solid swept-is-long ∙ ap (tableLength (suc d)) swept-count
@@ -144,8 +149,12 @@ module _ (d v h : ℕ) (x : Sitting) (u : Unrefused d v h x) where
   pub faces-accepts : (out : List ℕ) → length (boundary d v h x) * faceSize (suc d) ≤ length out → facesOutcome (toFaces d v h x out) ≡ accepted (length (boundary d v h x))
   unfolding facesOutcome facesRules boundaryCells
   faces-accepts out room =
-      rw (swept-shape, eq-eqb (length (sweptWritten d v h x)) (tableLength (suc d) (sweptCells d (x .s) h)) swept-length-is, swept-sound
-      , le-ltb (length out) (length (boundary d v h x) * faceSize (suc d)) room) refl
+      rw (
+        swept-shape,
+        eq-eqb (length (sweptWritten d v h x)) (tableLength (suc d) (sweptCells d (x .s) h)) swept-length-is,
+        swept-sound,
+        le-ltb (length out) (length (boundary d v h x) * faceSize (suc d)) room,
+      ) refl
 
   pub faces-writes : (out : List ℕ) → length (boundary d v h x) * faceSize (suc d) ≤ length out → facesBuffer (toFaces d v h x out) out ≡ written (boundaryWords d v h x) out
   unfolding facesBuffer boundaryCells

@@ -50,8 +50,8 @@ module _ (d v h : ℕ) (x : Sitting) (u : Unrefused d v h x) where
       coefficient-is w (boundary d v h x) ∙ ap (value w) (boundary-is d v h x u)
       ∙ coefficients v d h (solid d v h x) (is-solid d v h x u) (is-long d v h x u) w
       ∙ sym (ap₂ (λ y z. times-ℤ d y +ℤ z)
-        (ap₂ (λ y z. y -ℤ z) (coefficient-is w (topCopy v h (solid d v h x))) (coefficient-is w (solid d v h x)))
-        (coefficient-is w (sweepOf v h (ownBoundary (solid d v h x)))))
+      (ap₂ (λ y z. y -ℤ z) (coefficient-is w (topCopy v h (solid d v h x))) (coefficient-is w (solid d v h x)))
+      (coefficient-is w (sweepOf v h (ownBoundary (solid d v h x)))))
 
   pub boundary-of : BoundaryOf d v h x
   boundary-of =
@@ -60,21 +60,25 @@ module _ (d v h : ℕ) (x : Sitting) (u : Unrefused d v h x) where
         written = faces-writes d v h x u;
         read = cells-back d (boundary d v h x) boundary-long;
         distinct = λ w. subst (λ b. total w b ≤ 1) (sym (boundary-is d v h x u)) (lone-once (facets T) w);
-        sum = sum-is }
+        sum = sum-is;
+      }
 
 pub third-term : (d v h : ℕ) (x y : Sitting) → Unrefused d v h x → Unrefused d v h y → ThirdTerm d v h x y
 third-term d v h x y ux uy =
     record {
-      decides =
-        ((λ e. subst₂ Same (sym (boundary-is d v h x ux)) (sym (boundary-is d v h y uy))
-            (from-sums bx by (forth v h (solid d v h x) (solid d v h y) (is-solid d v h x ux) (is-solid d v h y uy) (to-sums (solid d v h x) (solid d v h y) e))))
-        , (λ e. from-sums (solid d v h x) (solid d v h y)
+      decides = (
+        (λ e. subst₂ Same (sym (boundary-is d v h x ux)) (sym (boundary-is d v h y uy))
+            (from-sums bx by (forth v h (solid d v h x) (solid d v h y) (is-solid d v h x ux) (is-solid d v h y uy) (to-sums (solid d v h x) (solid d v h y) e)))),
+        (λ e. from-sums (solid d v h x) (solid d v h y)
             (back v h (solid d v h x) (solid d v h y) (is-solid d v h x ux) (is-solid d v h y uy) (some-steps d v h x ux)
-            (to-sums bx by (subst₂ Same (boundary-is d v h x ux) (boundary-is d v h y uy) e)))));
+            (to-sums bx by (subst₂ Same (boundary-is d v h x ux) (boundary-is d v h y uy) e)))),
+      );
       first = boundary-of d v h x ux;
-      second = boundary-of d v h y uy }
+      second = boundary-of d v h y uy;
+    }
   where
     bx : List Cell
     bx = ownBoundary (sweepOf v h (solid d v h x))
+
     by : List Cell
     by = ownBoundary (sweepOf v h (solid d v h y))

@@ -24,9 +24,15 @@ accepted-long l x k e =
     let six = none .1 in
     let words = eqb-true (length (l .words)) (l .s * listSize (l .d)) (not-false (eqb (length (l .words)) (l .s * listSize (l .d))) (none .0)) in
     let ok =
-        passes l
-        (record {
-          sign = six .0; vertex = six .1 .0; twice = six .1 .1 .0; cell = six .1 .1 .1 .0; crowded = six .1 .1 .1 .1 .0; equal = six .1 .1 .1 .1 .1 .0 }) in
+    passes l
+    (record {
+      sign = six .0;
+      vertex = six .1 .0;
+      twice = six .1 .1 .0;
+      cell = six .1 .1 .1 .0;
+      crowded = six .1 .1 .1 .1 .0;
+      equal = six .1 .1 .1 .1 .1 .0;
+    }) in
     let solid = accepted-solid l words ok in
     let count : length (solidOf l) ≡ l .s = length-map (listedCells l) ascending ∙ tabulate-length (l .s) (λ p. cellOf (part (listSize (l .d)) p (l .words))) in
     by .0 ∙ ap (tableLength (l .d)) (sym count) ∙ sym (own.words-length (l .d) (l .v) (solidOf l) (solid .0) (solid .1))

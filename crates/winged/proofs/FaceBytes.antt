@@ -37,9 +37,13 @@ all-bytes d s ws = ap bytesOf (all-words-are d s ws) ∙ bytes-concat s (λ p. c
 concat-small : (m n : ℕ) (f : ℕ → List ℕ) → ((k : ℕ) → k < n → length (f k) ≤ m) → length (concat (tabulate n f)) ≤ n * m
 concat-small m zero f h = omega arith
 concat-small m (suc n) f h =
-    omega
-    (arith, length-append (f 0) (concat (tabulate n (λ k. f (suc k)))), h 0 (omega arith), suc-mul n m
-    , concat-small m n (λ k. f (suc k)) (λ k l. h (suc k) (omega arith)))
+    omega (
+      arith,
+      length-append (f 0) (concat (tabulate n (λ k. f (suc k)))),
+      h 0 (omega arith),
+      suc-mul n m,
+      concat-small m n (λ k. f (suc k)) (λ k l. h (suc k) (omega arith)),
+    )
 
 module _ (d : ℕ) (r : List ℕ) (long : length r ≡ recordSize d) where
   face-small : (a : ℕ) → a ≤ d → length (faceWords (entryOf d r) a) ≤ d + 1
@@ -80,6 +84,7 @@ module _ (n : ℕ) (xs row old : List ℕ) (en : n ≡ 0 + length xs) (er : row 
     where
       end : at + (at + n * 2 - at) ≡ at + length (bytesOf xs)
       end = omega (arith, twice)
+
       none : drop (length (take n row) * 2) (take (at + n * 2 - at) (drop at out)) ≡ []
       none =
           drop-of-length-le (take (at + n * 2 - at) (drop at out)) {i = length (take n row) * 2}

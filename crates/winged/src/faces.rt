@@ -11,13 +11,13 @@ ghost use Rattle.words.specs.Placed.{placed};
 ghost use Rattle.boundary.specs.Written.{cellWordsOf, allWords};
 ghost use Rattle.winged.specs.Host.{hostFaces, hostFacesBuffer};
 ghost use Rattle.winged.specs.Sent.{tableRoom, facesAnswer, facesAfter};
+use crate::sending::minus;
+use adjacency::sound::is_sound;
 use boundary::writing::count_faces;
 use boundary::writing::write_cell;
-use adjacency::sound::is_sound;
 use rules::limits::Shape;
 use words::copy::decode;
 use words::copy::encode;
-use crate::sending::minus;
 
 // The boundary faces of one cell as bytes from `at` on; the place behind them.
 fn cell_bytes(d: usize, entry: &[u16], at: usize, out: &mut [u8]) -> usize
@@ -67,7 +67,14 @@ fn faces_from(d: usize, v: usize, s: usize, table: &[u16], out: &mut [u8]) -> i6
     n as i64
 }
 
-pub fn faces_bytes(d: usize, v: usize, s: usize, table: &[u8], words: &mut [u16], faces: &mut [u8]) -> i64
+pub fn faces_bytes(
+    d: usize,
+    v: usize,
+    s: usize,
+    table: &[u8],
+    words: &mut [u16],
+    faces: &mut [u8],
+) -> i64
     requires { ⌜ length (now words) ≡ tableRoom ⌝ }
     ensures answer { λ r. ⌜ r ≡ hostFaces d v s (now (table .entry)) (now (faces .entry)) ⌝ }
     ensures buffer { λ _. ⌜ now (faces .exit) ≡ hostFacesBuffer d v s (now (table .entry)) (now (faces .entry)) ⌝ }

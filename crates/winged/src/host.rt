@@ -8,7 +8,14 @@ use crate::reading::wing_words;
 use crate::sending::room;
 use crate::sending::send;
 
-pub fn wing_bytes(d: usize, v: usize, s: usize, cells: &[u8], words: &mut [u16], table: &mut [u8]) -> i64
+pub fn wing_bytes(
+    d: usize,
+    v: usize,
+    s: usize,
+    cells: &[u8],
+    words: &mut [u16],
+    table: &mut [u8],
+) -> i64
     requires { ⌜ length (now words) ≡ tableRoom ⌝ }
     ensures answer { λ r. ⌜ r ≡ hostWing d v s (now (cells .entry)) (now (table .entry)) ⌝ }
     ensures buffer { λ _. ⌜ now (table .exit) ≡ hostWingBuffer d v s (now (cells .entry)) (now (table .entry)) ⌝ }
@@ -18,7 +25,15 @@ pub fn wing_bytes(d: usize, v: usize, s: usize, cells: &[u8], words: &mut [u16],
     send(a, &words[..m], table)
 }
 
-pub fn sweep_bytes(d: usize, v: usize, s: usize, h: usize, table: &[u8], words: &mut [u16], swept: &mut [u8]) -> i64
+pub fn sweep_bytes(
+    d: usize,
+    v: usize,
+    s: usize,
+    h: usize,
+    table: &[u8],
+    words: &mut [u16],
+    swept: &mut [u8],
+) -> i64
     requires { ⌜ length (now words) ≡ tableRoom ⌝ }
     ensures answer { λ r. ⌜ r ≡ hostSweep d v s h (now (table .entry)) (now (swept .entry)) ⌝ }
     ensures buffer { λ _. ⌜ now (swept .exit) ≡ hostSweepBuffer d v s h (now (table .entry)) (now (swept .entry)) ⌝ }

@@ -20,12 +20,27 @@ pub extern "C" fn winged_wing(d: u32, v: u32, s: u32, cells: &[u8], table: &mut 
 }
 
 #[no_mangle]
-pub extern "C" fn winged_sweep(d: u32, v: u32, s: u32, h: u32, table: &[u8], swept: &mut [u8]) -> i64
+pub extern "C" fn winged_sweep(
+    d: u32,
+    v: u32,
+    s: u32,
+    h: u32,
+    table: &[u8],
+    swept: &mut [u8],
+) -> i64
     ensures answer { λ r. ⌜ r ≡ hostSweep d v s h (now (table .entry)) (now (swept .entry)) ⌝ }
     ensures buffer { λ _. ⌜ now (swept .exit) ≡ hostSweepBuffer d v s h (now (table .entry)) (now (swept .entry)) ⌝ }
 {
     let mut words = [0u16; 69632];
-    sweep_bytes(d as usize, v as usize, s as usize, h as usize, table, &mut words, swept)
+    sweep_bytes(
+        d as usize,
+        v as usize,
+        s as usize,
+        h as usize,
+        table,
+        &mut words,
+        swept,
+    )
 }
 
 #[no_mangle]

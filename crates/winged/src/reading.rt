@@ -8,12 +8,12 @@ ghost use Rattle.complex.specs.Table.{tableOfList};
 ghost use Rattle.sweep.specs.Sweep.{sweptWords, sweepInput};
 ghost use Rattle.winged.specs.Host.{hostList};
 ghost use Rattle.winged.specs.Sent.{wingRead, sweepRead};
-use wing::wing;
 use rules::limits::Shape;
 use rules::refusal::Answer;
 use rules::refusal::Refusal;
 use sweep::limits::in_limits;
 use sweep::sweep;
+use wing::wing;
 use words::copy::decode;
 
 pub fn wing_words(d: usize, v: usize, s: usize, cells: &[u8], out: &mut [u16]) -> Answer

@@ -6,8 +6,8 @@ ghost use lib.ListN.{length};
 ghost use Rattle.rules.specs.Numbers.{outcomeOf};
 ghost use Rattle.winged.specs.Host.{hostAnswer};
 ghost use Rattle.winged.specs.Sent.{lesser, tableRoom, countOf, sent};
-use rules::refusal::number;
 use rules::refusal::Answer;
+use rules::refusal::number;
 use words::copy::encode;
 
 // Whole words of so many bytes, at most as many as the largest table has.

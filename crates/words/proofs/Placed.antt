@@ -30,9 +30,13 @@ placed-none at buf = ap (λ n. take at buf ++ drop n buf) (add-zero at) ∙ take
 pub placed-length : (at : ℕ) (xs buf : List ℕ) → at + length xs ≤ length buf → length (placed at xs buf) ≡ length buf
 unfolding placed
 placed-length at xs buf h =
-    omega
-    (arith, length-append (take at buf) (xs ++ drop (at + length xs) buf), length-append xs (drop (at + length xs) buf)
-    , length-drop (at + length xs) buf, length-take-le at buf (omega arith))
+    omega (
+      arith,
+      length-append (take at buf) (xs ++ drop (at + length xs) buf),
+      length-append xs (drop (at + length xs) buf),
+      length-drop (at + length xs) buf,
+      length-take-le at buf (omega arith),
+    )
 
 pub placed-then : (at : ℕ) (xs ys buf : List ℕ) → at + length xs ≤ length buf → placed (at + length xs) ys (placed at xs buf) ≡ placed at (xs ++ ys) buf
 unfolding placed
@@ -42,14 +46,19 @@ placed-then at xs ys buf h =
   where
     first : List ℕ
     first = take at buf ++ xs
+
     first-long : length first ≡ at + length xs
     first-long = omega (arith, length-append (take at buf) xs, length-take-le at buf (omega arith))
+
     split : placed at xs buf ≡ first ++ drop (at + length xs) buf
     split = sym (append-assoc (take at buf) xs (drop (at + length xs) buf))
+
     front : take (at + length xs) (placed at xs buf) ≡ first
     front = ap (take (at + length xs)) split ∙ take-at first (drop (at + length xs) buf) (at + length xs) first-long
+
     ends : at + length xs + length ys ≡ at + length (xs ++ ys)
     ends = omega (arith, length-append xs ys)
+
     back : drop (at + length xs + length ys) (placed at xs buf) ≡ drop (at + length (xs ++ ys)) buf
     back =
         sym (drop-drop (length ys) (at + length xs) (placed at xs buf))
@@ -88,9 +97,12 @@ pub concat-fits : (n k : ℕ) (f : ℕ → List ℕ) → k < n → length (conca
 concat-fits zero k f h = absurd (not-suc-le-zero h)
 concat-fits (suc n) zero f h = omega (arith, length-append (f 0) (concat (tabulate n (λ i. f (suc i)))))
 concat-fits (suc n) (suc k) f h =
-    omega
-    (arith, length-append (f 0) (concat (tabulate k (λ i. f (suc i)))), length-append (f 0) (concat (tabulate n (λ i. f (suc i))))
-    , concat-fits n k (λ i. f (suc i)) (le-of-suc-le-suc h))
+    omega (
+      arith,
+      length-append (f 0) (concat (tabulate k (λ i. f (suc i)))),
+      length-append (f 0) (concat (tabulate n (λ i. f (suc i)))),
+      concat-fits n k (λ i. f (suc i)) (le-of-suc-le-suc h),
+    )
 
 concat-append : {A : Type 0} (xss yss : List (List A)) → concat (xss ++ yss) ≡ concat xss ++ concat yss
 concat-append [] yss = refl
@@ -112,9 +124,13 @@ words-concat g (suc n) f =
 pub concat-tabulate-length : (m n : ℕ) (f : ℕ → List ℕ) → ((k : ℕ) → k < n → length (f k) ≡ m) → length (concat (tabulate n f)) ≡ n * m
 concat-tabulate-length m zero f h = sym (zero-mul m)
 concat-tabulate-length m (suc n) f h =
-    omega
-    (arith, length-append (f 0) (concat (tabulate n (λ k. f (suc k)))), h 0 (omega arith), suc-mul n m
-    , concat-tabulate-length m n (λ k. f (suc k)) (λ k l. h (suc k) (omega arith)))
+    omega (
+      arith,
+      length-append (f 0) (concat (tabulate n (λ k. f (suc k)))),
+      h 0 (omega arith),
+      suc-mul n m,
+      concat-tabulate-length m n (λ k. f (suc k)) (λ k l. h (suc k) (omega arith)),
+    )
 
 -- a buffer out with the first k + 1 records, and the place behind them
 pub record Added (at k : ℕ) (f : ℕ → List ℕ) (buf out : List ℕ) (next : ℕ) : Type 0 where
@@ -131,13 +147,17 @@ module _ (n at k here next : ℕ) (f : ℕ → List ℕ) (buf old out : List ℕ
     where
       all : List ℕ
       all = concat (tabulate (k + 1) f)
+
       more-long : length all ≡ length (concat (tabulate k f)) + length (f k)
       more-long = concat-more-long k f
+
       fits : length (concat (tabulate k f)) + length (f k) ≤ length (concat (tabulate n f))
       fits = concat-fits n k f hk
+
       words : out ≡ placed at all buf
       words =
           e' ∙ ap₂ {C = List ℕ} (λ m l. placed m (f k) l) eh e ∙ placed-then at (concat (tabulate k f)) (f k) buf (omega (arith, fits))
           ∙ ap (λ l. placed at l buf) (sym (concat-more k f))
+
       place : next ≡ at + length all
       place = omega (arith, en, eh, more-long)

@@ -110,17 +110,18 @@ returns-4 c =
     let three = c .before .before in
     let i = input (start-of three) in
     let o =
-        refused-at-15 i (inside (one (two three))) (right (two three)) (whole three)
-        (lt-ltb (i .room) (facesLength i) (omega (arith, c .if4 .taken, needed (c .before)))) in
+    refused-at-15 i (inside (one (two three))) (right (two three)) (whole three)
+    (lt-ltb (i .room) (facesLength i) (omega (arith, c .if4 .taken, needed (c .before)))) in
     (sym o, left-alone i 15 (start-of three .args .out .now) o)
 
 write-faces-requires : tie.Need-write-faces-requires
 write-faces-requires c κs =
     let three = c .before .before .before in
     let l = limits (one (two three)) in
-    let a = start-of three .args in
-    ((l .dimension, l .cells, long (two three))
-    , omega (arith, c .before .if4 .left, ap (λ n. n * (a .d + 1)) (c .before .before .count-faces .ensures .0), words-long (a .d) (a .s) (a .table .now) (long (two three))))
+    let a = start-of three .args in (
+      (l .dimension, l .cells, long (two three)),
+      omega (arith, c .before .if4 .left, ap (λ n. n * (a .d + 1)) (c .before .before .count-faces .ensures .0), words-long (a .d) (a .s) (a .table .now) (long (two three))),
+    )
 
 same-length : tie.Need-same-length
 same-length c = search needs
@@ -133,12 +134,13 @@ returns-5 c =
     let i = input (start-of three) in
     let call = c .before .before .write-faces in
     let o =
-        accepted-with i (inside (one (two three))) (right (two three)) (whole three)
-        (le-ltb (i .room) (facesLength i) (omega (arith, four .if4 .left, needed (four .before)))) in
-    let words = ap (λ cs. concat (map cellWords cs)) (cells three) ∙ words-are (a .d) (a .s) (a .table .now) in
-    (ap accepted (four .before .count-faces .ensures .0 ∙ sym (ap length (cells three))) ∙ sym o
-    , call .ensures .1 ∙ placed-first (allWords (a .d) (a .s) (a .table .now)) (a .out .now)
-      ∙ ap (λ (l : List ℕ). l ++ drop (length l) (a .out .now)) (sym words) ∙ left-written i (length (boundaryCells i)) (a .out .now) o)
+    accepted-with i (inside (one (two three))) (right (two three)) (whole three)
+    (le-ltb (i .room) (facesLength i) (omega (arith, four .if4 .left, needed (four .before)))) in
+    let words = ap (λ cs. concat (map cellWords cs)) (cells three) ∙ words-are (a .d) (a .s) (a .table .now) in (
+      ap accepted (four .before .count-faces .ensures .0 ∙ sym (ap length (cells three))) ∙ sym o,
+      call .ensures .1 ∙ placed-first (allWords (a .d) (a .s) (a .table .now)) (a .out .now)
+          ∙ ap (λ (l : List ℕ). l ++ drop (length l) (a .out .now)) (sym words) ∙ left-written i (length (boundaryCells i)) (a .out .now) o,
+    )
 
 pub faces-spec : {M : Type 1} → statement M
 faces-spec =

@@ -26,8 +26,8 @@ returns c =
     let new = call .key-text .last .1 .0 in
     let n = c .before .n .given .0 .0 in
     let w =
-        text-written (start .args .input .now) (start .args .text .now) (start .pre) new n
-        (sym (ap outcomeOf (c .before .n .given .1)) ∙ call .key-text .ensures .0) (call .key-text .ensures .1) in
+    text-written (start .args .input .now) (start .args .text .now) (start .pre) new n
+    (sym (ap outcomeOf (c .before .n .given .1)) ∙ call .key-text .ensures .0) (call .key-text .ensures .1) in
     ((w .0, sym (length-take-le n new (w .0))), w .1)
 
 same-length-2 : tie.Need-same-length-2

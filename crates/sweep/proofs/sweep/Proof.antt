@@ -126,8 +126,8 @@ returns-5 c =
     let four = c .before .before .before in
     let i = input (start-of four) in
     let o =
-        refused-at-15 i (within (one (two (three four)))) (right (two (three four))) (fits (three four)) (whole four)
-        (lt-ltb (i .room) (sweptLength i) (omega (arith, c .if5 .taken, long (c .before)))) in
+    refused-at-15 i (within (one (two (three four)))) (right (two (three four))) (fits (three four)) (whole four)
+    (lt-ltb (i .room) (sweptLength i) (omega (arith, c .if5 .taken, long (c .before)))) in
     (sym o, left-alone i 15 (start-of four .args .out .now) o)
 
 write-swept-requires : tie.Need-write-swept-requires
@@ -147,12 +147,13 @@ returns-6 c =
     let i = input (start-of four) in
     let call = c .before .before .write-swept in
     let o =
-        accepted-with i (within (one (two (three four)))) (right (two (three four))) (fits (three four)) (whole four)
-        (le-ltb (i .room) (sweptLength i) (omega (arith, five .if5 .left, long (five .before)))) in
-    let words = call-words (a .d) (a .v) (a .s) (a .h) (a .table .now) (i .room) in
-    (ap accepted (call .ensures .0 ∙ call-long (a .d) (a .v) (a .s) (a .h) (a .table .now) (ready four .long) (i .room)) ∙ sym o
-    , call .ensures .1 ∙ placed-first (allWords (a .d) (a .v) (a .s) (a .h) (a .table .now)) (a .out .now)
-      ∙ ap (λ (l : List ℕ). l ++ drop (length l) (a .out .now)) (sym words) ∙ left-written i (sweptLength i) (a .out .now) o)
+    accepted-with i (within (one (two (three four)))) (right (two (three four))) (fits (three four)) (whole four)
+    (le-ltb (i .room) (sweptLength i) (omega (arith, five .if5 .left, long (five .before)))) in
+    let words = call-words (a .d) (a .v) (a .s) (a .h) (a .table .now) (i .room) in (
+      ap accepted (call .ensures .0 ∙ call-long (a .d) (a .v) (a .s) (a .h) (a .table .now) (ready four .long) (i .room)) ∙ sym o,
+      call .ensures .1 ∙ placed-first (allWords (a .d) (a .v) (a .s) (a .h) (a .table .now)) (a .out .now)
+          ∙ ap (λ (l : List ℕ). l ++ drop (length l) (a .out .now)) (sym words) ∙ left-written i (sweptLength i) (a .out .now) o,
+    )
 
 pub sweep-spec : {M : Type 1} → statement M
 sweep-spec =

@@ -92,9 +92,10 @@ returns-4 c =
     let t = c .before .before .before in
     let e = else1 t in
     let a = start e .args in
-    let len = t .before .before .if2 .left in
-    (told-accepted (a .d) (a .v) (a .s) (a .cells .now) (a .table .now) (ok e) len (sym (c .if3 .left) ∙ t .write-table .ensures .0)
-    , t .write-table .ensures .1 ∙ table-left (a .d) (a .v) (a .s) (a .cells .now) (a .table .now) (ok e) len)
+    let len = t .before .before .if2 .left in (
+      told-accepted (a .d) (a .v) (a .s) (a .cells .now) (a .table .now) (ok e) len (sym (c .if3 .left) ∙ t .write-table .ensures .0),
+      t .write-table .ensures .1 ∙ table-left (a .d) (a .v) (a .s) (a .cells .now) (a .table .now) (ok e) len,
+    )
 
 pub wing-spec : {M : Type 1} → statement M
 wing-spec =

@@ -33,9 +33,10 @@ pair-at-requires : tie.Need-pair-at-requires Inv-loop μ-loop
 pair-at-requires c κs =
     let l = c .before .before .loop in
     let s = c .before .before .before in
-    let a = s .args in
-    ((s .pre .0, s .pre .1, l .inv .1, s .pre .2)
-    , (l .inv .2, l .inv .3, c .before .loop-test .taken, pairing-long (a .k) (a .n) (a .rows .now) (a .signs .now) (a .prev .now) (l .g) (a .wings .now) (l .wings) (l .found .crowded) (l .found .repeated) (l .found .equal) (l .inv .4) ∙ s .pre .3))
+    let a = s .args in (
+      (s .pre .0, s .pre .1, l .inv .1, s .pre .2),
+      (l .inv .2, l .inv .3, c .before .loop-test .taken, pairing-long (a .k) (a .n) (a .rows .now) (a .signs .now) (a .prev .now) (l .g) (a .wings .now) (l .wings) (l .found .crowded) (l .found .repeated) (l .found .equal) (l .inv .4) ∙ s .pre .3),
+    )
 
 -- the cell of key g is one of 4096
 small : (c : tie.In-loop Inv-loop μ-loop) → c .before .loop .here .cell < 4096
@@ -60,9 +61,13 @@ loop-less c = omega arith
 loop-again : tie.Need-loop-again Inv-loop μ-loop
 loop-again c =
     let l = c .before .before .before .before .loop in
-    let a = c .before .before .before .before .before .args in
-    (omega arith, l .inv .1, c .next .ensures .0, omega (arith, c .next .ensures .1, l .inv .3)
-    , pairing-more (a .k) (a .n) (a .rows .now) (a .signs .now) (a .prev .now) (l .g) (a .wings .now) (l .found .crowded) (l .found .repeated) (l .found .equal) (l .wings) _ _ _ _ (l .inv .4) (c .before .pair-at .ensures))
+    let a = c .before .before .before .before .before .args in (
+      omega arith,
+      l .inv .1,
+      c .next .ensures .0,
+      omega (arith, c .next .ensures .1, l .inv .3),
+      pairing-more (a .k) (a .n) (a .rows .now) (a .signs .now) (a .prev .now) (l .g) (a .wings .now) (l .found .crowded) (l .found .repeated) (l .found .equal) (l .wings) _ _ _ _ (l .inv .4) (c .before .pair-at .ensures),
+    )
 
 returns : tie.Need-returns Inv-loop μ-loop
 returns c =

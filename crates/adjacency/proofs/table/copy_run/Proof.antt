@@ -51,11 +51,12 @@ loop-again : tie.Need-loop-again Inv-loop μ-loop
 loop-again c =
     let l = c .before .before .loop in
     let s = c .before .before .before in
-    let a = s .args in
-    (omega arith
-    , ⊎-elim (λ w. ap length (w .2) ∙ length-set (l .table) _ _ ∙ l .inv .1) (λ w. ap length (w .1) ∙ l .inv .1) (c .if1 .came)
-    , ⊎-elim (λ w. run-more (a .n) (a .from) (a .to) (l .j) (a .words .now) (a .table .now) (l .table) (c .if1 .table) (s .pre .2) (l .inv .2) (w .0 .taken) (w .2))
-      (λ w. run-no-more (a .n) (a .from) (a .to) (l .j) (a .words .now) (a .table .now) (l .table) (c .if1 .table) (s .pre .2) (l .inv .2) (w .0 .left) (w .1)) (c .if1 .came))
+    let a = s .args in (
+      omega arith,
+      ⊎-elim (λ w. ap length (w .2) ∙ length-set (l .table) _ _ ∙ l .inv .1) (λ w. ap length (w .1) ∙ l .inv .1) (c .if1 .came),
+      ⊎-elim (λ w. run-more (a .n) (a .from) (a .to) (l .j) (a .words .now) (a .table .now) (l .table) (c .if1 .table) (s .pre .2) (l .inv .2) (w .0 .taken) (w .2))
+          (λ w. run-no-more (a .n) (a .from) (a .to) (l .j) (a .words .now) (a .table .now) (l .table) (c .if1 .table) (s .pre .2) (l .inv .2) (w .0 .left) (w .1)) (c .if1 .came),
+    )
 
 same-length : tie.Need-same-length Inv-loop μ-loop
 same-length c = omega arith

@@ -77,7 +77,7 @@ returns-3 c =
       e,
       c .before .before .fill .ensures
           ∙ taken-written (a .d) (a .v) (a .s) (a .cells .now) (t .last .1 .1 .1 .1 .1 .0) (t .last .1 .1 .1 .1 .1 .1 .0) (t .last .1 .1 .1 .1 .1 .1 .1 .0)
-            (a .table .now) (lim .0) (lim .2) (s .pre .1) (t .ensures .1 (else .before .if1 .left))
+          (a .table .now) (lim .0) (lim .2) (s .pre .1) (t .ensures .1 (else .before .if1 .left))
           ∙ after-accepted (a .d) (a .v) (a .s) (a .cells .now) (a .table .now) e,
     )
 

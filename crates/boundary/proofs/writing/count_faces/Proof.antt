@@ -76,17 +76,21 @@ loop-again : tie.Need-loop-again Inv-loop μ-loop
 loop-again c =
     let at = c .before .before .before in
     let a = at .before .before .args in
-    let count = c .count-cell .ensures .0 ∙ ap (λ ws. length (cellFaces (a .d) (entryOf (a .d) ws))) (lent-is (recordSize (a .d)) (at .loop .p) (a .table .now)) in
-    (omega arith, refl, omega (arith, c .count-cell .ensures .1, at .loop .inv .2)
-    , omega (arith, at .loop .inv .3, count, concat-more-long (at .loop .p) (λ p. cellFaces (a .d) (entryIn (a .d) (a .table .now) p))))
+    let count = c .count-cell .ensures .0 ∙ ap (λ ws. length (cellFaces (a .d) (entryOf (a .d) ws))) (lent-is (recordSize (a .d)) (at .loop .p) (a .table .now)) in (
+      omega arith,
+      refl,
+      omega (arith, c .count-cell .ensures .1, at .loop .inv .2),
+      omega (arith, at .loop .inv .3, count, concat-more-long (at .loop .p) (λ p. cellFaces (a .d) (entryIn (a .d) (a .table .now) p))),
+    )
 
 returns : tie.Need-returns Inv-loop μ-loop
 returns c =
     let at = c .before in
     let a = at .before .before .args in
-    let all : at .loop .p ≡ a .s = omega arith in
-    (at .loop .inv .3 ∙ ap (λ (m : ℕ). length (concat (tabulate m (λ p. cellFaces (a .d) (entryIn (a .d) (a .table .now) p))))) all ∙ sym (ap length (all-faces-are (a .d) (a .s) (a .table .now)))
-    , omega arith)
+    let all : at .loop .p ≡ a .s = omega arith in (
+      at .loop .inv .3 ∙ ap (λ (m : ℕ). length (concat (tabulate m (λ p. cellFaces (a .d) (entryIn (a .d) (a .table .now) p))))) all ∙ sym (ap length (all-faces-are (a .d) (a .s) (a .table .now))),
+      omega arith,
+    )
 
 pub count-faces-spec : {M : Type 1} → statement M
 count-faces-spec =

@@ -32,9 +32,10 @@ write-at-requires : tie.Need-write-at-requires Inv-loop μ-loop
 write-at-requires c κs =
     let at = c .before .before in
     let start = at .before .before .before in
-    let a = start .args in
-    ((start .pre .0, c .before .loop-test .taken)
-    , omega (arith, room start, at .loop .inv .1, at .loop .inv .2, concat-fits (a .d + 1) (at .loop .a) (faceWords (entryOf (a .d) (a .entry .now))) (omega (arith, c .before .loop-test .taken))))
+    let a = start .args in (
+      (start .pre .0, c .before .loop-test .taken),
+      omega (arith, room start, at .loop .inv .1, at .loop .inv .2, concat-fits (a .d + 1) (at .loop .a) (faceWords (entryOf (a .d) (a .entry .now))) (omega (arith, c .before .loop-test .taken))),
+    )
 
 add-a : tie.Need-add-a Inv-loop μ-loop
 add-a c = omega (arith, c .before .before .before .before .before .before .before .before .pre .0, c .before .before .before .before .loop-test .taken)
@@ -49,8 +50,8 @@ loop-again c =
     let a = start .args in
     let call = c .before .before .write-at in
     let more =
-        placed-record (a .d + 1) (a .at) (at .loop .a) (at .loop .next) (call .result) (faceWords (entryOf (a .d) (a .entry .now))) (a .out .now) (at .loop .out) _
-        (omega (arith, c .before .before .before .before .loop-test .taken)) (room start) (at .loop .inv .1) (at .loop .inv .3) (call .ensures .0) (call .ensures .1) in
+    placed-record (a .d + 1) (a .at) (at .loop .a) (at .loop .next) (call .result) (faceWords (entryOf (a .d) (a .entry .now))) (a .out .now) (at .loop .out) _
+    (omega (arith, c .before .before .before .before .loop-test .taken)) (room start) (at .loop .inv .1) (at .loop .inv .3) (call .ensures .0) (call .ensures .1) in
     (omega arith, more .place, more .long, more .words)
 
 same-length : tie.Need-same-length Inv-loop μ-loop

@@ -53,10 +53,12 @@ loop-again : tie.Need-loop-again Inv-loop μ-loop
 loop-again c =
     let at = c .before .before in
     let start = at .before .before .before in
-    let a = start .args in
-    (omega arith, length-set (at .loop .out) _ _ ∙ at .loop .inv .1
-    , placed-word (a .at) (at .loop .j) (c .face-word .result) (cellWords (face (a .a) (entryOf (a .d) (a .entry .now) .cell))) (a .out .now) (at .loop .out)
-      (omega (arith, words (at .before), c .before .loop-test .taken)) (start .pre .1) (at .loop .inv .2) (c .face-word .ensures))
+    let a = start .args in (
+      omega arith,
+      length-set (at .loop .out) _ _ ∙ at .loop .inv .1,
+      placed-word (a .at) (at .loop .j) (c .face-word .result) (cellWords (face (a .a) (entryOf (a .d) (a .entry .now) .cell))) (a .out .now) (at .loop .out)
+          (omega (arith, words (at .before), c .before .loop-test .taken)) (start .pre .1) (at .loop .inv .2) (c .face-word .ensures),
+    )
 
 add-result : tie.Need-add-result Inv-loop μ-loop
 add-result c = omega (arith, words (c .before .before))

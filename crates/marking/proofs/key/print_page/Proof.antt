@@ -53,8 +53,8 @@ returns-2 c =
     let new = put .put-refused .last .0 in
     let row = sym (ap outcomeOf (r .r .given .1)) ∙ key .page-key .ensures .0 in
     let text =
-        ap (λ j. spoken (refused j)) (put .before .number .ensures)
-        ∙ sym (printed-refused (a .input .now) _ (a .page .now) (key .page-key .last .1 .0) (key .page-key .ensures .1) row .0) in
+    ap (λ j. spoken (refused j)) (put .before .number .ensures)
+    ∙ sym (printed-refused (a .input .now) _ (a .page .now) (key .page-key .last .1 .0) (key .page-key .ensures .1) row .0) in
     subst (λ (t : List ℕ). (put .put-refused .result ≡ length t) × ((put .put-refused .result ≤ length new) × (take (put .put-refused .result) new ≡ t))) text
     (put-front (spoken (refused k)) _ new (put .put-refused .result) (put .put-refused .ensures))
 

@@ -112,9 +112,9 @@ returns-2 c =
     let page = s .args .page .now in
     let next = c .before .before .winged-key .ensures in
     let stage =
-        ap₂ {C = Outcome (List ℕ)} (λ ws ps. wingedKey (h .d) (h .n) (h .v) (h .s) (h .h) (h .step) ws ps (length page)) (front x .1) (front-points x .1)
-        ∙ ap (λ room. wingedKey (h .d) (h .n) (h .v) (h .s) (h .h) (h .step) (fileWords b) (filePoints b) room) (s .pre)
-        ∙ sym (key-read b h (ok x) (call x .before .before .before .if1 .left)) in
+    ap₂ {C = Outcome (List ℕ)} (λ ws ps. wingedKey (h .d) (h .n) (h .v) (h .s) (h .h) (h .step) ws ps (length page)) (front x .1) (front-points x .1)
+    ∙ ap (λ room. wingedKey (h .d) (h .n) (h .v) (h .s) (h .h) (h .step) (fileWords b) (filePoints b) room) (s .pre)
+    ∙ sym (key-read b h (ok x) (call x .before .before .before .if1 .left)) in
     (next .0 ∙ ap counted stage, next .1 ∙ ap (λ o. left o page) stage)
 
 returns-3 : tie.Need-returns-3
@@ -122,8 +122,8 @@ returns-3 c =
     let call = c .before .before .before .before .before in
     let page = start call .args .page .now in
     let stage =
-        sym (key-refused (bytes call) (call .before .before .before .if1 .left) (numberOf (c .before .r .given .0 .0))
-        (sym (call .read .ensures .0) ∙ ap outcomeOf (c .before .r .given .1))) in
+    sym (key-refused (bytes call) (call .before .before .before .if1 .left) (numberOf (c .before .r .given .0 .0))
+    (sym (call .read .ensures .0) ∙ ap outcomeOf (c .before .r .given .1))) in
     (ap counted stage, ap (λ o. left o page) stage)
 
 pub page-key-spec : {M : Type 1} → statement M

@@ -91,8 +91,8 @@ returns c =
     let page = a .page .now in
     let next = c .before .before .moved-key .ensures in
     let stage =
-        ap₂ {C = Outcome (List ℕ)} (λ d ws. movedKey d (a .n) (a .v) (a .h * (a .s * d)) (a .h) (a .step) ws (a .points .now) (length page)) (add-one (a .d)) (front m .1)
-        ∙ sym (swept-accepted (a .d) (a .n) (a .v) (a .s) (a .h) (a .step) (a .table .now) (a .points .now) (length page) (m .m .given .0 .0) (ok m)) in
+    ap₂ {C = Outcome (List ℕ)} (λ d ws. movedKey d (a .n) (a .v) (a .h * (a .s * d)) (a .h) (a .step) ws (a .points .now) (length page)) (add-one (a .d)) (front m .1)
+    ∙ sym (swept-accepted (a .d) (a .n) (a .v) (a .s) (a .h) (a .step) (a .table .now) (a .points .now) (length page) (m .m .given .0 .0) (ok m)) in
     (next .0 ∙ ap counted stage, next .1 ∙ ap (λ o. left o page) stage)
 
 returns-2 : tie.Need-returns-2
@@ -101,8 +101,8 @@ returns-2 c =
     let a = start call .args in
     let page = a .page .now in
     let stage =
-        sym (swept-refused (a .d) (a .n) (a .v) (a .s) (a .h) (a .step) (a .table .now) (a .points .now) (length page) (numberOf (c .before .r .given .0 .0))
-        (sym (call .sweep .ensures .0) ∙ ap outcomeOf (c .before .r .given .1))) in
+    sym (swept-refused (a .d) (a .n) (a .v) (a .s) (a .h) (a .step) (a .table .now) (a .points .now) (length page) (numberOf (c .before .r .given .0 .0))
+    (sym (call .sweep .ensures .0) ∙ ap outcomeOf (c .before .r .given .1))) in
     (ap counted stage, ap (λ o. left o page) stage)
 
 pub swept-key-spec : {M : Type 1} → statement M

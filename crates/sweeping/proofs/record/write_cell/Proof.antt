@@ -119,9 +119,13 @@ kept c n E e = ap length e ∙ placed-length (c .args .at) (take n (words c)) (c
 write-vertices-requires-2 : tie.Need-write-vertices-requires-2
 write-vertices-requires-2 c κs =
     let first = c .before .before .before in
-    let start = first .before .before .before .before .before .before in
-    (start .pre .0, ((omega arith, start .pre .1 .0 .1, omega arith)
-    , omega (arith, start .pre .1 .1, kept start (1 + (start .args .d + 1 - start .args .k)) _ (lowered first _ (first .write-vertices .ensures)))))
+    let start = first .before .before .before .before .before .before in (
+      start .pre .0,
+      (
+        (omega arith, start .pre .1 .0 .1, omega arith),
+        omega (arith, start .pre .1 .1, kept start (1 + (start .args .d + 1 - start .args .k)) _ (lowered first _ (first .write-vertices .ensures))),
+      ),
+    )
 
 same-length : tie.Need-same-length
 same-length c =

@@ -40,8 +40,8 @@ whole c old E eo e =
     placed-piece (a .at) (a .d + 3) (a .d + 2) (a .at + a .d + 3) (wingWord (a .d) (a .s) (a .h) (a .firsts .now) (a .rows .now) (a .cells .now) (a .i) (a .p) (a .k)) (words c) (a .out .now) _ _
     (omega (arith, long c)) (c .pre .1 .1 .1)
     (λ j l. wing-word (a .d) (a .v) (a .s) (a .h) (a .table .now) (c .pre .0) (a .i) (a .p) (c .pre .1 .0 .0) (c .pre .1 .0 .1) (a .firsts .now) (a .rows .now) (a .cells .now) (c .pre .1 .1 .0)
-      (a .k) j (c .pre .1 .0 .2) (omega arith)
-      ∙ sym (word-wing (a .d) (a .v) (a .s) (a .h) (a .table .now) (a .i) (a .p) (a .k) (c .pre .0 .long) (c .pre .1 .0 .1) (c .pre .1 .0 .2) j (omega arith)))
+    (a .k) j (c .pre .1 .0 .2) (omega arith)
+    ∙ sym (word-wing (a .d) (a .v) (a .s) (a .h) (a .table .now) (a .i) (a .p) (a .k) (c .pre .0 .long) (c .pre .1 .0 .1) (c .pre .1 .0 .2) j (omega arith)))
     (omega arith) eo e
     ∙ ap (λ (l : List ℕ). placed (a .at) l (a .out .now)) (ap (λ (n : ℕ). take n (words c)) all ∙ take-length (words c))
 
@@ -60,10 +60,13 @@ write-wings-requires : tie.Need-write-wings-requires
 write-wings-requires c κs =
     let cell = c .before .before .before in
     let start = cell .before .before .before .before in
-    let a = start .args in
-    (sides-fit (a .d) (a .v) (a .s) (a .h) (a .table .now) (start .pre .0) (a .i) (a .p) (start .pre .1 .0 .0) (start .pre .1 .0 .1) (a .firsts .now) (a .rows .now) (a .cells .now) (start .pre .1 .1 .0)
-    , ((start .pre .0 .dimension, start .pre .0 .cells, start .pre .1 .0 .0, start .pre .1 .0 .1, start .pre .1 .0 .2)
-      , omega (arith, start .pre .1 .1 .1, long start, kept start (start .args .d + 3) _ (cell .write-cell .ensures))))
+    let a = start .args in (
+      sides-fit (a .d) (a .v) (a .s) (a .h) (a .table .now) (start .pre .0) (a .i) (a .p) (start .pre .1 .0 .0) (start .pre .1 .0 .1) (a .firsts .now) (a .rows .now) (a .cells .now) (start .pre .1 .1 .0),
+      (
+        (start .pre .0 .dimension, start .pre .0 .cells, start .pre .1 .0 .0, start .pre .1 .0 .1, start .pre .1 .0 .2),
+        omega (arith, start .pre .1 .1 .1, long start, kept start (start .args .d + 3) _ (cell .write-cell .ensures)),
+      ),
+    )
 
 add-result : tie.Need-add-result
 add-result c = search needs

@@ -61,11 +61,13 @@ loop-again c =
     let at = c .before .before in
     let start = at .before .before in
     let a = start .args in
-    let f : ℕ → ℕ = (λ j. sideWord (a .firsts .now) (a .rows .now) (a .cells .now) (a .a + j) (a .l)) in
-    (omega arith, length-set (at .loop .out) _ _ ∙ at .loop .inv .1
-    , placed-word (a .at) (at .loop .j) _ (words start) (a .out .now) (at .loop .out)
-      (omega (arith, long start)) (omega (arith, long start)) (at .loop .inv .2)
-      (c .side-word .ensures ∙ sym (tabulate-at (a .count) f (at .loop .j) 0 (omega arith))))
+    let f : ℕ → ℕ = (λ j. sideWord (a .firsts .now) (a .rows .now) (a .cells .now) (a .a + j) (a .l)) in (
+      omega arith,
+      length-set (at .loop .out) _ _ ∙ at .loop .inv .1,
+      placed-word (a .at) (at .loop .j) _ (words start) (a .out .now) (at .loop .out)
+          (omega (arith, long start)) (omega (arith, long start)) (at .loop .inv .2)
+          (c .side-word .ensures ∙ sym (tabulate-at (a .count) f (at .loop .j) 0 (omega arith))),
+    )
 
 same-length : tie.Need-same-length Inv-loop μ-loop
 same-length c = search needs

@@ -44,9 +44,11 @@ lift-requires : tie.Need-lift-requires Inv-loop μ-loop
 lift-requires c κs =
     let at = c .before .before .before in
     let start = at .before .before .before in
-    let a = start .args in
-    (start .pre .0 .vertices, start .pre .1 .0 .0
-    , omega (arith, c .wide .ensures, c .before .vertex .ensures, start .pre .0 .low (a .p) (a .a + at .loop .j) (start .pre .1 .0 .1) (omega arith)))
+    let a = start .args in (
+      start .pre .0 .vertices,
+      start .pre .1 .0 .0,
+      omega (arith, c .wide .ensures, c .before .vertex .ensures, start .pre .0 .low (a .p) (a .a + at .loop .j) (start .pre .1 .0 .1) (omega arith)),
+    )
 
 add-out : tie.Need-add-out Inv-loop μ-loop
 add-out c = search needs
@@ -68,11 +70,13 @@ loop-again c =
     let at = c .before .before .before .before in
     let start = at .before .before .before in
     let a = start .args in
-    let f : ℕ → ℕ = (liftedFrom (a .d) (a .v) (a .s) (a .table .now) (a .i) (a .p) (a .a)) in
-    (omega arith, length-set (at .loop .out) _ _ ∙ at .loop .inv .1
-    , placed-word (a .at) (at .loop .j) _ (words start) (a .out .now) (at .loop .out)
-      (omega (arith, long start)) (omega (arith, long start)) (at .loop .inv .2)
-      (c .lift .ensures ∙ ap (atLevel (a .v) (a .i)) (c .before .wide .ensures ∙ c .before .before .vertex .ensures) ∙ sym (tabulate-at (a .n) f (at .loop .j) 0 (omega arith))))
+    let f : ℕ → ℕ = (liftedFrom (a .d) (a .v) (a .s) (a .table .now) (a .i) (a .p) (a .a)) in (
+      omega arith,
+      length-set (at .loop .out) _ _ ∙ at .loop .inv .1,
+      placed-word (a .at) (at .loop .j) _ (words start) (a .out .now) (at .loop .out)
+          (omega (arith, long start)) (omega (arith, long start)) (at .loop .inv .2)
+          (c .lift .ensures ∙ ap (atLevel (a .v) (a .i)) (c .before .wide .ensures ∙ c .before .before .vertex .ensures) ∙ sym (tabulate-at (a .n) f (at .loop .j) 0 (omega arith))),
+    )
 
 same-length : tie.Need-same-length Inv-loop μ-loop
 same-length c = search needs

@@ -54,7 +54,7 @@ lowered c E e =
     placed-piece (a .at) 1 (a .d - a .k) (a .at + 1) (λ j. sideOf start (a .k + 1 + j) (a .k)) (words start) (a .out .now) _ _
     (omega (arith, long start)) (room start)
     (λ j l. sym (tabulate-at (a .d + 2) (wingOf start) (1 + j) 0 (omega arith)
-      ∙ wing-low (a .d) (a .s) (a .h) (a .firsts .now) (a .rows .now) (a .cells .now) (a .i) (a .p) (a .k) (1 + j) (a .k + 1 + j) (omega arith) (omega arith) (omega arith)))
+    ∙ wing-low (a .d) (a .s) (a .h) (a .firsts .now) (a .rows .now) (a .cells .now) (a .i) (a .p) (a .k) (1 + j) (a .k + 1 + j) (omega arith) (omega arith) (omega arith)))
     (omega arith) (first (c .before .before)) e
 
 -- over the faces from 0,
@@ -70,8 +70,8 @@ raised c old E eo e =
     placed-piece (a .at) (1 + (a .d - a .k)) (a .k) (a .at + a .d + 1 - a .k) (λ j. sideOf start (0 + j) (less .less-one .result)) (words start) (a .out .now) _ _
     (omega (arith, long start)) (room start)
     (λ j l. ap (λ (n : ℕ). sideOf start (0 + j) n) (less .less-one .ensures)
-      ∙ sym (tabulate-at (a .d + 2) (wingOf start) (1 + (a .d - a .k) + j) 0 (omega arith)
-      ∙ wing-high (a .d) (a .s) (a .h) (a .firsts .now) (a .rows .now) (a .cells .now) (a .i) (a .p) (a .k) (1 + (a .d - a .k) + j) (0 + j) (omega arith) (omega arith) (omega arith) (omega arith)))
+    ∙ sym (tabulate-at (a .d + 2) (wingOf start) (1 + (a .d - a .k) + j) 0 (omega arith)
+    ∙ wing-high (a .d) (a .s) (a .h) (a .firsts .now) (a .rows .now) (a .cells .now) (a .i) (a .p) (a .k) (1 + (a .d - a .k) + j) (0 + j) (omega arith) (omega arith) (omega arith) (omega arith)))
     (omega arith) eo e
     ∙ ap (λ (n : ℕ). placed (a .at) (take n (words start)) (a .out .now)) all
 
@@ -85,9 +85,9 @@ last c E e =
     let all : a .d + 1 + 1 ≡ length (words start) = omega (arith, long start) in
     ap (λ (n : ℕ). set E n (c .wing-below .result)) place
     ∙ placed-word (a .at) (a .d + 1) (c .wing-below .result) (words start) (a .out .now) E (omega (arith, long start)) (room start) e
-      (c .wing-below .ensures
-      ∙ sym (tabulate-at (a .d + 2) (wingOf start) (a .d + 1) 0 (omega arith)
-        ∙ wing-last (a .d) (a .s) (a .h) (a .firsts .now) (a .rows .now) (a .cells .now) (a .i) (a .p) (a .k) (a .d + 1) (omega arith)))
+    (c .wing-below .ensures
+    ∙ sym (tabulate-at (a .d + 2) (wingOf start) (a .d + 1) 0 (omega arith)
+    ∙ wing-last (a .d) (a .s) (a .h) (a .firsts .now) (a .rows .now) (a .cells .now) (a .i) (a .p) (a .k) (a .d + 1) (omega arith)))
     ∙ ap (λ (l : List ℕ). placed (a .at) l (a .out .now)) (ap (λ (n : ℕ). take n (words start)) all ∙ take-length (words start))
 
 wing-above-requires : tie.Need-wing-above-requires
@@ -129,9 +129,13 @@ sub-write-sides-2 c = search needs
 write-sides-requires-2 : tie.Need-write-sides-requires-2
 write-sides-requires-2 c κs =
     let sides = c .before .before .before .before in
-    let start = sides .before .before .before .before in
-    (start .pre .0, ((start .pre .1 .0 .0, omega arith, λ l. omega (arith, c .before .less-one .ensures))
-    , omega (arith, start .pre .1 .1, kept start (1 + (start .args .d - start .args .k)) _ (lowered sides _ (sides .write-sides .ensures)))))
+    let start = sides .before .before .before .before in (
+      start .pre .0,
+      (
+        (start .pre .1 .0 .0, omega arith, λ l. omega (arith, c .before .less-one .ensures)),
+        omega (arith, start .pre .1 .1, kept start (1 + (start .args .d - start .args .k)) _ (lowered sides _ (sides .write-sides .ensures))),
+      ),
+    )
 
 wing-below-requires : tie.Need-wing-below-requires
 wing-below-requires c κs =

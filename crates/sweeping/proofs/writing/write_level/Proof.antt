@@ -35,9 +35,16 @@ write-prism-requires : tie.Need-write-prism-requires Inv-loop μ-loop
 write-prism-requires c κs =
     let at = c .before .before in
     let start = at .before .before .before in
-    let a = start .args in
-    (start .pre .0, (start .pre .1 .0, ((start .pre .1 .1 .0, c .before .loop-test .taken)
-    , omega (arith, room start, at .loop .inv .1, at .loop .inv .2, concat-fits (a .s) (at .loop .p) (prismWords (a .d) (a .v) (a .s) (a .h) (a .table .now) (a .i)) (c .before .loop-test .taken)))))
+    let a = start .args in (
+      start .pre .0,
+      (
+        start .pre .1 .0,
+        (
+          (start .pre .1 .1 .0, c .before .loop-test .taken),
+          omega (arith, room start, at .loop .inv .1, at .loop .inv .2, concat-fits (a .s) (at .loop .p) (prismWords (a .d) (a .v) (a .s) (a .h) (a .table .now) (a .i)) (c .before .loop-test .taken)),
+        ),
+      ),
+    )
 
 add-p : tie.Need-add-p Inv-loop μ-loop
 add-p c = search needs
@@ -52,8 +59,8 @@ loop-again c =
     let a = start .args in
     let call = c .before .before .write-prism in
     let more =
-        placed-record (a .s) (a .at) (at .loop .p) (at .loop .next) (call .result) (prismWords (a .d) (a .v) (a .s) (a .h) (a .table .now) (a .i)) (a .out .now) (at .loop .out) _
-        (omega (arith, c .before .before .before .before .loop-test .taken)) (room start) (at .loop .inv .1) (at .loop .inv .3) (call .ensures .0) (call .ensures .1) in
+    placed-record (a .s) (a .at) (at .loop .p) (at .loop .next) (call .result) (prismWords (a .d) (a .v) (a .s) (a .h) (a .table .now) (a .i)) (a .out .now) (at .loop .out) _
+    (omega (arith, c .before .before .before .before .loop-test .taken)) (room start) (at .loop .inv .1) (at .loop .inv .3) (call .ensures .0) (call .ensures .1) in
     (omega arith, more .place, more .long, more .words)
 
 same-length : tie.Need-same-length Inv-loop μ-loop

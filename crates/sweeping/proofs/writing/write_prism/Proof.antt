@@ -41,10 +41,22 @@ write-record-requires : tie.Need-write-record-requires Inv-loop μ-loop
 write-record-requires c κs =
     let at = c .before .before .before .before in
     let start = at .before .before .before .before .before .before .before in
-    let a = start .args in
-    (start .pre .0, ((start .pre .1 .1 .0 .0, start .pre .1 .1 .0 .1, c .before .before .before .loop-test .taken), (record { first = at .before .before .before .face-firsts .ensures; row = at .before .face-rows .ensures; cell = start .pre .1 .0 }
-    , omega (arith, room start, at .loop .inv .1, at .loop .inv .2
-      , concat-fits (a .d + 1) (at .loop .k) (recordWords (a .d) (a .v) (a .s) (a .h) (a .table .now) (a .i) (a .p)) (omega (arith, c .before .before .before .loop-test .taken))))))
+    let a = start .args in (
+      start .pre .0,
+      (
+        (start .pre .1 .1 .0 .0, start .pre .1 .1 .0 .1, c .before .before .before .loop-test .taken),
+        (
+          record { first = at .before .before .before .face-firsts .ensures; row = at .before .face-rows .ensures; cell = start .pre .1 .0 },
+          omega (
+            arith,
+            room start,
+            at .loop .inv .1,
+            at .loop .inv .2,
+            concat-fits (a .d + 1) (at .loop .k) (recordWords (a .d) (a .v) (a .s) (a .h) (a .table .now) (a .i) (a .p)) (omega (arith, c .before .before .before .loop-test .taken)),
+          ),
+        ),
+      ),
+    )
 
 add-k : tie.Need-add-k Inv-loop μ-loop
 add-k c = search needs
@@ -59,8 +71,8 @@ loop-again c =
     let a = start .args in
     let call = c .before .before .write-record in
     let more =
-        placed-record (a .d + 1) (a .at) (at .loop .k) (at .loop .next) (call .result) (recordWords (a .d) (a .v) (a .s) (a .h) (a .table .now) (a .i) (a .p)) (a .out .now) (at .loop .out) _
-        (omega (arith, c .before .before .before .before .before .before .loop-test .taken)) (room start) (at .loop .inv .1) (at .loop .inv .3) (call .ensures .0) (call .ensures .1) in
+    placed-record (a .d + 1) (a .at) (at .loop .k) (at .loop .next) (call .result) (recordWords (a .d) (a .v) (a .s) (a .h) (a .table .now) (a .i) (a .p)) (a .out .now) (at .loop .out) _
+    (omega (arith, c .before .before .before .before .before .before .loop-test .taken)) (room start) (at .loop .inv .1) (at .loop .inv .3) (call .ensures .0) (call .ensures .1) in
     (omega (arith, c .before .before .before .before .before .before .loop-test .taken), more .place, more .long, more .words)
 
 same-length : tie.Need-same-length Inv-loop μ-loop

@@ -37,9 +37,16 @@ write-level-requires : tie.Need-write-level-requires Inv-loop μ-loop
 write-level-requires c κs =
     let at = c .before .before .before in
     let start = at .before .before .before .before in
-    let a = start .args in
-    (start .pre .0, (at .before .side-cells .ensures, (c .before .before .loop-test .taken
-    , omega (arith, room start, at .loop .inv .1, at .loop .inv .2, concat-fits (a .h) (at .loop .i) (levelWords (a .d) (a .v) (a .s) (a .h) (a .table .now)) (c .before .before .loop-test .taken)))))
+    let a = start .args in (
+      start .pre .0,
+      (
+        at .before .side-cells .ensures,
+        (
+          c .before .before .loop-test .taken,
+          omega (arith, room start, at .loop .inv .1, at .loop .inv .2, concat-fits (a .h) (at .loop .i) (levelWords (a .d) (a .v) (a .s) (a .h) (a .table .now)) (c .before .before .loop-test .taken)),
+        ),
+      ),
+    )
 
 add-i : tie.Need-add-i Inv-loop μ-loop
 add-i c = search needs
@@ -54,8 +61,8 @@ loop-again c =
     let a = start .args in
     let call = c .before .before .write-level in
     let more =
-        placed-record (a .h) (0) (at .loop .i) (at .loop .next) (call .result) (levelWords (a .d) (a .v) (a .s) (a .h) (a .table .now)) (a .out .now) (at .loop .out) _
-        (omega (arith, c .before .before .before .before .before .loop-test .taken)) (room start) (at .loop .inv .1) (at .loop .inv .3) (call .ensures .0) (call .ensures .1) in
+    placed-record (a .h) (0) (at .loop .i) (at .loop .next) (call .result) (levelWords (a .d) (a .v) (a .s) (a .h) (a .table .now)) (a .out .now) (at .loop .out) _
+    (omega (arith, c .before .before .before .before .before .loop-test .taken)) (room start) (at .loop .inv .1) (at .loop .inv .3) (call .ensures .0) (call .ensures .1) in
     (omega arith, more .place, more .long, more .words)
 
 same-length : tie.Need-same-length Inv-loop μ-loop

@@ -65,9 +65,11 @@ encode-requires c κs =
     let w = c .before .before .before in
     let a = start w .args in
     let n = w .write-cell .result in
-    omega
-    (arith, length-take-le n (row w) (fits w)
-    , length-take-le (a .at + n * 2 - a .at) (drop (a .at) (a .out .now)) (omega (arith, length-drop (a .at) (a .out .now), room w)))
+    omega (
+      arith,
+      length-take-le n (row w) (fits w),
+      length-take-le (a .at + n * 2 - a .at) (drop (a .at) (a .out .now)) (omega (arith, length-drop (a .at) (a .out .now), room w)),
+    )
 
 same-length : tie.Need-same-length
 same-length c = search needs
@@ -75,10 +77,11 @@ same-length c = search needs
 returns : tie.Need-returns
 returns c =
     let w = c .before .before .before .before .before .before in
-    let a = start w .args in
-    (omega (arith, w .write-cell .ensures .0, bytes-length (words w))
-    , part-placed (w .write-cell .result) (words w) (row w) _ (w .write-cell .ensures .0) (w .write-cell .ensures .1) (a .at) (a .out .now) _ (room w)
-      (c .before .before .encode .ensures))
+    let a = start w .args in (
+      omega (arith, w .write-cell .ensures .0, bytes-length (words w)),
+      part-placed (w .write-cell .result) (words w) (row w) _ (w .write-cell .ensures .0) (w .write-cell .ensures .1) (a .at) (a .out .now) _ (room w)
+          (c .before .before .encode .ensures),
+    )
 
 pub cell-bytes-spec : {M : Type 1} → statement M
 cell-bytes-spec =

@@ -109,9 +109,10 @@ returns-3 c =
     let two = w .before .before in
     let a = start (two .before) .args in
     let words = front w .1 in
-    let host = host-right (a .d) (a .v) (a .s) (a .table .now) (a .faces .now) (two .if2 .left) in
-    (toZ-ofZ w64 _ (search needs) ∙ call .faces-from .ensures .0 ∙ ap (λ ws. facesAnswer (a .d) (a .v) (a .s) ws (a .faces .now)) words ∙ host .0
-    , call .faces-from .ensures .1 ∙ ap (λ ws. facesAfter (a .d) (a .v) (a .s) ws (a .faces .now)) words ∙ host .1)
+    let host = host-right (a .d) (a .v) (a .s) (a .table .now) (a .faces .now) (two .if2 .left) in (
+      toZ-ofZ w64 _ (search needs) ∙ call .faces-from .ensures .0 ∙ ap (λ ws. facesAnswer (a .d) (a .v) (a .s) ws (a .faces .now)) words ∙ host .0,
+      call .faces-from .ensures .1 ∙ ap (λ ws. facesAfter (a .d) (a .v) (a .s) ws (a .faces .now)) words ∙ host .1,
+    )
 
 pub faces-bytes-spec : {M : Type 1} → statement M
 faces-bytes-spec =

@@ -90,8 +90,8 @@ returns-2 c =
     let s = from n in
     let a = s .args in
     let o =
-        refused-at-15 (input s) (s .pre .0) (right s) (whole (n .before))
-        (lt-ltb (input s .room) (facesLength (input s)) (omega (arith, c .before .if2 .taken, needed n))) in
+    refused-at-15 (input s) (s .pre .0) (right s) (whole (n .before))
+    (lt-ltb (input s .room) (facesLength (input s)) (omega (arith, c .before .if2 .taken, needed n))) in
     let told = told-refused (a .d) (a .v) (a .s) (a .table .now) (a .out .now) 15 o in
     (toZ-ofZ w64 _ (search needs) ∙ c .minus2 .ensures ∙ told .0, told .1)
 
@@ -99,11 +99,16 @@ write-bytes-requires : tie.Need-write-bytes-requires
 write-bytes-requires c κs =
     let n = c .before .before in
     let s = from n in
-    let a = s .args in
-    ((limits s .dimension, limits s .cells, s .pre .1)
-    , omega
-      (arith, c .before .if2 .left, ap (λ k. k * (a .d + 1)) (n .count-faces .ensures .0), words-long (a .d) (a .s) (a .table .now) (s .pre .1)
-      , bytes-length (allWords (a .d) (a .s) (a .table .now))))
+    let a = s .args in (
+      (limits s .dimension, limits s .cells, s .pre .1),
+      omega (
+        arith,
+        c .before .if2 .left,
+        ap (λ k. k * (a .d + 1)) (n .count-faces .ensures .0),
+        words-long (a .d) (a .s) (a .table .now) (s .pre .1),
+        bytes-length (allWords (a .d) (a .s) (a .table .now)),
+      ),
+    )
 
 cast-result : tie.Need-cast-result
 cast-result c = search needs
@@ -118,13 +123,14 @@ returns-3 c =
     let s = from n in
     let a = s .args in
     let o =
-        accepted-with (input s) (s .pre .0) (right s) (whole (n .before))
-        (le-ltb (input s .room) (facesLength (input s)) (omega (arith, two .if2 .left, needed n))) in
+    accepted-with (input s) (s .pre .0) (right s) (whole (n .before))
+    (le-ltb (input s .room) (facesLength (input s)) (omega (arith, two .if2 .left, needed n))) in
     let told = told-accepted (a .d) (a .v) (a .s) (a .table .now) (a .out .now) (length (boundaryCells (input s))) o in
-    let words = ap (λ cs. concat (map cellWords cs)) (cells s) ∙ words-are (a .d) (a .s) (a .table .now) in
-    (toZ-pos w64 (n .count-faces .result * (a .d + 1)) (omega (arith, few n)) ∙ ap pos (needed n) ∙ told .0
-    , c .before .before .write-bytes .ensures ∙ placed-first (bytesOf (allWords (a .d) (a .s) (a .table .now))) (a .out .now)
-      ∙ ap (λ (l : List ℕ). bytesOf l ++ drop (length (bytesOf l)) (a .out .now)) (sym words) ∙ told .1)
+    let words = ap (λ cs. concat (map cellWords cs)) (cells s) ∙ words-are (a .d) (a .s) (a .table .now) in (
+      toZ-pos w64 (n .count-faces .result * (a .d + 1)) (omega (arith, few n)) ∙ ap pos (needed n) ∙ told .0,
+      c .before .before .write-bytes .ensures ∙ placed-first (bytesOf (allWords (a .d) (a .s) (a .table .now))) (a .out .now)
+          ∙ ap (λ (l : List ℕ). bytesOf l ++ drop (length (bytesOf l)) (a .out .now)) (sym words) ∙ told .1,
+    )
 
 pub faces-from-spec : {M : Type 1} → statement M
 faces-from-spec =

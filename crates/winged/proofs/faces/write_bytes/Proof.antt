@@ -69,10 +69,17 @@ cell-bytes-requires c κs =
     let start = at .before .before .before in
     let a = start .args in
     let n = recordSize (a .d) in
-    let lent = lent-is n (at .loop .p) (a .table .now) in
-    ((start .pre .0 .0, ap length lent ∙ part-long n (at .loop .p) (a .s) (a .table .now) (c .before .before .loop-test .taken) (start .pre .0 .2))
-    , omega (arith, room start, at .loop .inv .2, at .loop .inv .3, ap (λ ws. length (bytesOf (cellWordsOf (a .d) (entryOf (a .d) ws)))) lent
-      , concat-fits (a .s) (at .loop .p) (λ p. bytesOf (cellWordsOf (a .d) (entryIn (a .d) (a .table .now) p))) (c .before .before .loop-test .taken)))
+    let lent = lent-is n (at .loop .p) (a .table .now) in (
+      (start .pre .0 .0, ap length lent ∙ part-long n (at .loop .p) (a .s) (a .table .now) (c .before .before .loop-test .taken) (start .pre .0 .2)),
+      omega (
+        arith,
+        room start,
+        at .loop .inv .2,
+        at .loop .inv .3,
+        ap (λ ws. length (bytesOf (cellWordsOf (a .d) (entryOf (a .d) ws)))) lent,
+        concat-fits (a .s) (at .loop .p) (λ p. bytesOf (cellWordsOf (a .d) (entryIn (a .d) (a .table .now) p))) (c .before .before .loop-test .taken),
+      ),
+    )
 
 add-p : tie.Need-add-p Inv-loop μ-loop
 add-p c = search needs
@@ -88,10 +95,10 @@ loop-again c =
     let call = c .before .before .cell-bytes in
     let lent = lent-is (recordSize (a .d)) (at .loop .p) (a .table .now) in
     let more =
-        placed-record (a .s) 0 (at .loop .p) (at .loop .next) (call .result) (λ p. bytesOf (cellWordsOf (a .d) (entryIn (a .d) (a .table .now) p))) (a .out .now) (at .loop .out) _
-        (c .before .before .before .before .before .loop-test .taken) (room start) (at .loop .inv .2) (at .loop .inv .4)
-        (call .ensures .0 ∙ ap (λ ws. at .loop .next + length (bytesOf (cellWordsOf (a .d) (entryOf (a .d) ws)))) lent)
-        (call .ensures .1 ∙ ap (λ ws. placed (at .loop .next) (bytesOf (cellWordsOf (a .d) (entryOf (a .d) ws))) (at .loop .out)) lent) in
+    placed-record (a .s) 0 (at .loop .p) (at .loop .next) (call .result) (λ p. bytesOf (cellWordsOf (a .d) (entryIn (a .d) (a .table .now) p))) (a .out .now) (at .loop .out) _
+    (c .before .before .before .before .before .loop-test .taken) (room start) (at .loop .inv .2) (at .loop .inv .4)
+    (call .ensures .0 ∙ ap (λ ws. at .loop .next + length (bytesOf (cellWordsOf (a .d) (entryOf (a .d) ws)))) lent)
+    (call .ensures .1 ∙ ap (λ ws. placed (at .loop .next) (bytesOf (cellWordsOf (a .d) (entryOf (a .d) ws))) (at .loop .out)) lent) in
     (omega arith, refl, more .place, more .long, more .words)
 
 same-length : tie.Need-same-length Inv-loop μ-loop

@@ -34,7 +34,7 @@ same c = let r = c .before .before .before in c .words .given .0 ∙ length-take
 
 -- its answer
 abbrev answer : tie.After-sweep-words → List ℕ
-answer c = 
+answer c =
     let r = c .before .before in
     let a = start r .args in
     sweptWords (sweepInput (a .d) (a .v) (a .s) (a .h) (words16 (a .table .now)) (length (take (r .room .result) (a .words .now))))
@@ -91,11 +91,12 @@ returns c =
     let o = outcomeOf (w .before .sweep-words .result) in
     let cut = length-take-le (r .room .result) (a .words .now) (m r .0) ∙ r .room .ensures in
     let read = w .before .sweep-words .ensures .0 ∙ ap (λ x. sweepRead (a .d) (a .v) (a .s) (a .h) (a .table .now) x) cut ∙ sweep-room (a .d) (a .v) (a .s) (a .h) (a .table .now) (wordsIn (a .swept .now)) in
-    let host = sweep-host (a .d) (a .v) (a .s) (a .h) (a .table .now) (wordsIn (a .swept .now)) (a .swept .now) o refl read in
-    (toZ-ofZ w64 _ (search needs) ∙ call .ensures .0 ∙ host .0
-    , call .ensures .1
-      ∙ relayed (a .words .now) (left (w .before)) (r .room .result) (same w) (answer (w .before)) (take (r .room .result) (a .words .now)) (a .swept .now) o (long (w .before)) (w .before .sweep-words .ensures .1)
-      ∙ ap (λ t. after o (bytesOf t) (a .swept .now)) (words-apart (a .d) (a .v) (a .s) (a .h) (words16 (a .table .now)) _ _) ∙ host .1)
+    let host = sweep-host (a .d) (a .v) (a .s) (a .h) (a .table .now) (wordsIn (a .swept .now)) (a .swept .now) o refl read in (
+      toZ-ofZ w64 _ (search needs) ∙ call .ensures .0 ∙ host .0,
+      call .ensures .1
+          ∙ relayed (a .words .now) (left (w .before)) (r .room .result) (same w) (answer (w .before)) (take (r .room .result) (a .words .now)) (a .swept .now) o (long (w .before)) (w .before .sweep-words .ensures .1)
+          ∙ ap (λ t. after o (bytesOf t) (a .swept .now)) (words-apart (a .d) (a .v) (a .s) (a .h) (words16 (a .table .now)) _ _) ∙ host .1,
+    )
 
 pub sweep-bytes-spec : {M : Type 1} → statement M
 sweep-bytes-spec =

@@ -87,11 +87,12 @@ returns c =
     let o = outcomeOf (w .before .wing-words .result) in
     let cut = length-take-le (r .room .result) (a .words .now) (m r .0) ∙ r .room .ensures in
     let read = w .before .wing-words .ensures .0 ∙ ap (λ x. wingRead (a .d) (a .v) (a .s) (a .cells .now) x) cut ∙ wing-room (a .d) (a .v) (a .s) (a .cells .now) (wordsIn (a .table .now)) in
-    let host = wing-host (a .d) (a .v) (a .s) (a .cells .now) (wordsIn (a .table .now)) (a .table .now) o refl read in
-    (toZ-ofZ w64 _ (search needs) ∙ call .ensures .0 ∙ host .0
-    , call .ensures .1
-      ∙ relayed (a .words .now) (left (w .before)) (r .room .result) (same w) (answer (w .before)) (take (r .room .result) (a .words .now)) (a .table .now) o (long (w .before)) (w .before .wing-words .ensures .1)
-      ∙ host .1)
+    let host = wing-host (a .d) (a .v) (a .s) (a .cells .now) (wordsIn (a .table .now)) (a .table .now) o refl read in (
+      toZ-ofZ w64 _ (search needs) ∙ call .ensures .0 ∙ host .0,
+      call .ensures .1
+          ∙ relayed (a .words .now) (left (w .before)) (r .room .result) (same w) (answer (w .before)) (take (r .room .result) (a .words .now)) (a .table .now) o (long (w .before)) (w .before .wing-words .ensures .1)
+          ∙ host .1,
+    )
 
 pub wing-bytes-spec : {M : Type 1} → statement M
 wing-bytes-spec =

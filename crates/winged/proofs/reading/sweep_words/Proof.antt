@@ -102,10 +102,11 @@ returns-4 c =
     let a = start (two .before) .args in
     let words = front (call .before .before .before .before) .1 in
     let x = length (a .out .now) in
-    let o = call .sweep .ensures .0 ∙ ap (λ ws. sweepOutcome (sweepInput (a .d) (a .v) (a .s) (a .h) ws x)) words in
-    (o ∙ sweep-right (a .d) (a .v) (a .s) (a .h) (a .table .now) x (two .if2 .left)
-    , call .sweep .ensures .1 ∙ ap (λ ws. sweepBuffer (sweepInput (a .d) (a .v) (a .s) (a .h) ws x) (a .out .now)) words
-      ∙ sweep-after _ (sweepInput (a .d) (a .v) (a .s) (a .h) (words16 (a .table .now)) x) (a .out .now) o)
+    let o = call .sweep .ensures .0 ∙ ap (λ ws. sweepOutcome (sweepInput (a .d) (a .v) (a .s) (a .h) ws x)) words in (
+      o ∙ sweep-right (a .d) (a .v) (a .s) (a .h) (a .table .now) x (two .if2 .left),
+      call .sweep .ensures .1 ∙ ap (λ ws. sweepBuffer (sweepInput (a .d) (a .v) (a .s) (a .h) ws x) (a .out .now)) words
+          ∙ sweep-after _ (sweepInput (a .d) (a .v) (a .s) (a .h) (words16 (a .table .now)) x) (a .out .now) o,
+    )
 
 pub sweep-words-spec : {M : Type 1} → statement M
 sweep-words-spec =

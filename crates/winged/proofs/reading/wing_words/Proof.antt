@@ -90,10 +90,11 @@ returns-3 c =
     let a = start (two .before) .args in
     let words = front (call .before .before .before .before) .1 in
     let x = length (a .out .now) in
-    let o = call .wing .ensures .0 ∙ ap (λ ws. wingOutcome (wingInput (a .d) (a .v) (a .s) ws x)) words in
-    (o ∙ wing-right (a .d) (a .v) (a .s) (a .cells .now) x (two .if2 .left)
-    , call .wing .ensures .1 ∙ ap (λ ws. wingBuffer (wingInput (a .d) (a .v) (a .s) ws x) (a .out .now)) words
-      ∙ wing-after _ (wingInput (a .d) (a .v) (a .s) (words16 (a .cells .now)) x) (a .out .now) o)
+    let o = call .wing .ensures .0 ∙ ap (λ ws. wingOutcome (wingInput (a .d) (a .v) (a .s) ws x)) words in (
+      o ∙ wing-right (a .d) (a .v) (a .s) (a .cells .now) x (two .if2 .left),
+      call .wing .ensures .1 ∙ ap (λ ws. wingBuffer (wingInput (a .d) (a .v) (a .s) ws x) (a .out .now)) words
+          ∙ wing-after _ (wingInput (a .d) (a .v) (a .s) (words16 (a .cells .now)) x) (a .out .now) o,
+    )
 
 pub wing-words-spec : {M : Type 1} → statement M
 wing-words-spec =

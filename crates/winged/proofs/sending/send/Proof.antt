@@ -57,17 +57,19 @@ returns c =
     let e = c .before .before .before .before .before .before in
     let s = e .before .before .before .before in
     let n = e .a .given .0 .0 in
-    let call = c .before .before .encode in
-    (toZ-pos w64 n (small e) ∙ ap (λ (a : Answer). hostAnswer (outcomeOf a)) (sym (e .a .given .1))
-    , call .ensures ∙ ap (λ m. bytesOf (take n (s .args .words .now)) ++ drop (m * 2) (s .args .out .now)) (length-take-le n (s .args .words .now) (fits e .0))
-      ∙ ap (λ (a : Answer). sent (outcomeOf a) (s .args .words .now) (s .args .out .now)) (sym (e .a .given .1)))
+    let call = c .before .before .encode in (
+      toZ-pos w64 n (small e) ∙ ap (λ (a : Answer). hostAnswer (outcomeOf a)) (sym (e .a .given .1)),
+      call .ensures ∙ ap (λ m. bytesOf (take n (s .args .words .now)) ++ drop (m * 2) (s .args .out .now)) (length-take-le n (s .args .words .now) (fits e .0))
+          ∙ ap (λ (a : Answer). sent (outcomeOf a) (s .args .words .now) (s .args .out .now)) (sym (e .a .given .1)),
+    )
 
 returns-2 : tie.Need-returns-2
 returns-2 c =
     let e = c .before .before .before in
-    let s = e .before .before .before .before in
-    (toZ-ofZ w64 _ (search needs) ∙ c .minus .ensures ∙ ap (λ k. negℤ (pos k)) (c .before .number .ensures) ∙ ap (λ (a : Answer). hostAnswer (outcomeOf a)) (sym (e .a2 .given .1))
-    , ap (λ (a : Answer). sent (outcomeOf a) (s .args .words .now) (s .args .out .now)) (sym (e .a2 .given .1)))
+    let s = e .before .before .before .before in (
+      toZ-ofZ w64 _ (search needs) ∙ c .minus .ensures ∙ ap (λ k. negℤ (pos k)) (c .before .number .ensures) ∙ ap (λ (a : Answer). hostAnswer (outcomeOf a)) (sym (e .a2 .given .1)),
+      ap (λ (a : Answer). sent (outcomeOf a) (s .args .words .now) (s .args .out .now)) (sym (e .a2 .given .1)),
+    )
 
 pub send-spec : {M : Type 1} → statement M
 send-spec =
