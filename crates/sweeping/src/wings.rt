@@ -100,7 +100,7 @@ fn face_first(
     wide(cell_number(d, s, h, i, wide(w), 0))
 }
 
-// That of each face of cell p.
+// Where the side cells start, for each face of cell p.
 pub fn face_rows(
     d: usize,
     v: usize,
@@ -122,7 +122,7 @@ pub fn face_rows(
     }
 }
 
-// The first cells over the cells across each face.
+// The first cell over the cell across each face of cell p.
 pub fn face_firsts(
     d: usize,
     v: usize,
@@ -155,7 +155,7 @@ fn side_cell(d: usize, n: usize) -> usize
     side_pair(d, n / 8, n % 8).cell
 }
 
-// All of them.
+// The 64 side cells.
 pub fn side_cells(d: usize) -> [usize; 64]
     ensures { λ r. ⌜ Holds 64 (sideCell d) r ⌝ }
 {

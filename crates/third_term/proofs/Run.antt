@@ -3,11 +3,10 @@ use mathlib.Core.Path.{_≡_, ap, ap₂, refl, sym, _∙_}
 use Prim.Native.Nat.{_*_, _<_, suc, ℕ, _≤_}
 use mathlib.Core.List.{List}
 use native.Mathlib.Omega.{arith}
-use lib.ListN.{drop, length, length-map, take}
+use lib.ListN.{length, length-map}
 use borrow.Author.Tests.{eq-eqb, le-leb, le-ltb, leb-true}
 use lib.Dec.{leb}
 use native.Mathlib.Nat.{mul-pos, suc-mul}
-use lib.Seq.{take-at}
 use mathlib.Core.Bool.{true}
 use Rattle.words.specs.Records.{part}
 use Rattle.words.proofs.Records.{tabulate-length}
@@ -15,6 +14,7 @@ use Rattle.rules.specs.Calls.{accepted, written}
 use Rattle.rules.specs.Limits.{empty, maxCells, maxDimension, maxSource, maxSteps, maxVertices, sizesOk, sweptVertices, verticesOk, within}
 use Rattle.rules.specs.Shapes.{shapeOk}
 use Rattle.rules.proofs.Tests.{and-parts}
+use Rattle.rules.proofs.Accepting.{front-of}
 use Rattle.simplex.specs.Cell.{Cell}
 use Rattle.simplex.specs.Order.{ascending}
 use Rattle.simplex.proofs.Counts.{All}
@@ -37,10 +37,6 @@ use Rattle.boundary.specs.Faces.{boundaryCells, faceSize, facesBuffer, facesOut
 use Rattle.boundary.proofs.EmptyWings.{boundary-own}
 use Rattle.third_term.specs.ThirdTerm.{Sitting, Unrefused, boundary, boundaryWords, list, solid, sweptWritten, tableWritten, toFaces, toSweep, toWing}
 use Rattle.third_term.proofs.Acceptance.{Swept, Winged, swept-is, winged-is}
-
--- the front of a buffer that was written to
-front-written : (xs buf : List ℕ) (n : ℕ) → length xs ≡ n → take n (written xs buf) ≡ xs
-front-written xs buf n e = take-at xs (drop (length xs) buf) n e
 
 module _ (d v h : ℕ) (x : Sitting) (u : Unrefused d v h x) where
   abbrev cs : List Cell
@@ -69,7 +65,7 @@ module _ (d v h : ℕ) (x : Sitting) (u : Unrefused d v h x) where
   unfolding wingBuffer tableOfList
   table-is =
       rw (u .winged)
-      (front-written (tableWords (tableOf cs)) (x .tableBuffer) (tableLength d (x .s)) (words-length d v cs is-solid is-long ∙ ap (tableLength d) count))
+      (front-of (tableWords (tableOf cs)) (x .tableBuffer) _ (tableLength d (x .s)) refl (sym (words-length d v cs is-solid is-long ∙ ap (tableLength d) count)) .1)
 
   entries-are : entriesOf d (x .s) (tableWritten d v h x) ≡ tableOf cs
   entries-are = ap₂ {C = List Entry} (λ n ws. entriesOf d n ws) (sym count) table-is ∙ entries-of-words d v cs is-solid is-long
@@ -114,8 +110,8 @@ module _ (d v h : ℕ) (x : Sitting) (u : Unrefused d v h x) where
   unfolding sweepBuffer
   swept-table-is =
       rw (u .swept)
-      (front-written (sweptWords (toSweep d v h x)) (x .sweptBuffer) (sweptLength (toSweep d v h x))
-      (ap length swept-words ∙ words-length (suc d) (sweptVertices v h) T swept-is-solid swept-is-long ∙ ap (tableLength (suc d)) swept-count)
+      (front-of (sweptWords (toSweep d v h x)) (x .sweptBuffer) _ (sweptLength (toSweep d v h x)) refl
+      (sym (ap length swept-words ∙ words-length (suc d) (sweptVertices v h) T swept-is-solid swept-is-long ∙ ap (tableLength (suc d)) swept-count)) .1
       ∙ swept-words)
 
   -- the boundary off its empty wings is the swept cells' own
