@@ -15,7 +15,7 @@ extern "C" {
 }
 
 const ROOM: usize = 1 << 19;
-const ROUNDS: usize = 60;
+const ROUNDS: usize = 600;
 
 /// A small generator, so that every run has the same solids.
 struct Random(u64);
@@ -60,15 +60,11 @@ fn bytes(cells: &[Vec<u16>]) -> Vec<u8> {
     cells.iter().flatten().flat_map(|w| w.to_le_bytes()).collect()
 }
 
-/// The least time of several rounds, in microseconds.
-fn least(mut job: impl FnMut()) -> f64 {
-    (0..ROUNDS)
-        .map(|_| {
-            let start = Instant::now();
-            job();
-            start.elapsed().as_secs_f64() * 1e6
-        })
-        .fold(f64::INFINITY, f64::min)
+/// The time that a job takes, in microseconds.
+fn timed(job: impl FnOnce()) -> f64 {
+    let start = Instant::now();
+    job();
+    start.elapsed().as_secs_f64() * 1e6
 }
 
 /// Runs both, checks that they agree, prints a line, and gives the library's time.
@@ -78,12 +74,12 @@ fn line(name: &str, mut library: impl FnMut(&mut [u8]) -> i64, mut rust: impl Fn
     assert!(n >= 0, "{name}: refused {}", -n);
     assert_eq!(rust(&mut b), Some(n as usize), "{name}: counts differ");
     assert_eq!(a, b, "{name}: words differ");
-    let ours = least(|| {
-        library(&mut a);
-    });
-    let theirs = least(|| {
-        rust(&mut b);
-    });
+    // The least time of many rounds, in turns, so that a slow moment of the machine meets both.
+    let (mut ours, mut theirs) = (f64::INFINITY, f64::INFINITY);
+    for _ in 0..ROUNDS {
+        ours = ours.min(timed(|| _ = library(&mut a)));
+        theirs = theirs.min(timed(|| _ = rust(&mut b)));
+    }
     println!("{name:32} {ours:9.1} us {theirs:9.1} us   ratio {:5.2}", ours / theirs);
     a.truncate(2 * n as usize);
     (ours, a)

@@ -1,0 +1,55 @@
+-- `winged_wing`: either array holds the words that are written. Assumes nothing.
+use mathlib.Core.Path.{sym, subst, _∙_}
+use Prim.Native.Nat.{ℕ}
+use lib.ListN.{length-replicate}
+use borrow.Author.Needs.{needs}
+use Rattle.winged.specs.Sent.{TableFits}
+use Rattle.winged.proofs.Inward.{any-table, short-table}
+use Rattle.winged.proofs.winged_wing.Statement.{statement}
+use Rattle.winged.proofs.winged_wing.Tie as tie
+
+short-requires : tie.Need-short-requires
+short-requires c κs = search needs
+
+slice-aggregate-wing-bytes : tie.Need-slice-aggregate-wing-bytes
+slice-aggregate-wing-bytes c = search needs
+
+wing-bytes-requires : tie.Need-wing-bytes-requires
+wing-bytes-requires c κs =
+    let short = c .before .before .before in
+    let a = short .before .before .before .args in
+    subst (TableFits (a .d) (a .v) (a .s)) (sym (length-replicate {A = ℕ} 17408 0)) (short-table (a .d) (a .v) (a .s) (sym (short .short .ensures) ∙ c .before .before .if1 .taken))
+
+same-length : tie.Need-same-length
+same-length c = search needs
+
+returns : tie.Need-returns
+returns c = search needs
+
+slice-aggregate-wing-bytes-2 : tie.Need-slice-aggregate-wing-bytes-2
+slice-aggregate-wing-bytes-2 c = search needs
+
+wing-bytes-requires-2 : tie.Need-wing-bytes-requires-2
+wing-bytes-requires-2 c κs =
+    let a = c .before .before .before .before .before .before .args in
+    subst (TableFits (a .d) (a .v) (a .s)) (sym (length-replicate {A = ℕ} 69632 0)) (any-table (a .d) (a .v) (a .s))
+
+same-length-2 : tie.Need-same-length-2
+same-length-2 c = search needs
+
+returns-2 : tie.Need-returns-2
+returns-2 c = search needs
+
+pub winged-wing-spec : {M : Type 1} → statement M
+winged-wing-spec =
+    tie.close
+    (tie.spec
+    short-requires
+    slice-aggregate-wing-bytes
+    wing-bytes-requires
+    same-length
+    returns
+    slice-aggregate-wing-bytes-2
+    wing-bytes-requires-2
+    same-length-2
+    returns-2)
