@@ -14,11 +14,11 @@ import subprocess
 import sys
 import tempfile
 
-sys.path.insert(0, os.path.join(os.path.dirname(os.path.abspath(__file__)), "..", "reference"))
+TESTS = os.path.dirname(os.path.dirname(os.path.abspath(__file__)))
+sys.path[:0] = [TESTS, os.path.join(TESTS, "reference")]
 import move_cases  # noqa: E402
 import read_cases  # noqa: E402
-
-SHOWN = 10
+from tally import Tally, rows  # noqa: E402
 
 
 def answers(program, cases, last):
@@ -43,47 +43,32 @@ def number_of(text):
     return int(first.split()[1]) if first.startswith("refused") else 0
 
 
-class Count:
-    """Tests passed and failed."""
-
-    def __init__(self):
-        self.passed = self.failed = 0
-
-    def test(self, good, what):
-        """Counts one test, and prints the first that fail."""
-        self.passed += good
-        self.failed += not good
-        if not good and self.failed <= SHOWN:
-            print(what)
-
-
-def compare(name, program, cases, last, rows, count):
+def compare(name, program, cases, last, wanted, tally):
     """All cases of one call: the program's text, the number meant, and every row."""
     status, texts, rest = answers(program, cases, last)
-    count.test(status == 0 and len(texts) == len(cases) and not rest,
-               f"{name}: exit status {status}, {len(texts)} answers for {len(cases)} cases")
+    tally.check(f"{name}: exit status {status}, {len(texts)} answers for {len(cases)} cases",
+                status == 0 and len(texts) == len(cases) and not rest)
     hit = collections.Counter()
     for case, got in zip(cases, texts):
         number = number_of(case.want)
         hit[number] += 1
-        count.test(got == case.want, f"{name} {case.name}: got {got[:90]!r}, want {case.want[:90]!r}")
+        tally.check(f"{name} {case.name}: got {got[:90]!r}, want {case.want[:90]!r}", got == case.want)
         if case.row is not None:
-            count.test(number == case.row, f"{name} {case.name}: made for {case.row}, and the reference says {number}")
-    missing = rows - set(hit)
-    count.test(not missing, f"{name}: no case for {sorted(missing)}")
-    print(f"{name}: " + ", ".join(f"{'accepted' if n == 0 else 'refused %d' % n} {c}" for n, c in sorted(hit.items())))
+            tally.check(f"{name} {case.name}: made for {case.row}, and the reference says {number}", number == case.row)
+    missing = wanted - set(hit)
+    tally.check(f"{name}: no case for {sorted(missing)}", not missing)
+    print(f"{name}: {rows(hit)}")
 
 
 def main():
     program = sys.argv[1]
     seed = int(sys.argv[2]) if len(sys.argv) > 2 else 20262
-    count = Count()
-    for name, cases, last, rows in (
+    tally = Tally(shown=10)
+    for name, cases, last, wanted in (
             ("read", read_cases.cases, "behind", {0, 1, 2, 3, 4, 5, 6, 7, 8, 15}),
             ("move", move_cases.cases, "buffer", {0, 2, 3, 4, 5, 12, 13, 15})):
-        compare(name, program, list(cases(random.Random(seed))), last, rows, count)
-    print(f"{count.passed} passed, {count.failed} failed")
-    return 1 if count.failed else 0
+        compare(name, program, list(cases(random.Random(seed))), last, wanted, tally)
+    return tally.finish()
 
 
 if __name__ == "__main__":

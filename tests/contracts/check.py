@@ -1,4 +1,5 @@
-"""Reads the contracts as a reviewer would: every public function's result and lent buffers are named in what it ensures.
+"""Reads the contracts as a reviewer would: every function that says `pub` has a contract that names its result and the
+lent buffers at the end, whether or not its module is public, in programs too.
 
 A public call has no `requires`. Last line: 'N passed, M failed'.
 """
@@ -17,25 +18,24 @@ CALLS = {
     ("winged", "winged_wing"), ("winged", "winged_sweep"), ("winged", "winged_faces"),
 }
 HEAD = re.compile(r'^ *pub (?:extern "C" )?fn (\w+)(?:<[^>]*>)?\((.*?)\)\s*(?:-> ([^\n{]+?))?\s*\n(.*?)^ *\{', re.M | re.S)
+PUBLIC = re.compile(r'^ *pub (?:extern "C" )?fn ', re.M)
 ENSURES = re.compile(r"ensures(?: \w+)? \{ λ (\w+)\. ⌜ (.*?) ⌝ \}", re.S)
 
 tally = Tally()
 check = tally.check
 
 
-def visible(file):
-    """Whether other crates can name the functions of a file: it is lib.rt, or a public module there."""
-    top = file.parent / "lib.rt"
-    return file == top or top.exists() and f"pub mod {file.stem};" in top.read_text()
-
-
 def main():
     calls = set()
-    for file in filter(visible, sorted((ROOT / "crates").glob("*/src/*.rt"))):
-        crate = file.parts[-3]
-        for name, parameters, result, contract in HEAD.findall(file.read_text()):
+    for file in sorted((ROOT / "crates").glob("*/src/**/*.rt")):
+        crate = file.relative_to(ROOT / "crates").parts[0]
+        text = file.read_text()
+        heads = HEAD.findall(text)
+        check(f"{file.relative_to(ROOT)}: every public function has a contract", len(heads) == len(PUBLIC.findall(text)))
+        for name, parameters, result, contract in heads:
             where = f"{crate}::{name}"
             ensured = ENSURES.findall(contract)
+            check(f"{where}: it ensures something", ensured)
             if result:
                 check(f"{where}: its contract names its result", any(re.search(rf"(?<!\w){r}(?!\w)", text) for r, text in ensured if r != "_"))
             for buffer in re.findall(r"(\w+): &mut ", parameters):

@@ -14,9 +14,11 @@ import struct
 import subprocess
 import sys
 
-sys.path.insert(0, os.path.join(os.path.dirname(os.path.abspath(__file__)), "..", "reference"))
+TESTS = os.path.dirname(os.path.dirname(os.path.abspath(__file__)))
+sys.path[:0] = [TESTS, os.path.join(TESTS, "reference")]
 import solids  # noqa: E402
 import winged_reference as reference  # noqa: E402
+from tally import Tally, rows  # noqa: E402
 
 FRESH = b"\xa5"
 WING, SWEEP, FACES = 1, 2, 3
@@ -152,30 +154,21 @@ def main():
     rng = random.Random(int(sys.argv[2]) if len(sys.argv) > 2 else 20260)
     requests = list(all_requests(rng))
     answers = ask(sys.argv[1], requests)
+    tally = Tally(shown=10)
     if answers is None:
-        print("0 passed, 1 failed")
-        return 1
-    passed = failed = 0
+        tally.check("the host answers", False)
+        return tally.finish()
     hit = {call: collections.Counter() for call in NAMES}
     for r, got in zip(requests, answers):
         want = expected(r)
         hit[r.call][-want[0] if want[0] < 0 else 0] += 1
-        if got == want:
-            passed += 1
-        else:
-            failed += 1
-            if failed <= 10:
-                print(f"{NAMES[r.call]} d {r.d} v {r.v} s {r.s} h {r.h} input {len(r.data)} room {r.room}: "
-                      f"got {got[0]}, want {want[0]}{'' if got[0] != want[0] else ', other bytes'}")
-    for call, rows in ROWS.items():
-        missing = (rows | {0}) - set(hit[call])
-        passed += not missing
-        failed += bool(missing)
-        print(f"{NAMES[call]}: " + ", ".join(f"{'accepted' if n == 0 else 'refused %d' % n} {c}" for n, c in sorted(hit[call].items())))
-        if missing:
-            print(f"{NAMES[call]}: no request for {sorted(missing)}")
-    print(f"{passed} passed, {failed} failed")
-    return 1 if failed else 0
+        tally.check(f"{NAMES[r.call]} d {r.d} v {r.v} s {r.s} h {r.h} input {len(r.data)} room {r.room}: "
+                    f"got {got[0]}, want {want[0]}{'' if got[0] != want[0] else ', other bytes'}", got == want)
+    for call, wanted in ROWS.items():
+        missing = (wanted | {0}) - set(hit[call])
+        tally.check(f"{NAMES[call]}: no request for {sorted(missing)}", not missing)
+        print(f"{NAMES[call]}: {rows(hit[call])}")
+    return tally.finish()
 
 
 if __name__ == "__main__":

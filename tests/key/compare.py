@@ -12,9 +12,10 @@ import subprocess
 import sys
 
 ROOT = os.path.join(os.path.dirname(os.path.abspath(__file__)), "..", "..")
-sys.path.insert(0, os.path.join(ROOT, "tests", "reference"))
+sys.path[:0] = [os.path.join(ROOT, "tests"), os.path.join(ROOT, "tests", "reference")]
 import solids  # noqa: E402
 import winged_reference as reference  # noqa: E402
+from tally import Tally  # noqa: E402
 
 FILES = 3000
 # row 14 cannot come out of the program: it lists only tables that it made
@@ -48,26 +49,17 @@ def outcome(text):
 def main():
     program = sys.argv[1] if len(sys.argv) > 1 else os.path.join(ROOT, "target", "bin", "key")
     rng = random.Random(int(sys.argv[2]) if len(sys.argv) > 2 else 20261)
-    passed = failed = 0
+    tally = Tally(shown=10)
     seen = collections.Counter()
     for number, data in enumerate(files(rng)):
         want = reference.key(data)
         got = subprocess.run([program], input=data, stdout=subprocess.PIPE, check=False).stdout
         seen[outcome(want)] += 1
-        if got == want:
-            passed += 1
-        else:
-            failed += 1
-            if failed <= 10:
-                print(f"file {number} of {len(data)} bytes: got {got[:60]!r}, want {want[:60]!r}")
+        tally.check(f"file {number} of {len(data)} bytes: got {got[:60]!r}, want {want[:60]!r}", got == want)
     missing = OUTCOMES - set(seen)
-    passed += not missing
-    failed += bool(missing)
+    tally.check(f"no file for: {sorted(missing)}", not missing)
     print(", ".join(f"{name} {count}" for name, count in sorted(seen.items())))
-    if missing:
-        print(f"no file for: {sorted(missing)}")
-    print(f"{passed} passed, {failed} failed")
-    return 1 if failed else 0
+    return tally.finish()
 
 
 if __name__ == "__main__":

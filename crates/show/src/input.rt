@@ -2,7 +2,7 @@
 use words::little;
 
 // The next number; 0 where the input has ended.
-pub fn read_word() -> u64 {
+pub(crate) fn read_word() -> u64 {
     let mut bytes = [0u8; 8];
     let got = io::read_full(0, &mut bytes);
     if got < 8 {
@@ -11,7 +11,7 @@ pub fn read_word() -> u64 {
     little::word64(&bytes, 0)
 }
 
-pub fn read_size() -> usize {
+pub(crate) fn read_size() -> usize {
     read_word() as usize
 }
 
@@ -27,11 +27,11 @@ fn float_of(bits: u64) -> f64 {
     f64::from_bits(bits)
 }
 
-pub fn read_float() -> f64 {
+pub(crate) fn read_float() -> f64 {
     float_of(read_word())
 }
 
-pub fn fill(floats: &mut [f64]) {
+pub(crate) fn fill(floats: &mut [f64]) {
     let mut i: usize = 0;
     while i < floats.len() {
         floats[i] = read_float();

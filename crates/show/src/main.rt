@@ -3,6 +3,9 @@
 // A case on standard input begins with a number that says what it is: 1, 2 or 3 is a move by a slide, a slant or a turn,
 // 4 is a file to read. All numbers have 64 bits, little-endian. The run ends at a 0, at the end of the input, and where a
 // case asks for more than the buffers hold. Every place of a lent buffer holds a mark before the call.
+//
+// No function here is public. What they read and print is the world's; of them it is proved that they end and do nothing
+// undefined, and that is all. What is shown rests on the contracts of read and move_points.
 use crate::input::read_word;
 
 mod input;

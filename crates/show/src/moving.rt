@@ -70,7 +70,7 @@ fn lend(step: Step, points: &mut [f64], out: &mut [f64]) -> bool {
     true
 }
 
-pub fn move_case(kind: u64) -> bool {
+pub(crate) fn move_case(kind: u64) -> bool {
     let step = read_step(kind);
     let mut points = [0.0; 33000];
     let mut out = [MARK; 33000];

@@ -10,7 +10,7 @@ fn bits(x: f64) -> u64 {
     u64::MAX
 }
 
-pub fn print_number(x: usize) {
+pub(crate) fn print_number(x: usize) {
     io::write_all(1, b" ");
     io::print_decimal(1, x as u64);
 }
@@ -20,16 +20,16 @@ fn print_word(x: u16) {
     io::print_hex(1, x as u64, 4);
 }
 
-pub fn print_float(x: f64) {
+pub(crate) fn print_float(x: f64) {
     io::write_all(1, b" ");
     io::print_hex(1, bits(x), 16);
 }
 
-pub fn end_line() {
+pub(crate) fn end_line() {
     io::write_all(1, b"\n");
 }
 
-pub fn print_words(words: &[u16]) {
+pub(crate) fn print_words(words: &[u16]) {
     let mut i: usize = 0;
     while i < words.len() {
         print_word(words[i]);
@@ -38,7 +38,7 @@ pub fn print_words(words: &[u16]) {
     end_line();
 }
 
-pub fn print_floats(floats: &[f64]) {
+pub(crate) fn print_floats(floats: &[f64]) {
     let mut i: usize = 0;
     while i < floats.len() {
         print_float(floats[i]);
@@ -47,7 +47,7 @@ pub fn print_floats(floats: &[f64]) {
     end_line();
 }
 
-pub fn print_refused(r: Refusal) {
+pub(crate) fn print_refused(r: Refusal) {
     io::write_all(1, b"refused");
     print_number(refusal::number(r) as usize);
     end_line();

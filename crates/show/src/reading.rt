@@ -159,7 +159,7 @@ fn lend(bytes: &mut [u8], cells: &mut [u16], points: &mut [f64]) -> bool {
     show(&mut bytes[..size], &mut cells[..room], &mut points[..space])
 }
 
-pub fn read_case() -> bool {
+pub(crate) fn read_case() -> bool {
     let mut bytes = [0u8; 400000];
     let mut cells = [MARK; 32768];
     let mut points = [FLOAT_MARK; 32768];

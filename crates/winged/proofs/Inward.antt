@@ -2,8 +2,7 @@
 --   decoded-front         the decoded words stand at the front of the array
 --   wing-outside, wing-wrong, wing-right      the outcome, as the code finds it
 --   wing-after            the buffer, as its outcome says
---   any-table, short-table    which array holds a table; any-sweep, short-swept the same of a sweep
---   wing-room             room beyond that of an array that holds the table changes nothing
+--   wing-room             room beyond the largest table changes nothing
 --   wing-host             the answer and the lent bytes, as the host's definitions say
 --   wing-long             the count is that of the answer's words
 --   sweep-..              the same of sweep
@@ -35,7 +34,7 @@ use Rattle.prism.specs.Swept.{sweptCells}
 use Rattle.sweep.specs.Sweep.{SweepInput, sweepOutcome, sweepBuffer, sweepRules, sweptWords, sweepInput}
 use Rattle.sweep.proofs.Outcomes.{tooLarge, large-not, refused-at-2, refused-at-3, refused-at-12}
 use Rattle.winged.specs.Host.{hosted, hostAnswer, wordsIn, hostList, hostWing, hostWingOutcome, hostWingBuffer, hostSweepInput, hostSweep, hostSweepOutcome, hostSweepBuffer}
-use Rattle.winged.specs.Sent.{lesser, tableRoom, shortRoom, TableFits, SweptFits, wingRead, sweepRead}
+use Rattle.winged.specs.Sent.{lesser, tableRoom, wingRead, sweepRead}
 use Rattle.winged.proofs.Hosting.{hosted-accepted, hosted-right, hosted-wrong}
 use Rattle.wing.proofs.Lengths.{accepted-long}
 use Rattle.sweep.proofs.CallWords.{swept-long}
@@ -76,40 +75,21 @@ module _ (d v s : ℕ) (cells : List ℕ) (x : ℕ) where
       let q = e ∙ ap (λ y. hosted (shapeOk maxDimension d v s) cells (wingOutcome (wingInput d v s (words16 cells) y))) room in
       (ap hostAnswer q, ap (λ r. after r (bytesOf (tableOfList (hostList d v s cells out))) out) q)
 
--- the arrays that hold a table: any, or one of 1,024 cells
-table-fits : (d s : ℕ) → d ≤ 7 → s ≤ 4096 → tableLength d s ≤ tableRoom
+-- the largest table
+pub table-fits : (d s : ℕ) → d ≤ 7 → s ≤ 4096 → tableLength d s ≤ tableRoom
 table-fits d s hd hs = mul-le-mul {n₁ = s} {m₁ = recordSize d} {n₂ = 4096} {m₂ = 17} hs (omega arith)
 
-few-fit : (d s : ℕ) → d ≤ 7 → s ≤ 1024 → tableLength d s ≤ shortRoom
-few-fit d s hd hs = mul-le-mul {n₁ = s} {m₁ = recordSize d} {n₂ = 1024} {m₂ = 17} hs (omega arith)
-
-pub any-table : (d v s : ℕ) → TableFits d v s tableRoom
-any-table d v s e = let l = limits-of d v s e in table-fits d s (l .0) (l .2)
-
-pub short-table : (d v s : ℕ) → (leb d maxDimension && leb s 1024) ≡ true → TableFits d v s shortRoom
-short-table d v s e ok =
-    let both = and-parts (leb d maxDimension) (leb s 1024) e in
-    few-fit d s (leb-true d maxDimension (both .0)) (leb-true s 1024 (both .1))
-
-pub any-sweep : (d v s h : ℕ) → SweptFits d v s h tableRoom
-any-sweep d v s h e n = table-fits (suc d) (sweptCells d s h) (omega (arith, sweep-limits-are d v s h e .dimension)) n
-
-pub short-swept : (d v s h : ℕ) → ((leb d maxSource && (leb s 1024 && leb h maxSteps)) && leb (sweptCells d s h) 1024) ≡ true → SweptFits d v s h shortRoom
-short-swept d v s h e ok n =
-    let both = and-parts (leb d maxSource && (leb s 1024 && leb h maxSteps)) (leb (sweptCells d s h) 1024) e in
-    few-fit (suc d) (sweptCells d s h) (omega (arith, sweep-limits-are d v s h ok .dimension)) (leb-true (sweptCells d s h) 1024 (both .1))
-
-wing-same : (d v s : ℕ) (ws : List ℕ) (x b : ℕ) → TableFits d v s b → wingOutcome (wingInput d v s ws (lesser x b)) ≡ wingOutcome (wingInput d v s ws x)
+wing-same : (d v s : ℕ) (ws : List ℕ) (x : ℕ) → wingOutcome (wingInput d v s ws (lesser x tableRoom)) ≡ wingOutcome (wingInput d v s ws x)
 unfolding wingOutcome wingRules solidRules
-wing-same d v s ws x b fits = go (shapeOk maxDimension d v s) refl
+wing-same d v s ws x = go (shapeOk maxDimension d v s) refl
   where
-    go : (t : Bool) → shapeOk maxDimension d v s ≡ t → wingOutcome (wingInput d v s ws (lesser x b)) ≡ wingOutcome (wingInput d v s ws x)
-    go true e = rw (room-cut x b (tableLength d s) (fits e)) refl
+    go : (t : Bool) → shapeOk maxDimension d v s ≡ t → wingOutcome (wingInput d v s ws (lesser x tableRoom)) ≡ wingOutcome (wingInput d v s ws x)
+    go true e = let l = limits-of d v s e in rw (room-cut x tableRoom (tableLength d s) (table-fits d s (l .0) (l .2))) refl
     go false e = rw e refl
 
-pub wing-room : (d v s : ℕ) (cells : List ℕ) (x b : ℕ) → TableFits d v s b → wingRead d v s cells (lesser x b) ≡ wingRead d v s cells x
+pub wing-room : (d v s : ℕ) (cells : List ℕ) (x : ℕ) → wingRead d v s cells (lesser x tableRoom) ≡ wingRead d v s cells x
 unfolding wingRead
-wing-room d v s cells x b fits = rw (wing-same d v s (words16 cells) x b fits) refl
+wing-room d v s cells x = rw (wing-same d v s (words16 cells) x) refl
 
 pub wing-long : (d v s : ℕ) (cells : List ℕ) (x k : ℕ) → wingRead d v s cells x ≡ accepted k →
     k ≡ length (tableOfList (record { d = d; v = v; s = s; words = words16 cells }))
@@ -161,21 +141,22 @@ module _ (d v s h : ℕ) (table : List ℕ) (x : ℕ) where
       let q = e ∙ ap (λ y. hosted (shapeOk maxSource d v s && stepsOk h) table (sweepOutcome (sweepInput d v s h (words16 table) y))) room in
       (ap hostAnswer q, ap (λ r. after r (bytesOf (sweptWords (hostSweepInput d v s h table out))) out) q)
 
-sweep-same : (d v s h : ℕ) (ws : List ℕ) (x m : ℕ) → SweptFits d v s h m →
-    sweepOutcome (sweepInput d v s h ws (lesser x m)) ≡ sweepOutcome (sweepInput d v s h ws x)
+sweep-same : (d v s h : ℕ) (ws : List ℕ) (x : ℕ) → sweepOutcome (sweepInput d v s h ws (lesser x tableRoom)) ≡ sweepOutcome (sweepInput d v s h ws x)
 unfolding sweepOutcome sweepRules
-sweep-same d v s h ws x m fits = go (shapeOk maxSource d v s && stepsOk h) refl (tooLarge (sweepInput d v s h ws x)) refl
+sweep-same d v s h ws x = go (shapeOk maxSource d v s && stepsOk h) refl (tooLarge (sweepInput d v s h ws x)) refl
   where
     go : (a : Bool) → (shapeOk maxSource d v s && stepsOk h) ≡ a → (b : Bool) → tooLarge (sweepInput d v s h ws x) ≡ b →
-        sweepOutcome (sweepInput d v s h ws (lesser x m)) ≡ sweepOutcome (sweepInput d v s h ws x)
+        sweepOutcome (sweepInput d v s h ws (lesser x tableRoom)) ≡ sweepOutcome (sweepInput d v s h ws x)
     go false e b f = rw e refl
     go true e true f = rw f refl
     go true e false f =
-        rw (room-cut x m (tableLength (suc d) (sweptCells d s h)) (fits e (large-not (sweepInput d v s h ws x) f .1))) refl
+        let l = sweep-limits-are d v s h e in
+        let n = large-not (sweepInput d v s h ws x) f .1 in
+        rw (room-cut x tableRoom (tableLength (suc d) (sweptCells d s h)) (table-fits (suc d) (sweptCells d s h) (omega (arith, l .dimension)) n)) refl
 
-pub sweep-room : (d v s h : ℕ) (table : List ℕ) (x m : ℕ) → SweptFits d v s h m → sweepRead d v s h table (lesser x m) ≡ sweepRead d v s h table x
+pub sweep-room : (d v s h : ℕ) (table : List ℕ) (x : ℕ) → sweepRead d v s h table (lesser x tableRoom) ≡ sweepRead d v s h table x
 unfolding sweepRead
-sweep-room d v s h table x m fits = rw (sweep-same d v s h (words16 table) x m fits) refl
+sweep-room d v s h table x = rw (sweep-same d v s h (words16 table) x) refl
 
 pub sweep-long : (d v s h : ℕ) (table : List ℕ) (x k : ℕ) → sweepRead d v s h table x ≡ accepted k →
     k ≡ length (sweptWords (sweepInput d v s h (words16 table) x))

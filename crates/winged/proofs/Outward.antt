@@ -18,7 +18,7 @@ use borrow.Author.Tests.{leb-true, leb-false, le-ltb}
 use Rattle.words.specs.Bytes.{bytesOf}
 use Rattle.words.proofs.Bytes.{bytes-length}
 use Rattle.rules.specs.Calls.{Outcome, accepted, refused, after}
-use Rattle.winged.specs.Sent.{lesser, countOf, sent}
+use Rattle.winged.specs.Sent.{lesser, tableRoom, countOf, sent}
 
 pub lesser-le : (a b : ℕ) → (lesser a b ≤ a) × (lesser a b ≤ b)
 lesser-le a b = go (leb a b) refl
@@ -45,8 +45,9 @@ module _ (T t w out : List ℕ) where
       ap₂ (λ (a : List ℕ) (n : ℕ). bytesOf a ++ drop n out) (ap (take k) e ∙ take-at T (drop (length T) t) k (sym (long k refl))) twice
   sent-is (refused k) long e = refl
 
-pub room-fits : (m : ℕ) (words out : List ℕ) → m ≡ lesser (length out / 2) (length words) → (m ≤ length words) × (m * 2 ≤ length out)
-room-fits m words out e = let l = lesser-le (length out / 2) (length words) in (omega (arith, l .1), omega (arith, l .0))
+pub room-fits : (m : ℕ) (words out : List ℕ) → m ≡ lesser (length out / 2) tableRoom → length words ≡ tableRoom →
+    (m ≤ length words) × (m * 2 ≤ length out)
+room-fits m words out e long = let l = lesser-le (length out / 2) tableRoom in (omega (arith, l .1), omega (arith, l .0))
 
 -- w is what a call left in the first m words of an array
 module _ (words w : List ℕ) (m : ℕ) (same : length w ≡ m) where

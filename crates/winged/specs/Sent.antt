@@ -1,25 +1,22 @@
 -- Between the calls and C: outcomes of what was decoded, and what of the words goes to the lent bytes.
 --   lesser a b        the lesser of two numbers
---   tableRoom, shortRoom    words of the largest table, and of the largest one of 1,024 cells
---   TableFits, SweptFits    an array of so many words holds the table that wing, or sweep, writes
+--   tableRoom         words of the largest table
 --   countOf o         the count of an accepted outcome; 0 of a refused one
 --   sent o t out      the lent bytes when the outcome's count of the words t has gone to their start
 --   wingRead, sweepRead    the outcomes in a room of so many words
 --   facesAnswer, facesAfter    what faces answers and leaves in the lent bytes, told from the table's words
-use mathlib.Core.Bool.{true, cond, _&&_}
-use mathlib.Core.Path.{_≡_}
+use mathlib.Core.Bool.{cond, _&&_}
 use mathlib.Core.List.{List, _++_, map}
-use Prim.Native.Nat.{ℕ, suc, _*_, _≤_}
+use Prim.Native.Nat.{ℕ, _*_}
 use lib.Dec.{leb}
 use lib.IntN.{ℤ}
 use lib.ListN.{take, drop}
 use Rattle.words.specs.Records.{concat}
 use Rattle.words.specs.Bytes.{words16, bytesOf}
-use Rattle.rules.specs.Limits.{maxCells, maxDimension, maxSource, stepsOk}
+use Rattle.rules.specs.Limits.{maxDimension, maxSource, stepsOk}
 use Rattle.rules.specs.Shapes.{shapeOk}
 use Rattle.rules.specs.Calls.{Outcome, accepted, refused, after}
-use Rattle.complex.specs.Layout.{cellWords, tableLength}
-use Rattle.prism.specs.Swept.{sweptCells}
+use Rattle.complex.specs.Layout.{cellWords}
 use Rattle.wing.specs.Wing.{wingInput, wingOutcome}
 use Rattle.sweep.specs.Sweep.{sweepOutcome, sweepInput}
 use Rattle.boundary.specs.Faces.{FacesInput, boundaryCells, facesOutcome}
@@ -31,16 +28,6 @@ lesser a b = cond (leb a b) a b
 
 abbrev pub tableRoom : ℕ
 tableRoom = 69632
-
-abbrev pub shortRoom : ℕ
-shortRoom = 17408
-
-abbrev pub TableFits : ℕ → ℕ → ℕ → ℕ → Type 0
-TableFits d v s room = shapeOk maxDimension d v s ≡ true → tableLength d s ≤ room
-
-abbrev pub SweptFits : ℕ → ℕ → ℕ → ℕ → ℕ → Type 0
-SweptFits d v s h room =
-    (shapeOk maxSource d v s && stepsOk h) ≡ true → sweptCells d s h ≤ maxCells → tableLength (suc d) (sweptCells d s h) ≤ room
 
 abbrev pub countOf : Outcome ℕ → ℕ
 countOf (accepted n) = n

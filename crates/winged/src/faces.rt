@@ -10,7 +10,7 @@ ghost use Rattle.complex.specs.Layout.{recordSize, tableLength, entryOf};
 ghost use Rattle.words.specs.Placed.{placed};
 ghost use Rattle.boundary.specs.Written.{cellWordsOf, allWords};
 ghost use Rattle.winged.specs.Host.{hostFaces, hostFacesBuffer};
-ghost use Rattle.winged.specs.Sent.{TableFits, facesAnswer, facesAfter};
+ghost use Rattle.winged.specs.Sent.{tableRoom, facesAnswer, facesAfter};
 use crate::sending::minus;
 use adjacency::sound::is_sound;
 use boundary::writing::count_faces;
@@ -67,7 +67,7 @@ fn faces_from(d: usize, v: usize, s: usize, table: &[u16], out: &mut [u8]) -> i6
     n as i64
 }
 
-pub fn faces_bytes(
+pub(crate) fn faces_bytes(
     d: usize,
     v: usize,
     s: usize,
@@ -75,7 +75,7 @@ pub fn faces_bytes(
     words: &mut [u16],
     faces: &mut [u8],
 ) -> i64
-    requires { ⌜ TableFits d v s (length (now words)) ⌝ }
+    requires { ⌜ length (now words) ≡ tableRoom ⌝ }
     ensures answer { λ r. ⌜ r ≡ hostFaces d v s (now (table .entry)) (now (faces .entry)) ⌝ }
     ensures buffer { λ _. ⌜ now (faces .exit) ≡ hostFacesBuffer d v s (now (table .entry)) (now (faces .entry)) ⌝ }
 {

@@ -1,14 +1,14 @@
-// The calls from bytes to bytes, by way of a lent array of words that holds what the call writes.
+// The calls from bytes to bytes, by way of a lent array of words.
 ghost use mathlib.Core.Path.{_≡_};
 ghost use lib.ListN.{length};
 ghost use Rattle.winged.specs.Host.{hostWing, hostWingBuffer, hostSweep, hostSweepBuffer};
-ghost use Rattle.winged.specs.Sent.{TableFits, SweptFits};
+ghost use Rattle.winged.specs.Sent.{tableRoom};
 use crate::reading::sweep_words;
 use crate::reading::wing_words;
 use crate::sending::room;
 use crate::sending::send;
 
-pub fn wing_bytes(
+pub(crate) fn wing_bytes(
     d: usize,
     v: usize,
     s: usize,
@@ -16,16 +16,16 @@ pub fn wing_bytes(
     words: &mut [u16],
     table: &mut [u8],
 ) -> i64
-    requires { ⌜ TableFits d v s (length (now words)) ⌝ }
+    requires { ⌜ length (now words) ≡ tableRoom ⌝ }
     ensures answer { λ r. ⌜ r ≡ hostWing d v s (now (cells .entry)) (now (table .entry)) ⌝ }
     ensures buffer { λ _. ⌜ now (table .exit) ≡ hostWingBuffer d v s (now (cells .entry)) (now (table .entry)) ⌝ }
 {
-    let m = room(table.len(), words.len());
+    let m = room(table.len());
     let a = wing_words(d, v, s, cells, &mut words[..m]);
     send(a, &words[..m], table)
 }
 
-pub fn sweep_bytes(
+pub(crate) fn sweep_bytes(
     d: usize,
     v: usize,
     s: usize,
@@ -34,11 +34,11 @@ pub fn sweep_bytes(
     words: &mut [u16],
     swept: &mut [u8],
 ) -> i64
-    requires { ⌜ SweptFits d v s h (length (now words)) ⌝ }
+    requires { ⌜ length (now words) ≡ tableRoom ⌝ }
     ensures answer { λ r. ⌜ r ≡ hostSweep d v s h (now (table .entry)) (now (swept .entry)) ⌝ }
     ensures buffer { λ _. ⌜ now (swept .exit) ≡ hostSweepBuffer d v s h (now (table .entry)) (now (swept .entry)) ⌝ }
 {
-    let m = room(swept.len(), words.len());
+    let m = room(swept.len());
     let a = sweep_words(d, v, s, h, table, &mut words[..m]);
     send(a, &words[..m], swept)
 }

@@ -4,8 +4,6 @@ ghost use Rattle.winged.specs.Host.{hostWing, hostWingBuffer, hostSweep,
 use crate::faces::faces_bytes;
 use crate::host::sweep_bytes;
 use crate::host::wing_bytes;
-use crate::sending::short;
-use crate::sending::short_sweep;
 
 mod faces;
 mod host;
@@ -17,10 +15,6 @@ pub extern "C" fn winged_wing(d: u32, v: u32, s: u32, cells: &[u8], table: &mut 
     ensures answer { λ r. ⌜ r ≡ hostWing d v s (now (cells .entry)) (now (table .entry)) ⌝ }
     ensures buffer { λ _. ⌜ now (table .exit) ≡ hostWingBuffer d v s (now (cells .entry)) (now (table .entry)) ⌝ }
 {
-    if short(d as usize, s as usize) {
-        let mut words = [0u16; 17408];
-        return wing_bytes(d as usize, v as usize, s as usize, cells, &mut words, table);
-    }
     let mut words = [0u16; 69632];
     wing_bytes(d as usize, v as usize, s as usize, cells, &mut words, table)
 }
@@ -37,18 +31,6 @@ pub extern "C" fn winged_sweep(
     ensures answer { λ r. ⌜ r ≡ hostSweep d v s h (now (table .entry)) (now (swept .entry)) ⌝ }
     ensures buffer { λ _. ⌜ now (swept .exit) ≡ hostSweepBuffer d v s h (now (table .entry)) (now (swept .entry)) ⌝ }
 {
-    if short_sweep(d as usize, s as usize, h as usize) {
-        let mut words = [0u16; 17408];
-        return sweep_bytes(
-            d as usize,
-            v as usize,
-            s as usize,
-            h as usize,
-            table,
-            &mut words,
-            swept,
-        );
-    }
     let mut words = [0u16; 69632];
     sweep_bytes(
         d as usize,
@@ -66,10 +48,6 @@ pub extern "C" fn winged_faces(d: u32, v: u32, s: u32, table: &[u8], faces: &mut
     ensures answer { λ r. ⌜ r ≡ hostFaces d v s (now (table .entry)) (now (faces .entry)) ⌝ }
     ensures buffer { λ _. ⌜ now (faces .exit) ≡ hostFacesBuffer d v s (now (table .entry)) (now (faces .entry)) ⌝ }
 {
-    if short(d as usize, s as usize) {
-        let mut words = [0u16; 17408];
-        return faces_bytes(d as usize, v as usize, s as usize, table, &mut words, faces);
-    }
     let mut words = [0u16; 69632];
     faces_bytes(d as usize, v as usize, s as usize, table, &mut words, faces)
 }

@@ -16,7 +16,7 @@ use Rattle.rules.specs.Shapes.{shapeOk}
 use Rattle.complex.specs.Layout.{tableLength}
 use Rattle.rules.proofs.InLimits.{limits-are}
 use Rattle.winged.specs.Sent.{tableRoom, facesAnswer, facesAfter}
-use Rattle.winged.proofs.Inward.{decoded-front, any-table}
+use Rattle.winged.proofs.Inward.{decoded-front, table-fits}
 use Rattle.winged.proofs.FaceOutcomes.{host-outside, host-wrong, host-right}
 use Rattle.winged.proofs.faces.faces_bytes.Statement.{statement}
 use Rattle.winged.proofs.faces.faces_bytes.Tie as tie
@@ -31,7 +31,8 @@ inside c = sym (c .before .within .ensures) ∙ not-false _ (c .if1 .left)
 few : (c : tie.Else1) → (start c .args .d ≤ 7) × (tableLength (start c .args .d) (start c .args .s) ≤ tableRoom)
 few c =
     let a = start c .args in
-    (limits-are maxDimension (a .d) (a .v) (a .s) (inside c) .dimension, any-table (a .d) (a .v) (a .s) (inside c))
+    let l = limits-are maxDimension (a .d) (a .v) (a .s) (inside c) in
+    (l .dimension, table-fits (a .d) (a .s) (l .dimension) (l .cells))
 
 -- the table lent, and its words
 abbrev table : tie.Else2 → List ℕ
@@ -80,9 +81,7 @@ returns-2 c =
     (toZ-ofZ w64 _ (search needs) ∙ c .minus2 .ensures ∙ host .0, host .1)
 
 decode-requires : tie.Need-decode-requires
-decode-requires c κs =
-    let one = c .before .before in
-    omega (arith, c .before .if2 .left, start one .pre (inside one))
+decode-requires c κs = omega (arith, few (c .before .before) .1, c .before .if2 .left, start (c .before .before) .pre)
 
 slice-reshare-prefix-faces-from : tie.Need-slice-reshare-prefix-faces-from
 slice-reshare-prefix-faces-from c = front (c .before .before) .0

@@ -23,7 +23,7 @@ start c = c .before .before .before .before
 
 -- the room
 m : (c : tie.After-room) → (c .room .result ≤ length (start c .args .words .now)) × (c .room .result * 2 ≤ length (start c .args .swept .now))
-m c = room-fits (c .room .result) (start c .args .words .now) (start c .args .swept .now) (c .room .ensures)
+m c = room-fits (c .room .result) (start c .args .words .now) (start c .args .swept .now) (c .room .ensures) (start c .pre)
 
 -- what the call leaves in it
 abbrev left : tie.After-sweep-words → List ℕ
@@ -90,7 +90,7 @@ returns c =
     let a = start r .args in
     let o = outcomeOf (w .before .sweep-words .result) in
     let cut = length-take-le (r .room .result) (a .words .now) (m r .0) ∙ r .room .ensures in
-    let read = w .before .sweep-words .ensures .0 ∙ ap (λ x. sweepRead (a .d) (a .v) (a .s) (a .h) (a .table .now) x) cut ∙ sweep-room (a .d) (a .v) (a .s) (a .h) (a .table .now) (wordsIn (a .swept .now)) (length (a .words .now)) (start r .pre) in
+    let read = w .before .sweep-words .ensures .0 ∙ ap (λ x. sweepRead (a .d) (a .v) (a .s) (a .h) (a .table .now) x) cut ∙ sweep-room (a .d) (a .v) (a .s) (a .h) (a .table .now) (wordsIn (a .swept .now)) in
     let host = sweep-host (a .d) (a .v) (a .s) (a .h) (a .table .now) (wordsIn (a .swept .now)) (a .swept .now) o refl read in (
       toZ-ofZ w64 _ (search needs) ∙ call .ensures .0 ∙ host .0,
       call .ensures .1

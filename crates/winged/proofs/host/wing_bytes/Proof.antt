@@ -22,7 +22,7 @@ start c = c .before .before .before .before
 
 -- the room
 m : (c : tie.After-room) → (c .room .result ≤ length (start c .args .words .now)) × (c .room .result * 2 ≤ length (start c .args .table .now))
-m c = room-fits (c .room .result) (start c .args .words .now) (start c .args .table .now) (c .room .ensures)
+m c = room-fits (c .room .result) (start c .args .words .now) (start c .args .table .now) (c .room .ensures) (start c .pre)
 
 -- what the call leaves in it
 abbrev left : tie.After-wing-words → List ℕ
@@ -86,7 +86,7 @@ returns c =
     let a = start r .args in
     let o = outcomeOf (w .before .wing-words .result) in
     let cut = length-take-le (r .room .result) (a .words .now) (m r .0) ∙ r .room .ensures in
-    let read = w .before .wing-words .ensures .0 ∙ ap (λ x. wingRead (a .d) (a .v) (a .s) (a .cells .now) x) cut ∙ wing-room (a .d) (a .v) (a .s) (a .cells .now) (wordsIn (a .table .now)) (length (a .words .now)) (start r .pre) in
+    let read = w .before .wing-words .ensures .0 ∙ ap (λ x. wingRead (a .d) (a .v) (a .s) (a .cells .now) x) cut ∙ wing-room (a .d) (a .v) (a .s) (a .cells .now) (wordsIn (a .table .now)) in
     let host = wing-host (a .d) (a .v) (a .s) (a .cells .now) (wordsIn (a .table .now)) (a .table .now) o refl read in (
       toZ-ofZ w64 _ (search needs) ∙ call .ensures .0 ∙ host .0,
       call .ensures .1

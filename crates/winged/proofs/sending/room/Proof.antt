@@ -1,4 +1,4 @@
--- The lesser of the whole words and the most. Assumes nothing.
+-- The lesser of the whole words and the largest table. Assumes nothing.
 use mathlib.Core.Path.{refl}
 use borrow.Author.Tests.{le-leb, lt-leb}
 use Rattle.winged.proofs.sending.room.Statement.{statement}
