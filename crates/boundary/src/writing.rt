@@ -55,7 +55,7 @@ pub fn write_cell(d: usize, entry: &[u16], at: usize, out: &mut [u16]) -> usize
 }
 
 // The boundary faces of all cells, from the start of the buffer.
-pub fn write_faces(d: usize, s: usize, table: &[u16], out: &mut [u16]) -> usize
+pub(crate) fn write_faces(d: usize, s: usize, table: &[u16], out: &mut [u16]) -> usize
     requires of { ⌜ (d ≤ 7) × (s ≤ 4096) × (length (now table) ≡ tableLength d s) ⌝ }
     requires room { ⌜ length (allWords d s (now table)) ≤ length (now out) ⌝ }
     ensures place { λ r. ⌜ r ≡ length (allWords d s (now (table .entry))) ⌝ }

@@ -29,7 +29,7 @@ fn in_range(b: &[u8], at: usize) -> bool
 }
 
 // The float at a place, one in range.
-pub fn float_at(b: &[u8], at: usize) -> f64
+pub(crate) fn float_at(b: &[u8], at: usize) -> f64
     requires { ⌜ (at + 8 ≤ length (now b)) × (inRange (float64 (now b) at) ≡ true) ⌝ }
     ensures { λ r. ⌜ r ≡ float64 (now (b .entry)) at ⌝ }
 {

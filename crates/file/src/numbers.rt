@@ -23,7 +23,7 @@ fn long(x: u16) -> usize
     x as usize
 }
 
-pub fn byte_at(b: &[u8], at: usize) -> usize
+pub(crate) fn byte_at(b: &[u8], at: usize) -> usize
     requires { ⌜ at < length (now b) ⌝ }
     ensures { λ r. ⌜ (r ≡ getD (now (b .entry)) at 0) × (r < 256) ⌝ }
 {
@@ -74,7 +74,7 @@ pub fn point_count(b: &[u8]) -> usize
 }
 
 // Bytes of a cell of dimension d.
-pub fn cell_size(d: usize) -> usize
+pub(crate) fn cell_size(d: usize) -> usize
     requires { ⌜ d < 256 ⌝ }
     ensures { λ r. ⌜ (r ≡ cellBytes d) × (r < 1024) ⌝ }
 {

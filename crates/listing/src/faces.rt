@@ -94,7 +94,7 @@ fn put_cell(d: usize, base: usize, table: &[u16], buf: &mut [u8], at: usize) -> 
 }
 
 // The boundary faces of a table. There are none in dimension 0.
-pub fn faces_size(d: usize, s: usize, table: &[u16]) -> Size
+pub(crate) fn faces_size(d: usize, s: usize, table: &[u16]) -> Size
     requires { ⌜ Table d s (now table) ⌝ }
     ensures { λ r. ⌜ SizeOf (facesOf d s (now (table .entry))) (r .count) (r .bytes) ⌝ }
     ensures { λ r. ⌜ (r .count ≤ 32768) × (r .bytes ≤ 8388608) ⌝ }
@@ -115,7 +115,7 @@ pub fn faces_size(d: usize, s: usize, table: &[u16]) -> Size
     Size { count, bytes }
 }
 
-pub fn put_faces(d: usize, s: usize, table: &[u16], buf: &mut [u8], at: usize) -> usize
+pub(crate) fn put_faces(d: usize, s: usize, table: &[u16], buf: &mut [u8], at: usize) -> usize
     requires { ⌜ Table d s (now table) × (at + length (faceLines (facesOf d s (now table))) ≤ length (now buf)) ⌝ }
     ensures { λ r. ⌜ Put at (faceLines (facesOf d s (now (table .entry)))) (now (buf .entry)) r (now (buf .exit)) ⌝ }
 {

@@ -25,7 +25,7 @@ fn vertex_len(n: usize, p: usize, points: &[f64]) -> usize
     k
 }
 
-pub fn vertices_len(n: usize, v: usize, points: &[f64]) -> usize
+pub(crate) fn vertices_len(n: usize, v: usize, points: &[f64]) -> usize
     requires { ⌜ Points n v (now points) ⌝ }
     ensures { λ r. ⌜ r ≡ length (vertexLines n v (now (points .entry))) ⌝ }
 {
@@ -53,7 +53,7 @@ fn put_vertex(n: usize, p: usize, points: &[f64], buf: &mut [u8], at: usize) -> 
     put_byte(buf, cur, b'\n')
 }
 
-pub fn put_vertices(n: usize, v: usize, points: &[f64], buf: &mut [u8], at: usize) -> usize
+pub(crate) fn put_vertices(n: usize, v: usize, points: &[f64], buf: &mut [u8], at: usize) -> usize
     requires { ⌜ Points n v (now points) × (at + length (vertexLines n v (now points)) ≤ length (now buf)) ⌝ }
     ensures { λ r. ⌜ Put at (vertexLines n v (now (points .entry))) (now (buf .entry)) r (now (buf .exit)) ⌝ }
 {

@@ -12,7 +12,7 @@ ghost use Rattle.points.specs.Levels.{movedAll, levels};
 ghost use Rattle.points.specs.Stay.{staysIn, allStay};
 
 // Whether the point stays in range in h steps.
-pub fn stays(step: Step, n: usize, h: usize, p: [f64; 8]) -> bool
+fn stays(step: Step, n: usize, h: usize, p: [f64; 8]) -> bool
     requires { ⌜ (n ≤ 8) × (stepFits n step ≡ true) ⌝ }
     ensures { λ r. ⌜ r ≡ staysIn step n h (take n p) ⌝ }
 {
@@ -47,7 +47,7 @@ pub fn all_stay(step: Step, n: usize, v: usize, h: usize, points: &[f64]) -> boo
 }
 
 // Copies w floats from one place of out to a later one.
-pub fn copy_up(w: usize, from: usize, to: usize, out: &mut [f64])
+fn copy_up(w: usize, from: usize, to: usize, out: &mut [f64])
     requires { ⌜ (from + w ≤ to) × (to + w ≤ length (now out)) ⌝ }
     ensures { λ _. ⌜ now (out .exit) ≡ paste (now (out .entry)) to (take w (drop from (now (out .entry)))) w ⌝ }
 {
@@ -59,7 +59,7 @@ pub fn copy_up(w: usize, from: usize, to: usize, out: &mut [f64])
 }
 
 // Moves the v points of out from at on by one step.
-pub fn move_level(step: Step, n: usize, v: usize, at: usize, out: &mut [f64])
+fn move_level(step: Step, n: usize, v: usize, at: usize, out: &mut [f64])
     requires { ⌜ stepFits n step ≡ true ⌝ }
     requires { ⌜ at + v * n ≤ length (now out) ⌝ }
     ensures { λ _. ⌜ now (out .exit) ≡ paste (now (out .entry)) at (movedAll step n v (take (v * n) (drop at (now (out .entry))))) (v * n) ⌝ }
@@ -73,7 +73,7 @@ pub fn move_level(step: Step, n: usize, v: usize, at: usize, out: &mut [f64])
 }
 
 // Writes at to the v points of the level that starts at from, moved by one step.
-pub fn write_level(step: Step, n: usize, v: usize, from: usize, to: usize, out: &mut [f64])
+fn write_level(step: Step, n: usize, v: usize, from: usize, to: usize, out: &mut [f64])
     requires { ⌜ stepFits n step ≡ true ⌝ }
     requires { ⌜ (from + v * n ≤ to) × (to + v * n ≤ length (now out)) ⌝ }
     ensures { λ _. ⌜ now (out .exit) ≡ paste (now (out .entry)) to (movedAll step n v (take (v * n) (drop from (now (out .entry))))) (v * n) ⌝ }

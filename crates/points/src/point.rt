@@ -9,7 +9,7 @@ ghost use lib.ListN.{length, take, drop};
 ghost use Rattle.points.specs.Step.{stepFits, addAt, turned, movedPoint};
 
 // x added on axis a.
-pub fn add_at(a: usize, x: f64, p: &mut [f64])
+fn add_at(a: usize, x: f64, p: &mut [f64])
     requires { ⌜ a < length (now p) ⌝ }
     ensures { λ _. ⌜ now (p .exit) ≡ addAt a x (now (p .entry)) ⌝ }
 {
@@ -30,7 +30,7 @@ pub fn turn(t: Turn, p: &mut [f64])
 }
 
 // The point, of n axes, after the step. Other axes stay as they are.
-pub fn move_point(step: Step, n: usize, p: &mut [f64])
+pub(crate) fn move_point(step: Step, n: usize, p: &mut [f64])
     requires { ⌜ (length (now p) ≡ n) × (stepFits n step ≡ true) ⌝ }
     ensures { λ _. ⌜ now (p .exit) ≡ movedPoint step n (now (p .entry)) ⌝ }
 {
@@ -49,7 +49,7 @@ pub fn move_point(step: Step, n: usize, p: &mut [f64])
 }
 
 // Writes xs from the start of out.
-pub fn put(xs: &[f64], out: &mut [f64])
+pub(crate) fn put(xs: &[f64], out: &mut [f64])
     requires { ⌜ length (now xs) ≤ length (now out) ⌝ }
     ensures { λ _. ⌜ now (out .exit) ≡ now (xs .entry) ++ drop (length (now (xs .entry))) (now (out .entry)) ⌝ }
 {
@@ -61,7 +61,7 @@ pub fn put(xs: &[f64], out: &mut [f64])
 }
 
 // A row of eight floats that begins with xs.
-pub fn load(xs: &[f64]) -> [f64; 8]
+pub(crate) fn load(xs: &[f64]) -> [f64; 8]
     requires { ⌜ length (now xs) ≤ 8 ⌝ }
     ensures { λ r. ⌜ take (length (now (xs .entry))) r ≡ now (xs .entry) ⌝ }
 {

@@ -28,7 +28,7 @@ pub fn all_in_range(xs: &[f64]) -> bool
 }
 
 // Of the numbers that the step holds.
-pub fn step_in_range(step: Step) -> bool
+fn step_in_range(step: Step) -> bool
     ensures { λ r. ⌜ r ≡ allOf inRange (stepFloats step) ⌝ }
 {
     match step {

@@ -6,7 +6,7 @@ ghost use Rattle.printing.specs.Decimal.{thousandths, negative};
 
 // The magnitude in thousandths, to the nearest, a half upwards. The exponent's field is 1075 - k. From k = 64 on the
 // magnitude is less than half a thousandth.
-pub fn thousandths_of(x: f64) -> u64
+pub(crate) fn thousandths_of(x: f64) -> u64
     requires { ⌜ inRange x ≡ true ⌝ }
     ensures { λ r. ⌜ r ≡ thousandths x ⌝ }
 {
@@ -21,7 +21,7 @@ pub fn thousandths_of(x: f64) -> u64
 }
 
 // Whether the sign bit is set.
-pub fn is_negative(x: f64) -> bool
+pub(crate) fn is_negative(x: f64) -> bool
     requires { ⌜ inRange x ≡ true ⌝ }
     ensures { λ r. ⌜ r ≡ negative x ⌝ }
 {

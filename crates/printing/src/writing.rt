@@ -79,7 +79,7 @@ fn put_decimals(buf: &mut [u8], at: usize, t: u64) -> usize
     put_byte(buf, last, digit_byte(t))
 }
 
-pub fn put_coordinate(buf: &mut [u8], at: usize, x: f64) -> usize
+fn put_coordinate(buf: &mut [u8], at: usize, x: f64) -> usize
     requires { ⌜ (inRange x ≡ true) × (at + length (coordinate x) ≤ length (now buf)) ⌝ }
     ensures { λ r. ⌜ Put at (coordinate x) (now (buf .entry)) r (now (buf .exit)) ⌝ }
 {

@@ -20,14 +20,14 @@ pub fn in_limits(d: usize, v: usize, s: usize, h: usize) -> bool
     Shape::within(Shape::MAX_SOURCE, d, v, s)
 }
 
-pub fn swept_vertices(v: usize, h: usize) -> usize
+fn swept_vertices(v: usize, h: usize) -> usize
     requires { ⌜ (v ≤ 4096) × (h ≤ 64) ⌝ }
     ensures { λ r. ⌜ r ≡ sweptVertices v h ⌝ }
 {
     (h + 1) * v
 }
 
-pub fn swept_cells(d: usize, s: usize, h: usize) -> usize
+pub(crate) fn swept_cells(d: usize, s: usize, h: usize) -> usize
     requires { ⌜ (d ≤ 6) × (s ≤ 4096) × (h ≤ 64) ⌝ }
     ensures { λ r. ⌜ r ≡ sweptCells d s h ⌝ }
 {
@@ -35,7 +35,7 @@ pub fn swept_cells(d: usize, s: usize, h: usize) -> usize
 }
 
 // Swept vertices or cells over the limit.
-pub fn too_large(d: usize, v: usize, s: usize, h: usize) -> bool
+pub(crate) fn too_large(d: usize, v: usize, s: usize, h: usize) -> bool
     requires { ⌜ (shapeOk maxSource d v s && stepsOk h) ≡ true ⌝ }
     ensures { λ r. ⌜ r ≡ (ltb maxVertices (sweptVertices v h) || ltb maxCells (sweptCells d s h)) ⌝ }
 {
