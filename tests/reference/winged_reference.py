@@ -1,4 +1,4 @@
-"""A brute-force reference for winged solids, written from the scope document alone.
+"""A brute-force reference for winged solids, written from the rules of the paper alone, apart from the engine.
 
 A signed cell is a pair (sign, vertices): +1 or -1, and a tuple of ascending vertices.
 Every call returns Refused(number), or an answer with a count and what is written.
@@ -180,7 +180,7 @@ def side_pairs(d, a):
     return pairs
 
 def swept_wings(d, s, h, wings):
-    """The wings of the swept table, by the rule of the document."""
+    """The wings of the swept table, by the rule of the paper, section 4."""
     def number(k, p, i):
         return k + p * (d + 1) + i * s * (d + 1)
 

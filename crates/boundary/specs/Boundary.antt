@@ -1,4 +1,4 @@
--- Boundary faces.
+-- Boundary faces. Paper, section 5.
 --   atEmpty fs ws         those faces of a cell at which its wing is empty
 --   boundaryOf es         the boundary of a table: the faces at empty wings, by cell and then position
 --   ownBoundary cs        a solid's own boundary, told from its cells: the faces that belong to one cell only

@@ -1,4 +1,4 @@
--- The call faces: it takes a table and writes one record for each boundary face: sign word, d vertices.
+-- The call faces: it takes a table and writes one record for each boundary face: sign word, d vertices. Paper, sections 5 and 9.
 --   faceSize d            words of a face record of a table of dimension d
 --   boundaryCells i       the boundary of the table
 --   facesRules, facesOutcome (the count of records), facesBuffer

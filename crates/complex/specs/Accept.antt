@@ -1,4 +1,4 @@
--- What refuses a list of cells: rows 6 to 11 of the refusal table.
+-- What refuses a list of cells: rows 6 to 11 of the refusal table. Paper, sections 2 and 9.
 --   Listed            a list of cells as words, with its dimension d, vertex count v and cell count s
 --   solidOf l         its cells in ascending order
 --   solidRules         the six rows

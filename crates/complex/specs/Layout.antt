@@ -1,4 +1,4 @@
--- Cells and tables as 16-bit words.
+-- Cells and tables as 16-bit words. Paper, section 3.
 --   a list cell       sign word, d + 1 vertices
 --   a table record    sign word, d + 1 ascending vertices, d + 1 wings
 --   Entry             a table record: the cell and its wings

@@ -1,4 +1,4 @@
--- The table of a solid, and soundness.
+-- The table of a solid, and soundness. Paper, section 3.
 --   tableOf cs            the cells with their wings
 --   entryAt es p          entry p of a table
 --   wingAt es p a         wing a of its cell p

@@ -1,4 +1,4 @@
--- Neighbours, told from the cells alone.
+-- Neighbours, told from the cells alone. Paper, section 3.
 --   hasFace w v           whether the cell on the row v has the face w; in dimension 0 there is none
 --   neighbour p w cs      the number of the first cell other than p that has the face w, or 65535
 --   wingsOf cs p c        the wings of cell p of the list: its neighbour at each face

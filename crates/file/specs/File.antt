@@ -1,4 +1,4 @@
--- A file: 40 bytes of header, v n floats, then s cells of a sign byte and d + 1 vertices. Numbers are little-endian.
+-- A file: 40 bytes of header, v n floats, then s cells of a sign byte and d + 1 vertices. Numbers are little-endian. Paper, section 7.
 --   dimensionOf, axesOf, vertexCountOf, cellCountOf, stepsOf     the header's numbers d, n, v, s, h
 --   kindOf, axisOf b k, amountOf b k                      the step's kind, its two axis bytes, its three floats
 --   stepOf b              the step

@@ -1,4 +1,4 @@
--- The tests that read makes of a file, each by itself, and the words of its cells.
+-- The tests that read makes of a file, each by itself, and the words of its cells. Paper, sections 7 and 9.
 --   notOurs           row 1
 --   numbersFit, numbersOk     row 2, of the numbers by themselves and of a file
 --   floatsOk          row 4

@@ -1,4 +1,4 @@
--- The call list: it takes a table and its points and writes the key's text.
+-- The call list: it takes a table and its points and writes the key's text. Paper, sections 8 and 9.
 --   listInput         what the call is told
 --   listText          the key's text
 --   listRules, listOutcome (the count of bytes), listBuffer

@@ -1,4 +1,4 @@
--- The lines of the key.
+-- The lines of the key. Paper, section 8.
 --   firstLine d n v f             "key", dimension, axes, vertices, faces
 --   vertexLines n v ps            for each vertex "v", its number, its coordinates
 --   faceLines fs                  for each face "+" or "-", and its vertices

@@ -1,4 +1,4 @@
--- The text that the program key prints for any input: it reads, wings, sweeps, moves and lists.
+-- The text that the program key prints for any input: it reads, wings, sweeps, moves and lists. Paper, section 8.
 --   inputLimit        a longer input is refusal 3 before all else
 --   wordRoom, floatRoom, byteRoom     the rooms of the lent buffers: 65,536 bytes each
 --   keyOutcome b      the key's text, or the first refused call's number

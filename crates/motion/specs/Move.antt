@@ -1,4 +1,4 @@
--- The call move (move_points in code, since move is a keyword): it takes points and writes levels 0 to h.
+-- The call move (move_points in code, since move is a keyword): it takes points and writes levels 0 to h. Paper, sections 6 and 9.
 --   moveInput                  what the call is told: numbers, step, lent points, room in the lent buffer
 --   moveRules, moveOutcome (the count of floats), moveBuffer
 use mathlib.Core.Bool.{not, _&&_}

@@ -1,4 +1,4 @@
--- Levels of points. A list of points of n axes is a list of floats, vertex by vertex.
+-- Levels of points. A list of points of n axes is a list of floats, vertex by vertex. Paper, section 6.
 --   movedAll step n v ps      all v points after the step
 --   levelOf step n v ps i     level i: the step applied to the level before; level 0 is the lent points
 --   levels step n v h ps      levels 0 to h, in order

@@ -1,4 +1,4 @@
--- A step: slide (axis, amount), slant (two axes, an amount each) or turn (cosine, sine, rise).
+-- A step: slide (axis, amount), slant (two axes, an amount each) or turn (cosine, sine, rise). Paper, section 6.
 -- Each operation on floats is IEEE 754's on 64 bits, rounded once, to the nearest value.
 --   inRange x         rule 4: finite, and of magnitude below 1,048,576
 --   onCircle t        c times c plus s times s is within 1 ± 2^-40

@@ -1,4 +1,4 @@
--- Numbers in print. Text is a list of bytes.
+-- Numbers in print. Text is a list of bytes. Paper, section 8.
 --   digits n          a whole number in decimal, without leading zeros
 --   thousandths x     the magnitude of a float in thousandths, to the nearest, a half upwards
 --   coordinate x      a float with three decimals; what rounds to zero has no minus

@@ -1,4 +1,4 @@
--- Swept cells. A solid on v vertices, swept in h steps, has the vertex x at level i as x + i v.
+-- Swept cells. A solid on v vertices, swept in h steps, has the vertex x at level i as x + i v. Paper, section 4.
 --   lifted v i w          a row of the solid at level i
 --   prismCell v i k c     cell k over the cell c at level i
 --   prism v i c           the cells over c at level i

@@ -1,5 +1,5 @@
--- Side pairs. A cell p of dimension d has, over its face a, d sides among its swept cells: pairs (cell k, position j).
--- Places count from 0 here: the document's l-th pair is at place l - 1.
+-- Side pairs. A cell p of dimension d has, over its face a, d sides among its swept cells: pairs (cell k, position j). Paper, section 4.
+-- Places count from 0 here: the paper's l-th pair is at place l - 1.
 --   sidePair d a l        the pair at place l, by the step rule
 --   sideFace d k j        the face over which position j of cell k stands: that vertex it lacks
 --   sidePlace d k j       its place among the sides over that face

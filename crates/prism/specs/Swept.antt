@@ -1,4 +1,4 @@
--- The table of a sweep in h steps.
+-- The table of a sweep in h steps. Paper, section 4.
 --   sweptEntry d v s h es i p k    the entry of cell k over cell p at level i
 --   sweptTable d v s h es          the entries over level i, cell p and cell k, in this order
 --   sweptCells d s h               how many there are

@@ -1,4 +1,4 @@
--- The wings of swept cells, from the wings of the solid.
+-- The wings of swept cells, from the wings of the solid. Paper, section 4.
 --   cellNumber d s i p k      the number of cell k over cell p at level i
 --   backTo wing p q d         the position b at which wing b of q is p
 --   sweptWing .. i p k j      wing j of cell k over cell p at level i, in a sweep of h steps of s cells

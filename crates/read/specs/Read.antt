@@ -1,4 +1,4 @@
--- The call read: it takes a file's bytes, writes its cells and its points, and answers the header.
+-- The call read: it takes a file's bytes, writes its cells and its points, and answers the header. Paper, sections 7 and 9.
 --   readInput b cells points     the input: the bytes, and the lengths of the two lent buffers
 --   headerOf b            the header's numbers and the step
 --   readRules, readOutcome (the header), readCells and readPoints (the two lent buffers)

@@ -1,4 +1,4 @@
--- What a call answers, and what it leaves in a lent buffer.
+-- What a call answers, and what it leaves in a lent buffer. Paper, section 9.
 --   Rule A            a row of the refusal table: its number, and the test on the call's input
 --   firstRefusal      the number of the first rule that applies, 0 if none does
 --   Outcome A         accepted with values, or refused with a number

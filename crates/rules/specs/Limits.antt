@@ -1,4 +1,4 @@
--- The limits on the numbers that a call is told.
+-- The limits on the numbers that a call is told. Paper, section 9.
 --   maxDimension      d of a table; read and sweep go to maxSource, since a sweep adds one
 --   maxAxes, maxVertices, maxCells, maxSteps
 --   empty             the wing word for no neighbour, 65535

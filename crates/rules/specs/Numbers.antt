@@ -1,4 +1,4 @@
--- What the cases of an answer mean in the document's terms.
+-- What the cases of an answer mean: numbers of the refusal table. Paper, section 9.
 --   numberOf r        the number of a refusal in the refusal table
 --   outcomeOf a       the count that was written, or the number of the refusal
 use Prim.Native.Nat.{ℕ}

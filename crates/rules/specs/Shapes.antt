@@ -1,4 +1,4 @@
--- The shape of a table: its dimension d, vertex count v and cell count s.
+-- The shape of a table: its dimension d, vertex count v and cell count s. Paper, section 9.
 --   shapeOk top d v s     d is at most top, and the counts are within the limits
 --   shapeOf top d v s     the shape, or that it is outside
 use mathlib.Core.Bool.{Bool, true, false, _&&_}

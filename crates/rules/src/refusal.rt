@@ -26,7 +26,7 @@ pub enum Answer {
     Refused(Refusal),
 }
 
-// The document's number of a refusal.
+// A refusal's number in the paper, section 9.
 pub fn number(r: Refusal) -> u8
     ensures { λ n. ⌜ n ≡ numberOf r ⌝ }
 {

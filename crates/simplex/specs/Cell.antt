@@ -1,4 +1,4 @@
--- A cell: a sign and a row of vertex numbers. A cell of dimension d has d + 1 vertices.
+-- A cell: a sign and a row of vertex numbers. A cell of dimension d has d + 1 vertices. Paper, section 2.
 --   Sign              true is plus, false is minus
 --   Row               vertex numbers; position i counts from 0
 --   Cell              sign and row

@@ -1,4 +1,4 @@
--- Lists of signed cells: how often a cell stands in one, and the list as a sum with whole coefficients (a chain).
+-- Lists of signed cells: how often a cell stands in one, and the list as a sum with whole coefficients (a chain). Paper, section 5.
 -- Rows are compared place by place, so cells are put in ascending order before.
 --   countOn s w cs      how many cells of the list have the sign s and the row w
 --   total w cs          how many have the row w

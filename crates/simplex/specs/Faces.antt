@@ -1,4 +1,4 @@
--- The faces of a cell.
+-- The faces of a cell. Paper, section 2.
 --   without i w       the row less the vertex at position i
 --   face i c          face i of a cell; its sign is the cell's times (-1)^i
 --   faces s w         the faces of the cell with sign s and row w, by position

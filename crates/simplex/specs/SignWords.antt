@@ -1,4 +1,4 @@
--- Signs as 16-bit words: 0 is plus, 1 is minus.
+-- Signs as 16-bit words: 0 is plus, 1 is minus. Paper, section 3.
 --   signOf x              the sign of a word
 --   signWord s            the word of a sign
 --   turnedSign w n        the sign word w turned over n times: its sign times (-1)^n

@@ -1,4 +1,4 @@
--- The call sweep: it takes a table and writes the table of its sweep in h steps.
+-- The call sweep: it takes a table and writes the table of its sweep in h steps. Paper, sections 4 and 9.
 --   sweptWords                the words of the swept table
 --   sweepInput                the call's input
 --   sweepRules, sweepOutcome, sweepBuffer

@@ -1,4 +1,4 @@
--- Figures 3, 4 and 6 of the source paper: two triangles, swept twice.
+-- Figures 3, 4 and 6 of Ferrucci and Paoluzzi: two triangles, swept twice. Paper, section 12.
 -- The figures' vertices A, C, B, D, E are 0 to 4; an index 01 behind a name adds 5, and in figure 6 a last 1 adds 10.
 --   plus row wings, minus row wings     an entry; o is the empty wing
 --   figure4, figure6                    the entries as printed there

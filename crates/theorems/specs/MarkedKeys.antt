@@ -1,4 +1,4 @@
--- The marked keys K1 to K10, as one statement about the definitions.
+-- The marked keys K1 to K10, as one statement about the definitions. Paper, section 11.
 use mathlib.Core.Path.{_≡_}
 use mathlib.Core.List.{List, [], _∷_, _++_}
 use Prim.Native.Nat.{ℕ}

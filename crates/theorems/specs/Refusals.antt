@@ -1,4 +1,4 @@
--- The example of each row of the refusal table, with its neighbour on the accepted side where that is short.
+-- The example of each row of the refusal table, with its neighbour on the accepted side where that is short. Paper, section 9.
 use mathlib.Core.Path.{_≡_}
 use mathlib.Core.List.{List, [], _∷_, _++_}
 use Prim.Native.Nat.{ℕ, _*_}

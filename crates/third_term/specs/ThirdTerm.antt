@@ -1,4 +1,4 @@
--- The third term, stated over the definitions that the contracts of wing, sweep and faces cite.
+-- The third term, stated over the definitions that the contracts of wing, sweep and faces cite. Paper, section 1.
 --   Sitting               a list of s cells as words, and the buffers lent to wing and to sweep
 --   Unrefused d v h x     wing accepts the list, and sweep accepts the table that wing writes, in h steps
 --   solid                 the accepted cells, in ascending order

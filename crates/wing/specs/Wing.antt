@@ -1,4 +1,4 @@
--- The call wing: it takes a list of cells and writes its table.
+-- The call wing: it takes a list of cells and writes its table. Paper, sections 3 and 9.
 --   WingInput         the list, and the room of the lent buffer in words
 --   wingInput         the input of these numbers, these words and this room
 --   wingRules         its refusals, in order

@@ -1,4 +1,4 @@
--- What a host in C gets: wing, sweep and faces on numbers and byte slices, words little-endian.
+-- What a host in C gets: wing, sweep and faces on numbers and byte slices, words little-endian. Paper, section 10.
 --   hostAnswer f o        the count of words written, or minus the refusal's number
 --   hostWing, hostSweep, hostFaces                  the answers
 --   hostWingBuffer, hostSweepBuffer, hostFacesBuffer    the lent bytes after the call

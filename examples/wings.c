@@ -1,0 +1,152 @@
+/* Wings, sweeps and boundaries of cells written as text, through the library.
+ *
+ *     wings V [H] <CELLS
+ *
+ * A line of the input is a cell on V vertices: + or -, and its vertex numbers. Printed are the table of the cells, or of
+ * their sweep in H steps, and the boundary. A line of the table: the cell's number, its sign and vertices, its wings, with
+ * a point for the empty wing. A line of the boundary is a face. A refused call is told by the line "refused N". */
+#include <inttypes.h>
+#include <stdio.h>
+#include <stdlib.h>
+
+#include "winged.h"
+
+enum { D = WINGED_MAX_DIMENSION, S = WINGED_MAX_CELLS };
+
+static uint8_t cells[WINGED_LIST_BYTES(D, S)];
+static uint8_t table[WINGED_TABLE_BYTES(D, S)];
+static uint8_t swept[WINGED_TABLE_BYTES(D, S)];
+static uint8_t faces[WINGED_FACES_BYTES(D, S)];
+
+/* A solid or its sweep: dimension, vertices, cells, and its table. */
+struct solid {
+    uint32_t d, v, s;
+    const uint8_t *table;
+};
+
+static void put_word(uint8_t *bytes, size_t at, unsigned word)
+{
+    bytes[2 * at] = (uint8_t)(word & 255);
+    bytes[2 * at + 1] = (uint8_t)(word >> 8);
+}
+
+static unsigned get_word(const uint8_t *bytes, size_t at)
+{
+    return bytes[2 * at] + 256u * bytes[2 * at + 1];
+}
+
+static void wrong(const char *reason)
+{
+    fprintf(stderr, "wings: %s\n", reason);
+    exit(2);
+}
+
+/* The words of a call's answer; a refusal is printed, and ends the program. */
+static size_t answered(int64_t answer)
+{
+    if (answer < 0) {
+        printf("refused %" PRId64 "\n", -answer);
+        exit(1);
+    }
+    return (size_t)answer;
+}
+
+static uint32_t number(const char *word)
+{
+    char *end;
+    unsigned long n = strtoul(word, &end, 10);
+    if (*word < '0' || *word > '9' || *end != '\0' || n > UINT32_MAX)
+        wrong("V and H are whole numbers");
+    return (uint32_t)n;
+}
+
+/* Reads the cell of one line to the given words, and tells how many vertices it has. */
+static size_t read_cell(const char *line, uint8_t *to)
+{
+    size_t n = 0;
+    char *end;
+    if (*line != '+' && *line != '-')
+        wrong("a line of the input is + or -, and vertex numbers");
+    put_word(to, 0, *line == '-');
+    for (line++;; line = end) {
+        unsigned long vertex = strtoul(line, &end, 10);
+        if (end == line)
+            break;
+        if (n > D || vertex > 65535)
+            wrong("a cell has at most 8 vertices, each below 65,536");
+        put_word(to, ++n, (unsigned)vertex);
+    }
+    while (*line == ' ' || *line == '\n')
+        line++;
+    if (n == 0 || *line != '\0')
+        wrong("a line of the input is + or -, and vertex numbers");
+    return n;
+}
+
+/* All cells of the input. They have as many vertices as the first. */
+static struct solid read_cells(uint32_t v)
+{
+    char line[256];
+    struct solid read = {0, v, 0, table};
+    for (size_t at = 0; fgets(line, sizeof line, stdin) != NULL; read.s++) {
+        if (read.s == S)
+            wrong("too many cells");
+        size_t n = read_cell(line, cells + 2 * at);
+        if (read.s > 0 && n != read.d + 1)
+            wrong("cells have as many vertices as the first");
+        read.d = (uint32_t)n - 1;
+        at += WINGED_LIST_CELL(read.d);
+    }
+    return read;
+}
+
+static void print_cell(const uint8_t *record, size_t vertices)
+{
+    printf("%c", get_word(record, 0) == 0 ? '+' : '-');
+    for (size_t i = 1; i <= vertices; i++)
+        printf(" %u", get_word(record, i));
+}
+
+static void print_table(struct solid x)
+{
+    for (uint32_t p = 0; p < x.s; p++) {
+        const uint8_t *record = x.table + 2 * p * WINGED_RECORD(x.d);
+        printf("%" PRIu32 ": ", p);
+        print_cell(record, x.d + 1);
+        printf(" wings");
+        for (size_t i = 0; i <= x.d; i++) {
+            unsigned wing = get_word(record, WINGED_LIST_CELL(x.d) + i);
+            if (wing == WINGED_EMPTY)
+                printf(" .");
+            else
+                printf(" %u", wing);
+        }
+        printf("\n");
+    }
+}
+
+static void print_boundary(struct solid x)
+{
+    size_t words = answered(winged_faces(x.d, x.v, x.s, x.table, WINGED_TABLE_BYTES(x.d, x.s), faces, sizeof faces));
+    printf("boundary\n");
+    for (size_t at = 0; at < words; at += WINGED_FACE(x.d)) {
+        print_cell(faces + 2 * at, x.d);
+        printf("\n");
+    }
+}
+
+int main(int argc, char **argv)
+{
+    if (argc != 2 && argc != 3)
+        wrong("usage: wings V [H] <CELLS");
+    struct solid x = read_cells(number(argv[1]));
+    answered(winged_wing(x.d, x.v, x.s, cells, WINGED_LIST_BYTES(x.d, x.s), table, sizeof table));
+    if (argc == 3) {
+        uint32_t h = number(argv[2]);
+        answered(winged_sweep(x.d, x.v, x.s, h, table, WINGED_TABLE_BYTES(x.d, x.s), swept, sizeof swept));
+        x = (struct solid){x.d + 1, (h + 1) * x.v, (uint32_t)WINGED_SWEPT_CELLS(x.d, x.s, h), swept};
+    }
+    print_table(x);
+    print_boundary(x);
+    return 0;
+}
