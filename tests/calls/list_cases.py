@@ -60,6 +60,10 @@ def limits():
         yield case(f"v {v}", 0, 1, v, 1, [1, 0, EMPTY], plain(v), row=0 if 1 <= v <= 4096 else 2)
     for s in (0, 1, 2, 4095, 4096, 4097, 4098):
         yield case(f"s {s}", 0, 1, 4096, s, points_apart(s), [0.0] * 4096, row=0 if 1 <= s <= 4096 else 2)
+    most = (7, 8, 4096, 4096)
+    yield case("the most of all, no table", *most, [0] * 69632, [0.0] * 32768, row=14)
+    yield case("the most of all, a word short", *most, [0] * 69631, [0.0] * 32768, row=3)
+    yield case("the most of all, a float short", *most, [0] * 69632, [0.0] * 32767, row=3)
     for place, x in itertools.product(range(4), HUGE):
         numbers = [0, 1, 1, 1]
         numbers[place] = x
