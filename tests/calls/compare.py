@@ -1,4 +1,4 @@
-"""Compares the calls read and move with the unrelated reference.
+"""Compares the calls read, move and list with the unrelated reference.
 
 usage: compare.py SHOW [SEED]
 
@@ -16,6 +16,7 @@ import tempfile
 
 TESTS = os.path.dirname(os.path.dirname(os.path.abspath(__file__)))
 sys.path[:0] = [TESTS, os.path.join(TESTS, "reference")]
+import list_cases  # noqa: E402
 import move_cases  # noqa: E402
 import read_cases  # noqa: E402
 from tally import Tally, rows  # noqa: E402
@@ -66,7 +67,8 @@ def main():
     tally = Tally(shown=10)
     for name, cases, last, wanted in (
             ("read", read_cases.cases, "behind", {0, 1, 2, 3, 4, 5, 6, 7, 8, 15}),
-            ("move", move_cases.cases, "buffer", {0, 2, 3, 4, 5, 12, 13, 15})):
+            ("move", move_cases.cases, "buffer", {0, 2, 3, 4, 5, 12, 13, 15}),
+            ("list", list_cases.cases, "buffer", {0, 2, 3, 4, 14, 15})):
         compare(name, program, list(cases(random.Random(seed))), last, wanted, tally)
     return tally.finish()
 

@@ -1,4 +1,5 @@
 // Numbers and floats of the input.
+use words::copy;
 use words::little;
 
 // The next number; 0 where the input has ended.
@@ -36,5 +37,23 @@ pub(crate) fn fill(floats: &mut [f64]) {
     while i < floats.len() {
         floats[i] = read_float();
         i += 1;
+    }
+}
+
+// Reads two bytes for each word.
+fn take_words(bytes: &mut [u8], words: &mut [u16]) {
+    io::read_full(0, bytes);
+    if bytes.len() / 2 <= words.len() {
+        copy::decode(bytes, words);
+    }
+}
+
+// Words come as two bytes each. Where there are more than a table has, none is read.
+pub(crate) fn fill_words(words: &mut [u16]) {
+    let mut bytes = [0u8; 140000];
+    let count = words.len();
+    if count <= 70000 {
+        let end = count * 2;
+        take_words(&mut bytes[..end], words);
     }
 }

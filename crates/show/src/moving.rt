@@ -4,13 +4,10 @@
 use crate::input::fill;
 use crate::input::read_float;
 use crate::input::read_size;
-use crate::output::end_line;
+use crate::output::print_answer;
 use crate::output::print_floats;
-use crate::output::print_number;
-use crate::output::print_refused;
 use points::step::Step;
 use points::step::Turn;
-use rules::refusal::Answer;
 
 const MARK: f64 = -700001.625;
 
@@ -34,21 +31,10 @@ fn read_step(kind: u64) -> Step {
     Step::Turn(turn)
 }
 
-fn print_answer(answer: Answer) {
-    match answer {
-        Answer::Written(count) => {
-            io::write_all(1, b"moved");
-            print_number(count);
-            end_line();
-        }
-        Answer::Refused(r) => print_refused(r),
-    }
-}
-
 fn show(n: usize, v: usize, h: usize, step: Step, points: &mut [f64], out: &mut [f64]) {
     fill(points);
     let answer = motion::move_points(n, v, h, step, points, out);
-    print_answer(answer);
+    print_answer(b"moved", answer);
     io::write_all(1, b"buffer");
     print_floats(out);
 }

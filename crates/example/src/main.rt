@@ -1,0 +1,75 @@
+// A program over the library: a square of two triangles is winged and swept in one step, and the boundary of the sweep is
+// printed, a face a line. These are the faces of the marked key K2.
+//
+// No call asks anything of its caller: whatever it is handed, it answers or refuses, and its contract says which. So the
+// calls need no proof here; what is proved is that the program ends and does nothing undefined.
+use rules::refusal;
+use rules::refusal::Answer;
+ghost use Prim.Native.Nat.{_+_, _≤_};
+ghost use lib.ListN.{length};
+
+// The count that a call answers; where it refuses, its number is printed, and the count is 0.
+fn counted(answer: Answer) -> usize {
+    match answer {
+        Answer::Written(count) => count,
+        Answer::Refused(r) => {
+            io::write_all(1, b"refused ");
+            io::print_decimal(1, refusal::number(r) as u64);
+            io::write_all(1, b"\n");
+            0
+        }
+    }
+}
+
+fn print_vertex(x: u16) {
+    io::write_all(1, b" ");
+    io::print_decimal(1, x as u64);
+}
+
+// The face at a place of the list: a sign word, 0 for plus and 1 for minus, and three vertices.
+fn print_face(faces: &[u16], at: usize)
+    requires { ⌜ at + 4 ≤ length (now faces) ⌝ }
+{
+    if faces[at] == 0 {
+        io::write_all(1, b"+");
+    } else {
+        io::write_all(1, b"-");
+    }
+    print_vertex(faces[at + 1]);
+    print_vertex(faces[at + 2]);
+    print_vertex(faces[at + 3]);
+    io::write_all(1, b"\n");
+}
+
+// The first faces of the list, as many as are asked for and are there.
+fn print_faces(faces: &[u16], count: usize) {
+    let mut left = count;
+    let mut at: usize = 0;
+    while left > 0 {
+        if faces.len() - at < 4 {
+            return;
+        }
+        print_face(faces, at);
+        at += 4;
+        left -= 1;
+    }
+}
+
+fn main() {
+    // +(0 1 2) and -(1 2 3) on 4 vertices: a sign word and d + 1 vertices for each cell
+    let cells = [0u16, 0, 1, 2, 1, 1, 2, 3];
+    // 2 d + 3 words for each cell
+    let mut table = [0u16; 14];
+    if counted(wing::wing(2, 4, 2, &cells, &mut table)) == 0 {
+        return;
+    }
+    // h s (d + 1) cells of dimension d + 1 on (h + 1) v vertices, here 6 tetrahedra on 8 vertices
+    let mut swept = [0u16; 54];
+    if counted(sweep::sweep(2, 4, 2, 1, &table, &mut swept)) == 0 {
+        return;
+    }
+    // at most d + 1 faces of each cell, with a sign word and d vertices each
+    let mut faces = [0u16; 96];
+    let count = counted(boundary::faces(3, 8, 6, &swept, &mut faces));
+    print_faces(&faces, count);
+}
