@@ -3,8 +3,8 @@
 usage: check.py DOCUMENT..
 
 A fenced block marked sh is run by `bash -eu`, the blocks of a document in order and in one scratch folder (commands.py).
-A block marked text says how the output of the sh block before it begins. Other blocks are left alone. A document must
-have a block to run, and no indented block: that would be a command that nobody runs.
+A block marked text is the output of the sh block before it; a last line '...' leaves the rest open. Other blocks are
+left alone. A document must have a block to run, and no indented block: that would be a command that nobody runs.
 Last line: 'N passed, M failed'.
 """
 
@@ -21,7 +21,7 @@ INDENTED = re.compile(r"\n\n    \S")
 
 
 def steps(text):
-    """The scripts of a document with the lines that each must print first; None for a text block without a script."""
+    """The scripts of a document with the lines that each must print; None for a text block without a script."""
     found = []
     for mark, body in FENCED.findall(text):
         if mark == "sh":
@@ -45,10 +45,10 @@ def faults(text):
                 yield script.splitlines()[0], fault(script, wanted, folder)
 
 
-GOOD = "```sh\necho one > file; echo two\n```\n\nprints\n\n```text\ntwo\n```\n\n```sh\ncat file; ls key\n```\n\n```text\none\n```\n"
+GOOD = "```sh\necho one > file; echo two\n```\n\nprints\n\n```text\ntwo\n```\n\n```sh\ncat file; ls key\n```\n\n```text\none\n...\n```\n"
 BAD = (
     "", "No block.\n", "```c\nint x;\n```\n", "    ls\n",
-    GOOD.replace("text\none", "text\nother"), GOOD.replace("text\none", "text\none\nkey\nmore"), GOOD.replace("ls key", "ls nothing"),
+    GOOD.replace("text\none", "text\nother"), GOOD.replace("one\n...", "one\nkey\nmore"), GOOD.replace("one\n...", "one"), GOOD.replace("ls key", "ls nothing"),
     GOOD.replace("echo one", "false; echo one"), GOOD.replace("cat file", "echo one $unset"), GOOD + "\n    ls\n",
     GOOD + "```text\nkey\n```\n", "```text\nalone\n```\n",
 )

@@ -22,12 +22,15 @@ def scratch():
 
 
 def fault(script, wanted, folder):
-    """What is wrong with a script's run: None if it succeeds and its output begins with the wanted lines."""
+    """What is wrong with a script's run: None if it succeeds and prints the wanted lines, if there are any. Where the last
+    of them is '...' there may be more."""
     done = subprocess.run(["bash", "-eu", "-c", script], cwd=folder, stdin=subprocess.DEVNULL, stdout=subprocess.PIPE,
                           stderr=subprocess.PIPE, text=True, check=False)
     lines = done.stdout.splitlines()
     if done.returncode != 0:
         return f"exit status {done.returncode}: {(lines + done.stderr.splitlines())[-3:]}"
-    if lines[:len(wanted)] != wanted:
-        return f"it prints {lines[:len(wanted)]}, not {wanted}"
+    if wanted[-1:] == ["..."]:
+        wanted, lines = wanted[:-1], lines[:len(wanted) - 1]
+    if wanted and lines != wanted:
+        return f"it prints {lines}, not {wanted}"
     return None
