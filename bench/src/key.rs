@@ -1,9 +1,7 @@
-//! The key of a file in plain Rust, for good files only, and the time of a whole program.
+//! The key of a file in plain Rust, for good files only.
 
-use crate::reference::{self, Scratch};
+use crate::reference::Reference;
 use std::io::Write;
-use std::process::{Command, Stdio};
-use std::time::Instant;
 
 fn short(data: &[u8], at: usize) -> usize {
     u16::from_le_bytes([data[at], data[at + 1]]) as usize
@@ -55,11 +53,11 @@ pub fn key(data: &[u8]) -> Vec<u8> {
     let mut points: Vec<f64> = (0..v * n).map(|i| float(data, 40 + 8 * i)).collect();
     let cells: Vec<u8> = data[40 + 8 * v * n..].chunks_exact(2 * d + 3).flat_map(|c| [(c[0] == b'-') as u8, 0].into_iter().chain(c[1..].iter().copied())).collect();
     let (mut table, mut swept, mut faces) = (vec![0; 1 << 17], vec![0; 1 << 17], vec![0; 1 << 18]);
-    let mut t = Scratch::default();
-    let count = reference::wing(d, v, s, &cells, &mut table, &mut t).unwrap();
-    let count = reference::sweep(d, v, s, h, &table[..2 * count], &mut swept, &mut t).unwrap();
+    let mut reference = Reference::default();
+    let count = reference.wing(d, v, s, &cells, &mut table).unwrap();
+    let count = reference.sweep(d, v, s, h, &table[..2 * count], &mut swept).unwrap();
     let (vertices, all) = ((h + 1) * v, s * h * (d + 1));
-    let count = reference::faces(d + 1, vertices, all, &swept[..2 * count], &mut faces, &mut t).unwrap();
+    let count = reference.faces(d + 1, vertices, all, &swept[..2 * count], &mut faces).unwrap();
     let mut text = Vec::with_capacity(1 << 16);
     writeln!(text, "key {} {n} {vertices} {}", d + 1, count / (d + 2)).unwrap();
     for level in 0..=h {
@@ -99,17 +97,4 @@ pub fn sample() -> Vec<u8> {
         (p..=p + d).for_each(|x| data.extend((x as u16).to_le_bytes()));
     }
     data
-}
-
-/// What a program prints for an input, and the least time of several whole runs in microseconds.
-pub fn timed(words: &[String], input: &[u8], rounds: usize) -> (Vec<u8>, f64) {
-    let (mut text, mut least) = (Vec::new(), f64::INFINITY);
-    for _ in 0..rounds {
-        let start = Instant::now();
-        let mut child = Command::new(&words[0]).args(&words[1..]).stdin(Stdio::piped()).stdout(Stdio::piped()).spawn().unwrap();
-        child.stdin.take().unwrap().write_all(input).unwrap();
-        text = child.wait_with_output().unwrap().stdout;
-        least = least.min(start.elapsed().as_secs_f64() * 1e6);
-    }
-    (text, least)
 }

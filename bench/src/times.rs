@@ -1,0 +1,91 @@
+//! Times of wing, sweep and faces on grids of cubes, plain and shuffled.
+
+use crate::both::{Both, ROOM};
+use crate::calls::{Call, Job, CALLS};
+use crate::solids::{bytes, grid, shuffled, Random};
+
+/// A call on a solid of about so many cells, for a sweep of its result, and the least times so far.
+struct Row {
+    job: Job,
+    mixed: bool,
+    size: usize,
+    input: Vec<u8>,
+    library: f64,
+    reference: f64,
+}
+
+impl Row {
+    fn new(both: &mut Both, call: Call, d: usize, h: usize, mixed: bool, size: usize) -> Row {
+        // A row of edges has a vertex more than cells, at each level.
+        let s = if call == Call::Sweep { size.min(4095) / (h * (d + 1)) } else { size.min(if d == 1 { 4095 } else { 4096 }) };
+        let (mut cells, v) = grid(d, s);
+        if mixed {
+            cells = shuffled(&cells, v, &mut Random(88172645463325252));
+        }
+        let mut input = bytes(&cells);
+        if call != Call::Wing {
+            input = both.table(d, v, s, &input).expect("a grid is accepted");
+        }
+        Row { job: Job::new(call, d, v, s, h), mixed, size, input, library: f64::INFINITY, reference: f64::INFINITY }
+    }
+
+    fn measure(&mut self, both: &mut Both, rounds: usize) {
+        let (library, reference) = both.least(&self.job, &self.input, rounds);
+        self.library = self.library.min(library);
+        self.reference = self.reference.min(reference);
+    }
+
+    fn ratio(&self) -> f64 {
+        self.library / self.reference
+    }
+}
+
+/// For each call, dimension and order a row of each size.
+fn plan(both: &mut Both, sizes: &[usize]) -> Vec<Row> {
+    let mut rows = vec![];
+    for (call, h, most) in [(Call::Wing, 1, 7), (Call::Sweep, 1, 6), (Call::Sweep, 8, 6), (Call::Faces, 1, 7)] {
+        for (d, mixed) in (1..=most).flat_map(|d| [(d, false), (d, true)]) {
+            rows.extend(sizes.iter().map(|&size| Row::new(both, call, d, h, mixed, size)));
+        }
+    }
+    rows
+}
+
+fn print_rows(rows: &[Row], sizes: &[usize]) {
+    println!("{:21}{}", "", sizes.iter().map(|size| format!("{:>29}", format!("about {size} cells"))).collect::<String>());
+    println!("call   d  h  order   {}", "    library reference   ratio".repeat(sizes.len()));
+    for of_sizes in rows.chunks(sizes.len()) {
+        let Job { call, d, h, .. } = of_sizes[0].job;
+        let order = if of_sizes[0].mixed { "shuffled" } else { "plain" };
+        let times: String = of_sizes.iter().map(|row| format!("{:11.1}{:10.1}{:8.2}", row.library, row.reference, row.ratio())).collect();
+        println!("{:5} {d:2} {h:2}  {order:8}{times}", call.name());
+    }
+}
+
+fn print_ranges(rows: &[Row], sizes: &[usize]) {
+    println!("\nlibrary / reference, least to greatest");
+    for call in CALLS {
+        for &size in sizes {
+            let ratios: Vec<f64> = rows.iter().filter(|row| row.job.call == call && row.size == size).map(Row::ratio).collect();
+            let (least, greatest) = (ratios.iter().fold(f64::INFINITY, |a, &b| a.min(b)), ratios.iter().fold(0.0, |a: f64, &b| a.max(b)));
+            println!("{:5} about {size:4} cells   {least:5.2} to {greatest:5.2}", call.name());
+        }
+    }
+}
+
+/// Compares both sides on every row, and times them: ten times over all rows, so that a slow moment meets many.
+pub fn run(both: &mut Both, sizes: &[usize], rounds: usize) {
+    let mut rows = plan(both, sizes);
+    for row in &rows {
+        let (answer, _) = both.compare(&row.job, &row.input, vec![170; ROOM], ROOM);
+        both.count(answer > 0, || format!("{:?} is refused: {answer}", row.job));
+    }
+    for _ in 0..10 {
+        for row in rows.iter_mut() {
+            row.measure(both, rounds.div_ceil(10));
+        }
+    }
+    println!("microseconds, least of {rounds} rounds in turns");
+    print_rows(&rows, sizes);
+    print_ranges(&rows, sizes);
+}
