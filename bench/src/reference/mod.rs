@@ -23,16 +23,12 @@ fn refuse_if(bad: bool, number: Refusal) -> Result<(), Refusal> {
     if bad { Err(number) } else { Ok(()) }
 }
 
-/// What a call works in. The face of cell p at position a is number 8 p + a.
-#[derive(Default)]
+/// What a call works in, with room for the largest solid. The face of cell p at position a is number 8 p + a.
 pub struct Reference {
     signs: Vec<u16>,
     rows: Vec<Row>,
     wings: Vec<[u16; 8]>,
     slots: Slots,
-    /// Faces with an empty wing, and faces whose wing is a later cell.
-    lone: Vec<u16>,
-    paired: Vec<u16>,
 }
 
 /// Calls a function of self for N = d + 1.
@@ -47,6 +43,12 @@ macro_rules! by_dimension {
 
 fn within(d: usize, greatest: usize, v: usize, s: usize) -> bool {
     d <= greatest && (1..=MOST).contains(&v) && (1..=MOST).contains(&s)
+}
+
+impl Default for Reference {
+    fn default() -> Reference {
+        Reference { signs: vec![0; MOST], rows: vec![0; MOST], wings: vec![[EMPTY; 8]; MOST], slots: Slots::default() }
+    }
 }
 
 impl Reference {
@@ -80,10 +82,10 @@ impl Reference {
         by_dimension!(d, self.faces_of(v, s, table, out), 0 1 2 3 4 5 6 7)
     }
 
-    /// Whether two cells are on the same vertices.
-    fn repeated(&mut self) -> bool {
-        self.slots.clear(self.rows.len());
+    /// Whether two of the s cells are on the same vertices.
+    fn repeated(&mut self, s: usize) -> bool {
+        self.slots.clear(s);
         let rows = &self.rows;
-        (0..rows.len()).any(|p| self.slots.find_or_put(rows::hash(rows[p]), p, |q| rows[q] == rows[p]).is_some())
+        (0..s).any(|p| self.slots.find_or_put(rows::hash(rows[p]), p, |q| rows[q] == rows[p]).is_some())
     }
 }

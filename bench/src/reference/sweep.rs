@@ -1,61 +1,69 @@
-//! Sweep: level 0 is worked out; the others are level 0 with its numbers raised.
+//! Sweep: level 0 is worked out, a record's vertices and its wings each as one row; the others are raised from it.
 
-use super::rows::put;
+use super::rows::{put, put_row, Row, FIRST};
 use super::sound::place_of;
 use super::{refuse_if, Reference, Refusal, EMPTY};
 
 impl Reference {
     pub(super) fn sweep_of<const N: usize>(&mut self, v: usize, s: usize, h: usize, table: &[u8], out: &mut [u8]) -> Result<usize, Refusal> {
         self.read_sound::<N>(v, s, table)?;
-        let level = s * N * (2 * N + 3);
-        refuse_if(out.len() / 2 < h * level, 15)?;
-        let (first, others) = out[..2 * h * level].split_at_mut(2 * level);
-        for (p, column) in first.chunks_exact_mut(2 * N * (2 * N + 3)).enumerate() {
+        let words = s * N * (2 * N + 3);
+        refuse_if(out.len() / 2 < h * words, 15)?;
+        let swept = &mut out[..2 * h * words];
+        for (p, column) in swept[..2 * words].chunks_exact_mut(2 * N * (2 * N + 3)).enumerate() {
             self.put_column::<N>(v, p, column);
         }
-        for (i, higher) in others.chunks_exact_mut(2 * level).enumerate() {
-            raise(first, higher, &raising::<N>((i + 1) * v, (i + 1) * s * N));
-        }
-        join_levels::<N>(s, &mut out[..2 * h * level]);
-        Ok(h * level)
+        raise_levels::<N>(v, s, swept);
+        join_levels::<N>(s, swept);
+        Ok(h * words)
     }
 
-    /// The records of cell p's prism at level 0.
+    /// The records over cell p at level 0.
     #[inline(always)]
     fn put_column<const N: usize>(&self, v: usize, p: usize, column: &mut [u8]) {
-        let (wings, base) = (&self.wings[p], (p * N) as u16);
-        let vertices: [u16; N] = std::array::from_fn(|i| (self.rows[p] >> (16 * i)) as u16);
-        // Per side its neighbour's first cell and the place there; an empty wing stays so when a number is added.
-        let first: [u16; N] = std::array::from_fn(|a| if wings[a] == EMPTY { EMPTY } else { wings[a] * N as u16 });
-        let place: [usize; N] = std::array::from_fn(|a| if wings[a] == EMPTY { 0 } else { place_of::<N>(&self.wings[wings[a] as usize], p) });
+        let ones = FIRST[N] / 65535;
+        let (row, base) = (self.rows[p], (p * N) as Row);
+        let raised = row + ones * v as Row;
+        // By side: the neighbour's first cell, or empty; by place: the sides where the neighbour has its wing back there.
+        let (mut firsts, mut empty, mut back) = (0, 0, [0; 8]);
+        for a in 0..N {
+            let lone = self.wings[p][a] == EMPTY;
+            let q = if lone { p } else { self.wings[p][a] as usize };
+            firsts |= ((q * N) as Row) << (16 * a);
+            empty |= (if lone { 65535 } else { 0 }) << (16 * a);
+            back[place_of::<N>(&self.wings[q], p)] |= 1 << (16 * a);
+        }
+        let (mut passed, mut pairs_before) = (0, 0);
         for (k, record) in column.chunks_exact_mut(2 * (2 * N + 3)).enumerate() {
+            // Pair k of each side is with the neighbour's cell k, or k + 1 from its place on.
+            passed |= back[k];
+            let pairs = (firsts + ones * k as Row + passed) | empty;
+            let sides = pairs >> (16 * (k + 1)) | (pairs_before & FIRST[k]) << (16 * (N - 1 - k));
+            let next = if k + 1 < N { base + k as Row + 1 } else { EMPTY as Row };
+            let last = if k > 0 { base + k as Row - 1 } else { EMPTY as Row };
             put(record, 0, self.signs[p] ^ (k * (N - 1)) as u16 & 1);
-            for i in 0..=N {
-                put(record, 1 + i, if k + i < N { vertices[k + i] } else { vertices[k + i - N] + v as u16 });
-            }
-            put(record, N + 2, if k + 1 < N { base + k as u16 + 1 } else { EMPTY });
-            for j in 1..N {
-                // The side and the pair's place on it; the pair there is in cell l, or l + 1 from the place on.
-                let (a, l) = if k + j < N { (k + j, k) } else { (k + j - N, k - 1) };
-                put(record, N + 2 + j, first[a].saturating_add((l + (l >= place[a]) as usize) as u16));
-            }
-            put(record, 2 * N + 2, if k > 0 { base + k as u16 - 1 } else { EMPTY });
+            put_row(&mut record[2..4 + 2 * N], row >> (16 * k) | raised << (16 * (N - k)));
+            put_row(&mut record[4 + 2 * N..], next | sides << 16 | last << (16 * N));
+            pairs_before = pairs;
         }
     }
 }
 
-/// What is added to the words of eight records at a level.
-fn raising<const N: usize>(vertices: usize, cells: usize) -> Vec<u16> {
-    let one = (0..2 * N + 3).map(|j| if j == 0 { 0 } else if j < N + 2 { vertices as u16 } else { cells as u16 });
-    std::iter::repeat_n(one, 8).flatten().collect()
-}
-
-/// Adds to all words; those that are 65535 stay.
-fn raise(from: &[u8], to: &mut [u8], added: &[u16]) {
-    let records = 2 * added.len();
-    for (from, to) in from.chunks(records).zip(to.chunks_mut(records)) {
-        for ((x, y), n) in from.as_chunks::<2>().0.iter().zip(to.as_chunks_mut::<2>().0).zip(added) {
-            *y = u16::from_le_bytes(*x).saturating_add(*n).to_le_bytes();
+/// Each level is the one below with its vertices and cells raised; empty wings, being 65535, stay so.
+fn raise_levels<const N: usize>(v: usize, s: usize, swept: &mut [u8]) {
+    let (size, level) = (2 * N + 3, 2 * s * N * (2 * N + 3));
+    // What is added to eight records.
+    let mut added = [0u16; 8 * 17];
+    for record in added.chunks_exact_mut(size).take(8) {
+        record[1..N + 2].fill(v as u16);
+        record[N + 2..].fill((s * N) as u16);
+    }
+    for at in (level..swept.len()).step_by(level) {
+        let (below, here) = swept.split_at_mut(at);
+        for (from, to) in below[at - level..].chunks(16 * size).zip(here[..level].chunks_mut(16 * size)) {
+            for ((x, y), n) in from.as_chunks::<2>().0.iter().zip(to.as_chunks_mut::<2>().0).zip(&added) {
+                *y = u16::from_le_bytes(*x).saturating_add(*n).to_le_bytes();
+            }
         }
     }
 }

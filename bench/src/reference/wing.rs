@@ -1,16 +1,15 @@
 //! Wing: the list is read and sorted, then one pass over the faces pairs them.
 
-use super::rows::{hash, pack, put, sort, without, word};
+use super::rows::{self, ascending, hash, put, put_row, sort, vertex, without, word};
 use super::{refuse_if, Reference, Refusal, EMPTY};
 
 impl Reference {
     pub(super) fn wing_of<const N: usize>(&mut self, v: usize, s: usize, cells: &[u8], out: &mut [u8]) -> Result<usize, Refusal> {
         self.read_list::<N>(v, cells)?;
-        self.wings.clear();
-        self.wings.resize(s, [EMPTY; 8]);
-        let fine = if N == 1 { !self.repeated() } else { self.pair_faces::<N>() };
+        self.wings[..s].fill([EMPTY; 8]);
+        let fine = if N == 1 { !self.repeated(s) } else { self.pair_faces::<N>(s) };
         if !fine {
-            return Err(self.fault::<N>());
+            return Err(self.fault::<N>(s));
         }
         let words = s * (2 * N + 1);
         refuse_if(out.len() / 2 < words, 15)?;
@@ -20,18 +19,14 @@ impl Reference {
 
     /// Refusals 6 to 8; rows and signs.
     fn read_list<const N: usize>(&mut self, v: usize, cells: &[u8]) -> Result<(), Refusal> {
-        self.rows.clear();
-        self.signs.clear();
         let (mut bad_sign, mut bad_vertex, mut twice) = (false, false, false);
-        for cell in cells.chunks_exact(2 * (N + 1)) {
-            let sign = word(cell, 0);
-            let mut vertices: [u16; N] = std::array::from_fn(|i| word(cell, i + 1));
-            let odd = sort(&mut vertices);
-            bad_sign |= sign > 1;
-            bad_vertex |= vertices[N - 1] as usize >= v;
-            twice |= (1..N).fold(false, |any, i| any | (vertices[i - 1] == vertices[i]));
-            self.signs.push(sign ^ odd as u16);
-            self.rows.push(pack(&vertices));
+        for (cell, (sign, row)) in cells.chunks_exact(2 * (N + 1)).zip(self.signs.iter_mut().zip(&mut self.rows)) {
+            let (sorted, odd) = sort::<N>(rows::row::<N>(cell, 1));
+            bad_sign |= word(cell, 0) > 1;
+            bad_vertex |= vertex(sorted, N - 1) as usize >= v;
+            twice |= !ascending::<N>(sorted);
+            *sign = word(cell, 0) ^ odd as u16;
+            *row = sorted;
         }
         refuse_if(bad_sign, 6)?;
         refuse_if(bad_vertex, 7)?;
@@ -39,10 +34,10 @@ impl Reference {
     }
 
     /// Fills in the wings; false if one of refusals 9 to 11 applies.
-    fn pair_faces<const N: usize>(&mut self) -> bool {
-        let Reference { signs, rows, wings, slots, .. } = self;
-        slots.clear(rows.len() * N);
-        for p in 0..rows.len() {
+    fn pair_faces<const N: usize>(&mut self, s: usize) -> bool {
+        let (signs, rows, wings, slots) = (&self.signs[..s], &self.rows[..s], &mut self.wings[..s], &mut self.slots);
+        slots.clear(s * N);
+        for p in 0..s {
             for a in 0..N {
                 let face = without::<N>(rows[p], a);
                 let same = |key: usize| without::<N>(rows[key >> 3], key & 7) == face;
@@ -62,11 +57,11 @@ impl Reference {
 
     /// Which of refusals 9 to 11 applies, one of which does.
     #[cold]
-    fn fault<const N: usize>(&mut self) -> Refusal {
-        if self.repeated() {
+    fn fault<const N: usize>(&mut self, s: usize) -> Refusal {
+        if self.repeated(s) {
             return 9;
         }
-        let mut faces: Vec<_> = self.rows.iter().flat_map(|&row| (0..N).map(move |a| without::<N>(row, a))).collect();
+        let mut faces: Vec<_> = self.rows[..s].iter().flat_map(|&row| (0..N).map(move |a| without::<N>(row, a))).collect();
         faces.sort_unstable();
         if faces.windows(3).any(|three| three[0] == three[2]) { 10 } else { 11 }
     }
@@ -75,7 +70,7 @@ impl Reference {
         let cells = self.signs.iter().zip(&self.rows).zip(&self.wings);
         for (record, ((&sign, &row), wings)) in out.chunks_exact_mut(2 * (2 * N + 1)).zip(cells) {
             put(record, 0, sign);
-            record[2..2 + 2 * N].copy_from_slice(&row.to_le_bytes()[..2 * N]);
+            put_row(&mut record[2..2 + 2 * N], row);
             for a in 0..N {
                 put(record, 1 + N + a, wings[a]);
             }
