@@ -39,12 +39,26 @@ fn decimal(x: f64, text: &mut Vec<u8>) {
     let mantissa = if exponent == 0 { bits & ((1 << 52) - 1) } else { bits & ((1 << 52) - 1) | 1 << 52 };
     let down = 1075 - exponent.max(1);
     let thousandths = if down > 70 { 0 } else { (2000 * mantissa as u128 + (1u128 << down)) >> (down + 1) };
-    let sign = if x < 0.0 && thousandths > 0 { "-" } else { "" };
-    write!(text, " {sign}{}.{:03}", thousandths / 1000, thousandths % 1000).unwrap();
+    text.extend_from_slice(if x < 0.0 && thousandths > 0 { b" -" } else { b" " });
+    digits(thousandths as usize / 1000, 1, text);
+    text.push(b'.');
+    digits(thousandths as usize % 1000, 3, text);
+}
+
+/// A number in so many digits at least.
+fn digits(mut x: usize, least: usize, text: &mut Vec<u8>) {
+    let (mut places, mut first) = ([b'0'; 20], 20);
+    while x > 0 || 20 - first < least {
+        first -= 1;
+        places[first] = b'0' + (x % 10) as u8;
+        x /= 10;
+    }
+    text.extend_from_slice(&places[first..]);
 }
 
 fn number(x: usize, text: &mut Vec<u8>) {
-    write!(text, " {x}").unwrap();
+    text.push(b' ');
+    digits(x, 1, text);
 }
 
 /// The key of a good file.

@@ -5,11 +5,11 @@
 use super::rows::{self, ascending, differ, hash, vertex, without, word};
 use super::{refuse_if, Reference, Refusal, EMPTY};
 
-/// Where p stands among the wings, if it does.
+/// Where p first stands among the wings, or 32.
 #[inline(always)]
 pub fn place_of<const N: usize>(wings: &[u16; 8], p: usize) -> usize {
     let places = (0..N).fold(0u32, |places, b| places | ((wings[b] == p as u16) as u32) << b);
-    places.trailing_zeros() as usize & 7
+    places.trailing_zeros() as usize
 }
 
 impl Reference {
@@ -49,7 +49,7 @@ impl Reference {
                     later += 1;
                     let b = place_of::<N>(&wings[q], p);
                     let opposite = (signs[p] ^ signs[q] ^ (a ^ b) as u16) & 1 == 1;
-                    let meet = opposite & (without::<N>(rows[q], b) == face) & (wings[q][b] as usize == p) & differ::<N>(rows[p], rows[q]);
+                    let meet = (b < N) & opposite & (without::<N>(rows[q], b) == face) & differ::<N>(rows[p], rows[q]);
                     if !meet {
                         return false;
                     }

@@ -22,22 +22,23 @@ impl Reference {
     #[inline(always)]
     fn put_column<const N: usize>(&self, v: usize, p: usize, column: &mut [u8]) {
         let ones = FIRST[N] / 65535;
-        let (row, base) = (self.rows[p], (p * N) as Row);
+        let (row, base) = (self.rows[p] & FIRST[N], (p * N) as Row);
         let raised = row + ones * v as Row;
-        // By side: the neighbour's first cell, or empty; by place: the sides where the neighbour has its wing back there.
-        let (mut firsts, mut empty, mut back) = (0, 0, [0; 8]);
+        // By side: the neighbour's first cell and the place of its wing back, or empty.
+        let (mut firsts, mut places, mut empty) = (0, 0, 0);
         for a in 0..N {
             let lone = self.wings[p][a] == EMPTY;
             let q = if lone { p } else { self.wings[p][a] as usize };
             firsts |= ((q * N) as Row) << (16 * a);
             empty |= (if lone { 65535 } else { 0 }) << (16 * a);
-            back[place_of::<N>(&self.wings[q], p)] |= 1 << (16 * a);
+            places |= (place_of::<N>(&self.wings[q], p) as Row) << (16 * a);
         }
-        let (mut passed, mut pairs_before) = (0, 0);
-        for (k, record) in column.chunks_exact_mut(2 * (2 * N + 3)).enumerate() {
-            // Pair k of each side is with the neighbour's cell k, or k + 1 from its place on.
-            passed |= back[k];
-            let pairs = (firsts + ones * k as Row + passed) | empty;
+        let mut pairs_before = 0;
+        for k in 0..N {
+            let record = &mut column[2 * k * (2 * N + 3)..2 * (k + 1) * (2 * N + 3)];
+            // Pair k of each side is with the neighbour's cell k, or k + 1 from its place on: bit 15 is left there.
+            let from_place = ((ones << 15) + ones * k as Row - places) >> 15 & ones;
+            let pairs = (firsts + ones * k as Row + from_place) | empty;
             let sides = pairs >> (16 * (k + 1)) | (pairs_before & FIRST[k]) << (16 * (N - 1 - k));
             let next = if k + 1 < N { base + k as Row + 1 } else { EMPTY as Row };
             let last = if k > 0 { base + k as Row - 1 } else { EMPTY as Row };
