@@ -1,8 +1,9 @@
 //! Whether a table is sound, told from its wings. Each wing to a later cell must meet that cell at an equal face of
 //! opposite sign with the wing back; if there are as many wings to earlier cells, those are right too. Then only faces
 //! that no wing joins may not be equal: of each pair one face and each lone face go into a set, and none may be there.
+//! Two cells on the same vertices have two equal faces or more, of which a wing joins one at most.
 
-use super::rows::{self, ascending, differ, hash, vertex, without, word};
+use super::rows::{self, ascending, hash, vertex, without, word};
 use super::{refuse_if, Reference, Refusal, EMPTY};
 
 /// Where p first stands among the wings, or 32.
@@ -49,7 +50,7 @@ impl Reference {
                     later += 1;
                     let b = place_of::<N>(&wings[q], p);
                     let opposite = (signs[p] ^ signs[q] ^ (a ^ b) as u16) & 1 == 1;
-                    let meet = (b < N) & opposite & (without::<N>(rows[q], b) == face) & differ::<N>(rows[p], rows[q]);
+                    let meet = (b < N) & opposite & (without::<N>(rows[q], b) == face);
                     if !meet {
                         return false;
                     }
