@@ -5,6 +5,7 @@
 use crate::both::{Both, ROOM};
 use crate::calls::{Call, Job};
 use crate::solids::{bytes, grid, reordered, shuffled, Cell, Random};
+use std::collections::HashSet;
 
 const BUCKETS: usize = 32749;
 const CELLS: usize = 4096;
@@ -81,11 +82,12 @@ fn crafted(d: usize, n: usize) -> Vec<Cell> {
 /// Compares and times wing and faces on crafted solids and on typical ones of the same size.
 pub fn run(both: &mut Both, rounds: usize) {
     println!("\nmicroseconds on {CELLS} cells: typical, and crafted to fill few of the library's buckets");
-    println!("call   d      library reference      library reference   crafted / typical");
+    println!("call   d      library reference      library reference   crafted / typical  on vertices");
     for (d, n) in [(3, 90), (5, 28), (7, 20)] {
         let (typical, v) = grid(d, CELLS);
         let random = &mut Random(362436069);
         let solids = [(shuffled(&typical, v, random), v), (reordered(&crafted(d, n), random), CELLS)];
+        let vertices = solids[1].0.iter().flat_map(|cell| &cell[1..]).collect::<HashSet<_>>().len();
         for call in [Call::Wing, Call::Faces] {
             let [a, b] = solids.each_ref().map(|(cells, v)| {
                 let list = bytes(cells);
@@ -94,7 +96,7 @@ pub fn run(both: &mut Both, rounds: usize) {
                 both.compare(&job, &input, vec![170; ROOM], ROOM);
                 both.least(&job, &input, rounds)
             });
-            println!("{:5} {d:2} {:12.0}{:10.0} {:12.0}{:10.0} {:12.1} {:6.1}", call.name(), a.0, a.1, b.0, b.1, b.0 / a.0, b.1 / a.1);
+            println!("{:5} {d:2} {:12.0}{:10.0} {:12.0}{:10.0} {:12.1} {:6.1} {vertices:12}", call.name(), a.0, a.1, b.0, b.1, b.0 / a.0, b.1 / a.1);
         }
     }
 }

@@ -4,6 +4,9 @@ use crate::both::{Both, ROOM};
 use crate::calls::{Call, Job, CALLS};
 use crate::solids::{bytes, grid, shuffled, Random};
 
+/// Calls, steps and the greatest dimension.
+const SERIES: [(Call, usize, usize); 4] = [(Call::Wing, 1, 7), (Call::Sweep, 1, 6), (Call::Sweep, 8, 6), (Call::Faces, 1, 7)];
+
 /// A call on a solid of about so many cells, for a sweep of its result, and the least times so far.
 struct Row {
     job: Job,
@@ -17,7 +20,7 @@ struct Row {
 impl Row {
     fn new(both: &mut Both, call: Call, d: usize, h: usize, mixed: bool, size: usize) -> Row {
         // A row of edges has a vertex more than cells, at each level.
-        let s = if call == Call::Sweep { size.min(4095) / (h * (d + 1)) } else { size.min(if d == 1 { 4095 } else { 4096 }) };
+        let s = if call == Call::Sweep { (size.min(4095) / (h * (d + 1))).max(1) } else { size.min(if d == 1 { 4095 } else { 4096 }) };
         let (mut cells, v) = grid(d, s);
         if mixed {
             cells = shuffled(&cells, v, &mut Random(88172645463325252));
@@ -43,7 +46,7 @@ impl Row {
 /// For each call, dimension and order a row of each size.
 fn plan(both: &mut Both, sizes: &[usize]) -> Vec<Row> {
     let mut rows = vec![];
-    for (call, h, most) in [(Call::Wing, 1, 7), (Call::Sweep, 1, 6), (Call::Sweep, 8, 6), (Call::Faces, 1, 7)] {
+    for (call, h, most) in SERIES {
         for (d, mixed) in (1..=most).flat_map(|d| [(d, false), (d, true)]) {
             rows.extend(sizes.iter().map(|&size| Row::new(both, call, d, h, mixed, size)));
         }
@@ -64,12 +67,22 @@ fn print_rows(rows: &[Row], sizes: &[usize]) {
 
 fn print_ranges(rows: &[Row], sizes: &[usize]) {
     println!("\nlibrary / reference, least to greatest");
-    for call in CALLS {
+    for &(call, h, _) in &SERIES {
         for &size in sizes {
-            let ratios: Vec<f64> = rows.iter().filter(|row| row.job.call == call && row.size == size).map(Row::ratio).collect();
-            let (least, greatest) = (ratios.iter().fold(f64::INFINITY, |a, &b| a.min(b)), ratios.iter().fold(0.0, |a: f64, &b| a.max(b)));
-            println!("{:5} about {size:4} cells   {least:5.2} to {greatest:5.2}", call.name());
+            let ratios = rows.iter().filter(|row| row.job.call == call && row.job.h == h as u32 && row.size == size).map(Row::ratio);
+            let (least, greatest) = ratios.fold((f64::INFINITY, 0f64), |(a, b), ratio| (a.min(ratio), b.max(ratio)));
+            println!("{:5} h {h} about {size:4} cells   {least:5.2} to {greatest:5.2}", call.name());
         }
+    }
+}
+
+/// What a call costs on one triangle, most of it the same for all solids.
+fn print_single(both: &mut Both, rounds: usize) {
+    println!("\nmicroseconds on one triangle");
+    for call in CALLS {
+        let row = Row::new(both, call, 2, 1, false, 1);
+        let (library, reference) = both.least(&row.job, &row.input, rounds);
+        println!("{:5} {library:6.2} {reference:6.2}", call.name());
     }
 }
 
@@ -88,4 +101,5 @@ pub fn run(both: &mut Both, sizes: &[usize], rounds: usize) {
     println!("microseconds, least of {rounds} rounds in turns");
     print_rows(&rows, sizes);
     print_ranges(&rows, sizes);
+    print_single(both, rounds);
 }
