@@ -31,7 +31,7 @@ pub struct Reference {
     slots: Slots,
 }
 
-/// Calls a function of self for N = d + 1.
+/// Calls a method for N = d + 1.
 macro_rules! by_dimension {
     ($d:expr, $self:ident.$f:ident $arguments:tt, $($case:literal)*) => {
         match $d {
