@@ -84,8 +84,7 @@ impl Reference {
 
     /// Whether two of the s cells are on the same vertices.
     fn repeated(&mut self, s: usize) -> bool {
-        self.slots.clear(s);
-        let rows = &self.rows;
-        (0..s).any(|p| self.slots.find_or_put(rows::hash(rows[p]), p, |q| rows[q] == rows[p]).is_some())
+        let (rows, mut set) = (&self.rows, self.slots.set(s));
+        (0..s).any(|p| set.find_or_put(rows::hash(rows[p]), p, |q| rows[q] == rows[p]).is_some())
     }
 }

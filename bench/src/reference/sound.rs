@@ -36,8 +36,8 @@ impl Reference {
     }
 
     fn wings_right<const N: usize>(&mut self, s: usize) -> bool {
-        let (signs, rows, wings, slots) = (&self.signs[..s], &self.rows[..s], &self.wings[..s], &mut self.slots);
-        slots.clear(s * N);
+        let (signs, rows, wings) = (&self.signs[..s], &self.rows[..s], &self.wings[..s]);
+        let mut set = self.slots.set(s * N);
         let (mut earlier, mut later) = (0, 0);
         for p in 0..s {
             for a in 0..N {
@@ -58,7 +58,7 @@ impl Reference {
                     return false;
                 }
                 let same = |number: usize| without::<N>(rows[number >> 3], number & 7) == face;
-                if slots.find_or_put(hash(face), p << 3 | a, same).is_some() {
+                if set.find_or_put(hash(face), p << 3 | a, same).is_some() {
                     return false;
                 }
             }

@@ -35,13 +35,13 @@ impl Reference {
 
     /// Fills in the wings; false if one of refusals 9 to 11 applies.
     fn pair_faces<const N: usize>(&mut self, s: usize) -> bool {
-        let (signs, rows, wings, slots) = (&self.signs[..s], &self.rows[..s], &mut self.wings[..s], &mut self.slots);
-        slots.clear(s * N);
+        let (signs, rows, wings) = (&self.signs[..s], &self.rows[..s], &mut self.wings[..s]);
+        let mut set = self.slots.set(s * N);
         for p in 0..s {
             for a in 0..N {
                 let face = without::<N>(rows[p], a);
                 let same = |key: usize| without::<N>(rows[key >> 3], key & 7) == face;
-                if let Some(key) = slots.find_or_put(hash(face), p << 3 | a, same) {
+                if let Some(key) = set.find_or_put(hash(face), p << 3 | a, same) {
                     let (q, b) = (key >> 3, key & 7);
                     let opposite = (signs[p] ^ signs[q] ^ (a ^ b) as u16) & 1 == 1;
                     if !opposite || wings[q][b] != EMPTY || rows[q] == rows[p] {
