@@ -1,9 +1,7 @@
-//! The key of a file in plain Rust, for good files only, and the time of a whole program.
+//! The key of a file in plain Rust, for good files only.
 
-use crate::reference::{self, Scratch};
+use crate::reference::Reference;
 use std::io::Write;
-use std::process::{Command, Stdio};
-use std::time::Instant;
 
 fn short(data: &[u8], at: usize) -> usize {
     u16::from_le_bytes([data[at], data[at + 1]]) as usize
@@ -41,12 +39,26 @@ fn decimal(x: f64, text: &mut Vec<u8>) {
     let mantissa = if exponent == 0 { bits & ((1 << 52) - 1) } else { bits & ((1 << 52) - 1) | 1 << 52 };
     let down = 1075 - exponent.max(1);
     let thousandths = if down > 70 { 0 } else { (2000 * mantissa as u128 + (1u128 << down)) >> (down + 1) };
-    let sign = if x < 0.0 && thousandths > 0 { "-" } else { "" };
-    write!(text, " {sign}{}.{:03}", thousandths / 1000, thousandths % 1000).unwrap();
+    text.extend_from_slice(if x < 0.0 && thousandths > 0 { b" -" } else { b" " });
+    digits(thousandths as usize / 1000, 1, text);
+    text.push(b'.');
+    digits(thousandths as usize % 1000, 3, text);
+}
+
+/// A number in so many digits at least.
+fn digits(mut x: usize, least: usize, text: &mut Vec<u8>) {
+    let (mut places, mut first) = ([b'0'; 20], 20);
+    while x > 0 || 20 - first < least {
+        first -= 1;
+        places[first] = b'0' + (x % 10) as u8;
+        x /= 10;
+    }
+    text.extend_from_slice(&places[first..]);
 }
 
 fn number(x: usize, text: &mut Vec<u8>) {
-    write!(text, " {x}").unwrap();
+    text.push(b' ');
+    digits(x, 1, text);
 }
 
 /// The key of a good file.
@@ -55,11 +67,11 @@ pub fn key(data: &[u8]) -> Vec<u8> {
     let mut points: Vec<f64> = (0..v * n).map(|i| float(data, 40 + 8 * i)).collect();
     let cells: Vec<u8> = data[40 + 8 * v * n..].chunks_exact(2 * d + 3).flat_map(|c| [(c[0] == b'-') as u8, 0].into_iter().chain(c[1..].iter().copied())).collect();
     let (mut table, mut swept, mut faces) = (vec![0; 1 << 17], vec![0; 1 << 17], vec![0; 1 << 18]);
-    let mut t = Scratch::default();
-    let count = reference::wing(d, v, s, &cells, &mut table, &mut t).unwrap();
-    let count = reference::sweep(d, v, s, h, &table[..2 * count], &mut swept, &mut t).unwrap();
+    let mut reference = Reference::default();
+    let count = reference.wing(d, v, s, &cells, &mut table).unwrap();
+    let count = reference.sweep(d, v, s, h, &table[..2 * count], &mut swept).unwrap();
     let (vertices, all) = ((h + 1) * v, s * h * (d + 1));
-    let count = reference::faces(d + 1, vertices, all, &swept[..2 * count], &mut faces, &mut t).unwrap();
+    let count = reference.faces(d + 1, vertices, all, &swept[..2 * count], &mut faces).unwrap();
     let mut text = Vec::with_capacity(1 << 16);
     writeln!(text, "key {} {n} {vertices} {}", d + 1, count / (d + 2)).unwrap();
     for level in 0..=h {
@@ -99,17 +111,4 @@ pub fn sample() -> Vec<u8> {
         (p..=p + d).for_each(|x| data.extend((x as u16).to_le_bytes()));
     }
     data
-}
-
-/// What a program prints for an input, and the least time of several whole runs in microseconds.
-pub fn timed(words: &[String], input: &[u8], rounds: usize) -> (Vec<u8>, f64) {
-    let (mut text, mut least) = (Vec::new(), f64::INFINITY);
-    for _ in 0..rounds {
-        let start = Instant::now();
-        let mut child = Command::new(&words[0]).args(&words[1..]).stdin(Stdio::piped()).stdout(Stdio::piped()).spawn().unwrap();
-        child.stdin.take().unwrap().write_all(input).unwrap();
-        text = child.wait_with_output().unwrap().stdout;
-        least = least.min(start.elapsed().as_secs_f64() * 1e6);
-    }
-    (text, least)
 }
