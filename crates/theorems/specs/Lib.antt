@@ -3,4 +3,5 @@ pub mod Shorthand
 pub mod MarkedKeys
 pub mod Figures
 pub mod Refusals
+pub mod Deciding
 pub mod NeverUnsound
