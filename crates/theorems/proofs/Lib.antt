@@ -4,4 +4,5 @@ pub mod MarkedKeys
 pub mod Figures
 pub mod Refusals
 pub mod Deciding
+pub mod Stacked
 pub mod NeverUnsound
