@@ -1,5 +1,6 @@
 -- Proofs of the statements in specs/.
 pub mod Computing
+pub mod Sliding
 pub mod MarkedKeys
 pub mod Figures
 pub mod Refusals
