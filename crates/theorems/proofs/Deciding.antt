@@ -8,13 +8,18 @@ use lib.ListN.{take}
 use Rattle.simplex.specs.Cell.{Cell}
 use Rattle.simplex.specs.Chain.{countOn, Same}
 use Rattle.third_term.specs.ThirdTerm.{solid, boundary}
-use Rattle.theorems.specs.Deciding.{Deciding, Equal, circle, reversed, points, exchanged}
+use Rattle.theorems.specs.Deciding.{Deciding, Equal, circle, reversed, points, exchanged, sweptRing}
 use Rattle.theorems.proofs.Computing.{computing}
 
 -- at the row 0 1: once with plus in the circle, never in its reverse
 apart : Equal circle reversed → ⊥
 unfolding computing
 apart e = let z : _≡_ {A = ℕ} 1 0 = e true (0 ∷ 1 ∷ []) in omega arith
+
+-- the bottom copy has the row 0 1 with plus in the one, with minus in the other
+swept-apart : Same (sweptRing 1 circle) (sweptRing 1 reversed) → ⊥
+unfolding computing
+swept-apart e = let z : _≡_ {A = ℕ} 1 0 = e true (0 ∷ 1 ∷ []) in omega arith
 
 same-points : Same (solid 0 2 1 points) (solid 0 2 1 exchanged)
 unfolding computing
@@ -35,11 +40,11 @@ deciding =
         record { winged = refl; swept = refl },
         record { winged = refl; swept = refl },
       );
-      -- its bottom copy has the row 0 1 with minus in the one, with plus in the other
-      different = (apart, λ e. let z : _≡_ {A = ℕ} 1 0 = e true (0 ∷ 1 ∷ []) in omega arith);
+      different = (apart, swept-apart);
       equal = (same-points, same-boundaries);
       own = λ t. apart (t .1 (λ s w. refl));
       signs = λ t. apart (t .1 (λ w. refl));
+      solid-signs = λ t. swept-apart (t .0 (λ w. refl));
       count = λ t. apart (t .1 refl);
       -- the top copy has the row 3 5 after one step; after two it is within
       steps = λ t. let z : _≡_ {A = ℕ} 1 0 = t .0 (λ s w. refl) true (3 ∷ 5 ∷ []) in omega arith;

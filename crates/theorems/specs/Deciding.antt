@@ -51,6 +51,8 @@ pub record Deciding : Type 0 where
   pub own : (Equal circle reversed ↔ Same (ownBoundary (ring circle)) (ownBoundary (ring reversed))) → ⊥
   -- false: told by the vertices of the faces, signs aside
   pub signs : (Equal circle reversed ↔ ((w : Row) → total w (sweptRing 1 circle) ≡ total w (sweptRing 1 reversed))) → ⊥
+  -- false: told of solids by their vertices, signs aside
+  pub solid-signs : (((w : Row) → total w (ring circle) ≡ total w (ring reversed)) ↔ Same (sweptRing 1 circle) (sweptRing 1 reversed)) → ⊥
   -- false: told by the count of faces
   pub count : (Equal circle reversed ↔ (length (sweptRing 1 circle) ≡ length (sweptRing 1 reversed))) → ⊥
   -- false: told by sweeps in different steps
