@@ -2,10 +2,10 @@
 use mathlib.Core.Path.{_≡_, refl, sym, ap, ap₂, _∙_}
 use mathlib.Core.Bool.{Bool, false, not}
 use mathlib.Core.List.{List, [], _∷_, _++_, append-assoc}
-use Prim.Native.Nat.{ℕ, zero, suc, _+_, _*_, _≤_, _<_}
+use Prim.Native.Nat.{ℕ, zero, suc, _+_, _*_, _-_, _≤_, _<_}
 use native.Mathlib.Omega.{arith}
 use native.Mathlib.Nat.{add-zero, ne-of-lt}
-use lib.ListN.{length, take, drop, getD, set, length-set, length-append, length-drop, List·getD-append}
+use lib.ListN.{length, take, drop, getD, set, replicate, length-set, length-append, length-drop, List·getD-append}
 use lib.Seq.{paste, length-paste, length-take-le, take-at, drop-at, take-take, drop-drop, getD-take, getD-drop, getD-set-same, getD-set-other, ext-getD}
 use Rattle.words.specs.Records.{part}
 use Rattle.simplex.specs.Cell.{Sign, cell, times}
@@ -13,7 +13,8 @@ use Rattle.simplex.specs.Order.{orientation, sorted}
 use Rattle.simplex.specs.Sort.{rowOdd, rowSorted}
 use Rattle.simplex.proofs.Signs.{not-not}
 use Rattle.simplex.proofs.Sorting.{sorted-length}
-use Rattle.adjacency.specs.Held.{Gathered, cellRead}
+use Rattle.adjacency.specs.Held.{Gathered, cellRead, rowOfEight}
+use Rattle.adjacency.proofs.Reading.{eight-front, eight-long, eight-rest}
 use Rattle.simplex.specs.SignWords.{signOf}
 
 -- two lists with one record p
@@ -68,6 +69,10 @@ module _ (d : ℕ) (row : List ℕ) (hd : d ≤ 7) (eight : length row ≡ 8) wh
   unfolding rowSorted
   sorted-front = take-at (sorted (take (suc d) row)) (drop (suc d) row) (suc d) (sorted-length (take (suc d) row) ∙ length-take-le (suc d) row (omega arith))
 
+  sorted-whole : rowSorted (suc d) row ≡ sorted (take (suc d) row) ++ drop (suc d) row
+  unfolding rowSorted
+  sorted-whole = refl
+
   sorted-eight : length (rowSorted (suc d) row) ≡ 8
   unfolding rowSorted
   sorted-eight =
@@ -79,17 +84,30 @@ module _ (d : ℕ) (row : List ℕ) (hd : d ≤ 7) (eight : length row ≡ 8) wh
 
 -- what storing a cell leaves
 pub gathered : (size d p : ℕ) (ws rows : List ℕ) (signs : List Sign) (row new rows′ : List ℕ) (signs′ : List Sign) (n at : ℕ) (odd t : Bool) →
-    d ≤ 7 → d + 2 ≤ size → p < 4096 → length rows ≡ 32768 → length signs ≡ 4096 → n ≡ suc d → at ≡ p * size + 1 → length row ≡ 8 → take n row ≡ take n (drop at ws) →
+    d ≤ 7 → d + 2 ≤ size → p < 4096 → length rows ≡ 32768 → length signs ≡ 4096 → n ≡ suc d → at ≡ p * size + 1 → at + n ≤ length ws → row ≡ rowOfEight (take n (drop at ws)) →
     new ≡ rowSorted n row → odd ≡ rowOdd n row → t ≡ times (not odd) (signOf (getD ws (p * size) 0)) → rows′ ≡ paste rows (p * 8) new 8 → signs′ ≡ set signs p t →
     Gathered size d p ws rows signs rows′ signs′
-gathered size d p ws rows signs row new rows′ signs′ n at odd t hd hz hp wide many en ea eight read es eo et er eg =
+gathered size d p ws rows signs row new rows′ signs′ n at odd t hd hz hp wide many en ea room read es eo et er eg =
     record {
       wide = ap length er ∙ paste-wide rows new p hp wide new-eight;
       many = ap length eg ∙ length-set signs p t ∙ many;
       new = ap₂ cell (ap (λ (xs : List Sign). getD xs p false) eg ∙ getD-set-same signs p t false (omega arith) ∙ sign) (ap (take (suc d)) (ap (part 8 p) er ∙ paste-here rows new p hp wide new-eight) ∙ front);
+      eight = ap (part 8 p) er ∙ paste-here rows new p hp wide new-eight ∙ whole;
       old = λ q l. ap₂ cell (ap (λ (xs : List Sign). getD xs q false) eg ∙ getD-set-other signs p q t false (ne-of-lt l)) (ap (take (suc d)) (ap (part 8 q) er ∙ paste-there rows new p hp wide new-eight q l));
     }
   where
+    long : length (take n (drop at ws)) ≡ n
+    long = length-take-le n (drop at ws) (omega (arith, length-drop at ws))
+
+    eight : length row ≡ 8
+    eight = ap length read ∙ eight-long (take n (drop at ws)) n long (omega arith)
+
+    front-is : take n row ≡ take n (drop at ws)
+    front-is = ap (take n) read ∙ eight-front (take n (drop at ws)) n long (omega arith)
+
+    rest-is : drop n row ≡ replicate (8 - n) 0
+    rest-is = ap (drop n) read ∙ eight-rest (take n (drop at ws)) n long (omega arith)
+
     es′ : new ≡ rowSorted (suc d) row
     es′ = es ∙ ap (λ n. rowSorted n row) en
 
@@ -97,10 +115,17 @@ gathered size d p ws rows signs row new rows′ signs′ n at odd t hd hz hp wid
     new-eight = ap length es′ ∙ sorted-eight d row hd eight
 
     row-is : take (suc d) row ≡ cellRead size d ws p .row
-    row-is = ap (λ n. take n row) (sym en) ∙ read ∙ ap₂ (λ n at. take n (drop at ws)) en ea ∙ sym (read-row size d p ws hz)
+    row-is = ap (λ n. take n row) (sym en) ∙ front-is ∙ ap₂ (λ n at. take n (drop at ws)) en ea ∙ sym (read-row size d p ws hz)
 
     front : take (suc d) new ≡ sorted (cellRead size d ws p .row)
     front = ap (take (suc d)) es′ ∙ sorted-front d row hd eight ∙ ap sorted row-is
+
+    count : length (sorted (cellRead size d ws p .row)) ≡ suc d
+    count = sorted-length (cellRead size d ws p .row) ∙ ap length (sym row-is) ∙ length-take-le (suc d) row (omega (arith, eight))
+
+    whole : new ≡ rowOfEight (sorted (cellRead size d ws p .row))
+    whole =
+        es′ ∙ sorted-whole d row hd eight ∙ ap₂ {C = List ℕ} (λ a b. a ++ b) (ap sorted row-is) (ap (λ n. drop n row) (sym en) ∙ rest-is ∙ ap (λ k. replicate (8 - k) 0) (en ∙ sym count))
 
     sign : t ≡ times (orientation (cellRead size d ws p .row)) (cellRead size d ws p .sign)
     sign =

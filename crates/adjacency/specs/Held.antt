@@ -1,8 +1,9 @@
 -- Cells and wings as the code holds them: rows of eight words a cell, a sign a cell, and d + 1 wings a cell.
+--   rowOfEight w                  a cell's vertices as they travel: a row of eight numbers, unused places 0
 --   cellHeld d rows signs p       cell p; heldCells d s rows signs are the s cells
 --   cellRead size d ws p          the cell of record p of the words ws, size words a record
 --   recordList size d v s ws      the list of the first s of these cells
---   Gathered ..                   rows and signs with cell p read, put in ascending order, and stored; the cells before it as they were
+--   Gathered ..                   rows and signs with cell p read, put in ascending order, and stored as a row of eight; the cells before it as they were
 --   badAt size ws p               whether the sign word of record p is neither 0 nor 1
 --   beyondAt d v rows p           whether the last vertex of the row of cell p is v or above
 --   falls d rows p                whether the row of cell p does not ascend; fallsAt rows p j at vertices j and j + 1
@@ -15,12 +16,12 @@
 use mathlib.Core.Bool.{Bool, true, false, cond}
 use mathlib.Core.List.{List, [], _∷_, _++_}
 use mathlib.Core.Path.{_≡_}
-use Prim.Native.Nat.{ℕ, suc, _+_, _*_, _<_}
+use Prim.Native.Nat.{ℕ, suc, _+_, _*_, _-_, _<_}
 use lib.Dec.{leb, ltb}
-use lib.ListN.{length, take, getD}
+use lib.ListN.{length, take, getD, replicate}
 use Rattle.words.specs.Records.{tabulate, part, concat}
 use Rattle.rules.specs.Limits.{empty}
-use Rattle.simplex.specs.Cell.{Sign, Cell, cell}
+use Rattle.simplex.specs.Cell.{Row, Sign, Cell, cell}
 use Rattle.simplex.specs.Order.{ascending}
 use Rattle.simplex.specs.Faces.{without, facets}
 use Rattle.simplex.specs.SignWords.{signWord}
@@ -28,6 +29,9 @@ use Rattle.complex.specs.Layout.{listSize, cellOf}
 use Rattle.adjacency.specs.Scan.{anyBelow}
 use Rattle.complex.specs.Accept.{Listed, solidOf, cellTwice, crowdedFace, equalSigns}
 use Rattle.complex.specs.Wings.{neighbour}
+
+abbrev pub rowOfEight : Row → List ℕ
+rowOfEight w = w ++ replicate (8 - length w) 0
 
 abbrev pub cellHeld : ℕ → List ℕ → List Sign → ℕ → Cell
 cellHeld d rows signs p = cell (getD signs p false) (take (suc d) (part 8 p rows))
@@ -45,6 +49,7 @@ pub record Gathered (size d p : ℕ) (ws rows : List ℕ) (signs : List Sign) (r
   pub wide : length rows′ ≡ 32768
   pub many : length signs′ ≡ 4096
   pub new : cellHeld d rows′ signs′ p ≡ ascending (cellRead size d ws p)
+  pub eight : part 8 p rows′ ≡ rowOfEight (ascending (cellRead size d ws p) .row)
   pub old : (q : ℕ) → q < p → cellHeld d rows′ signs′ q ≡ cellHeld d rows signs q
 
 abbrev pub badAt : ℕ → List ℕ → ℕ → Bool

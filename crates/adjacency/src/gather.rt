@@ -9,12 +9,13 @@ ghost use lib.ListN.{length, take, drop};
 ghost use lib.Seq.{paste};
 ghost use Rattle.simplex.specs.Order.{ascending};
 ghost use Rattle.adjacency.specs.Scan.{anyBelow};
-ghost use Rattle.adjacency.specs.Held.{Gathered, cellHeld, cellRead, badAt, beyondAt, fallsAt, falls};
+ghost use Rattle.adjacency.specs.Held.{rowOfEight, Gathered, cellHeld, cellRead, badAt, beyondAt, fallsAt, falls};
 
-// The first n words from at. There are always eight turns, which the compiler writes out.
+// The first n words from at, as a row of eight: the places behind them are 0. There are always eight turns, which
+// the compiler writes out.
 fn read_row(n: usize, at: usize, words: &[u16]) -> [u16; 8]
     requires { ⌜ (n ≤ 8) × (at + n ≤ length (now words)) ⌝ }
-    ensures { λ r. ⌜ (length r ≡ 8) × (take n r ≡ take n (drop at (now (words .entry)))) ⌝ }
+    ensures { λ r. ⌜ (length r ≡ 8) × (r ≡ rowOfEight (take n (drop at (now (words .entry))))) ⌝ }
 {
     let mut row = [0u16; 8];
     let mut j: usize = 0;

@@ -24,7 +24,7 @@ use Rattle.complex.specs.Layout.{Entry, entriesOf, recordSize, listSize, tableL
 use Rattle.boundary.specs.Boundary.{atEmpty, boundaryOf}
 use Rattle.boundary.proofs.EntryWords.{row-long, face-long, part-long}
 use Rattle.words.proofs.Placed.{words-concat}
-use Rattle.boundary.specs.Written.{onBoundary, facesAt, cellFaces, faceWords, cellWordsOf, entryIn, allFaces, allWords}
+use Rattle.boundary.specs.Written.{onBoundary, facesAt, cellFaces, faceWords, cellWordsOf, entryIn, tableFaces, allWords}
 
 pub counted : (e : Entry) (a : ℕ) → onBoundary e a ≡ true → length (facesAt e a) ≡ 1
 unfolding facesAt
@@ -57,9 +57,9 @@ pub words-of-cell : (d : ℕ) (e : Entry) → cellWordsOf d e ≡ concat (tabula
 unfolding cellWordsOf
 words-of-cell d e = refl
 
-pub all-faces-are : (d s : ℕ) (ws : List ℕ) → allFaces d s ws ≡ concat (tabulate s (λ p. cellFaces d (entryIn d ws p)))
-unfolding allFaces
-all-faces-are d s ws = refl
+pub table-faces-are : (d s : ℕ) (ws : List ℕ) → tableFaces d s ws ≡ concat (tabulate s (λ p. cellFaces d (entryIn d ws p)))
+unfolding tableFaces
+table-faces-are d s ws = refl
 
 pub all-words-are : (d s : ℕ) (ws : List ℕ) → allWords d s ws ≡ concat (tabulate s (λ p. cellWordsOf d (entryIn d ws p)))
 unfolding allWords
@@ -119,8 +119,8 @@ module _ (d s : ℕ) (ws : List ℕ) (long : length ws ≡ tableLength d s) wher
   record-of : (p : ℕ) → p < s → length (part (recordSize d) p ws) ≡ recordSize d
   record-of p h = part-long (recordSize d) p s ws h long
 
-  pub boundary-is : boundaryOf (entriesOf d s ws) ≡ allFaces d s ws
-  unfolding allFaces
+  pub boundary-is : boundaryOf (entriesOf d s ws) ≡ tableFaces d s ws
+  unfolding tableFaces
   boundary-is =
       boundary-tabulated s (entryIn d ws)
       ∙ ap concat (tabulate-ext s _ (λ p. cellFaces d (entryIn d ws p)) (λ p l. cell-boundary d (entryIn d ws p) (row-long d (part (recordSize d) p ws) (record-of p l) ∙ sym (add-one d))
@@ -135,16 +135,16 @@ module _ (d s : ℕ) (ws : List ℕ) (long : length ws ≡ tableLength d s) wher
           ∙ sym (ap (λ n. n * (d + 1)) (counted (entryIn d ws p) a h) ∙ one-mul (d + 1))
       go false h = ap length (off-words (entryIn d ws p) a h) ∙ sym (ap (λ n. n * (d + 1)) (skipped (entryIn d ws p) a h) ∙ zero-mul (d + 1))
 
-  pub words-long : length (allWords d s ws) ≡ length (allFaces d s ws) * (d + 1)
-  unfolding allWords allFaces
+  pub words-long : length (allWords d s ws) ≡ length (tableFaces d s ws) * (d + 1)
+  unfolding allWords tableFaces
   words-long =
       words-per-face (d + 1) s (λ p. cellFaces d (entryIn d ws p)) (λ p. cellWordsOf d (entryIn d ws p))
       (λ p l. ap length (words-of-cell d (entryIn d ws p))
       ∙ words-per-face (d + 1) (d + 1) (facesAt (entryIn d ws p)) (faceWords (entryIn d ws p)) (λ a k. face-words-long p a l (omega arith))
       ∙ sym (ap (λ cs. length cs * (d + 1)) (faces-of-cell d (entryIn d ws p))))
 
-pub words-are : (d s : ℕ) (ws : List ℕ) → concat (map cellWords (allFaces d s ws)) ≡ allWords d s ws
-unfolding allFaces allWords cellFaces cellWordsOf faceWords
+pub words-are : (d s : ℕ) (ws : List ℕ) → concat (map cellWords (tableFaces d s ws)) ≡ allWords d s ws
+unfolding tableFaces allWords cellFaces cellWordsOf faceWords
 words-are d s ws =
     words-concat cellWords s (λ p. cellFaces d (entryIn d ws p))
     ∙ ap concat (tabulate-ext s _ (λ p. cellWordsOf d (entryIn d ws p)) (λ p l. words-concat cellWords (d + 1) (facesAt (entryIn d ws p))))

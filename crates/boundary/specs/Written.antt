@@ -2,6 +2,7 @@
 --   onBoundary e a        wing a is empty, and face a has a vertex
 --   facesAt e a           face a of an entry, if it is on the boundary
 --   cellFaces d e         the boundary faces of an entry, by position
+--   tableFaces d s ws     those of the s entries of the table with the words ws, by cell and then position
 --   faceWords, cellWordsOf, allWords      their words: of one face, one entry, the table
 --   entryIn d ws p        entry p of the table with the words ws
 use mathlib.Core.Bool.{Bool, cond, _&&_}
@@ -37,8 +38,8 @@ cellWordsOf d e = concat (tabulate (d + 1) (faceWords e))
 abbrev pub entryIn : ℕ → List ℕ → ℕ → Entry
 entryIn d ws p = entryOf d (part (recordSize d) p ws)
 
-unfoldable pub allFaces : ℕ → ℕ → List ℕ → List Cell
-allFaces d s ws = concat (tabulate s (λ p. cellFaces d (entryIn d ws p)))
+unfoldable pub tableFaces : ℕ → ℕ → List ℕ → List Cell
+tableFaces d s ws = concat (tabulate s (λ p. cellFaces d (entryIn d ws p)))
 
 unfoldable pub allWords : ℕ → ℕ → List ℕ → List ℕ
 allWords d s ws = concat (tabulate s (λ p. cellWordsOf d (entryIn d ws p)))

@@ -5,7 +5,7 @@ ghost use lib.ListN.{length};
 ghost use Rattle.simplex.specs.Faces.{face};
 ghost use Rattle.complex.specs.Layout.{recordSize, tableLength, entryOf, cellWords};
 ghost use Rattle.words.specs.Placed.{placed};
-ghost use Rattle.boundary.specs.Written.{faceWords, cellWordsOf, allFaces, allWords};
+ghost use Rattle.boundary.specs.Written.{faceWords, cellWordsOf, tableFaces, allWords};
 use crate::faces_of::count_cell;
 use crate::faces_of::face_word;
 use crate::faces_of::on_boundary;
@@ -76,7 +76,7 @@ pub(crate) fn write_faces(d: usize, s: usize, table: &[u16], out: &mut [u16]) ->
 // How many faces of the table are on the boundary.
 pub fn count_faces(d: usize, s: usize, table: &[u16]) -> usize
     requires { ⌜ (d ≤ 7) × (s ≤ 4096) × (length (now table) ≡ tableLength d s) ⌝ }
-    ensures count { λ r. ⌜ r ≡ length (allFaces d s (now (table .entry))) ⌝ }
+    ensures count { λ r. ⌜ r ≡ length (tableFaces d s (now (table .entry))) ⌝ }
     ensures few { λ r. ⌜ r ≤ 32768 ⌝ }
 {
     let size = d + d + 3;

@@ -1,7 +1,20 @@
--- The marked keys hold: both sides of each are computed.
-use mathlib.Core.Path.{refl}
-use Rattle.theorems.specs.MarkedKeys.{MarkedKeys}
+-- The marked keys hold: both sides of each are computed, but for the points of K9: there the rules of move are taken one by one.
+use mathlib.Core.Path.{_≡_, refl}
+use mathlib.Core.Bool.{true}
+use lib.Ieee.{add, binary64, ofBits}
+use Rattle.points.specs.Step.{inRange}
+use Rattle.theorems.specs.MarkedKeys.{K9OfMove, MarkedKeys}
+use Rattle.theorems.specs.Shorthand.{one}
 use Rattle.theorems.proofs.Computing.{computing}
+use Rattle.theorems.proofs.Sliding.{slid-accepted, slid-refused}
+
+-- 0.0, 1.0 and their sum
+in-range : (inRange (ofBits binary64 0) ≡ true) × (inRange one ≡ true) × (inRange (add binary64 (ofBits binary64 0) one) ≡ true)
+unfolding computing
+in-range = (refl, refl, refl)
+
+k9-of-move : K9OfMove
+k9-of-move = (slid-accepted _ _ _ _ refl refl refl (in-range .0) (in-range .1) (in-range .2), slid-refused _ _ _ _ _ refl refl refl (in-range .0) (in-range .1))
 
 pub marked-keys : MarkedKeys
 unfolding computing
@@ -19,6 +32,6 @@ marked-keys =
       k6 = (refl, refl, refl);
       k7 = (refl, refl);
       k8 = (refl, refl, refl);
-      k9 = (refl, refl);
+      k9 = (refl, refl, k9-of-move);
       k10 = refl;
     }

@@ -3,4 +3,6 @@ pub mod Shorthand
 pub mod MarkedKeys
 pub mod Figures
 pub mod Refusals
+pub mod Deciding
+pub mod Stacked
 pub mod NeverUnsound

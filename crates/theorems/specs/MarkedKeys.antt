@@ -13,9 +13,11 @@ use Rattle.wing.specs.Wing.{wingOutcome}
 use Rattle.prism.specs.Sides.{side, sidePair}
 use Rattle.sweep.specs.Sweep.{sweepOutcome}
 use Rattle.boundary.specs.Faces.{facesOutcome, boundaryCells}
+use Rattle.points.specs.declared.step.Step.the-variants as S
+use Rattle.motion.specs.Move.{MoveInput, moveInput, moveOutcome}
 use Rattle.printing.specs.Decimal.{coordinate}
 use Rattle.marking.specs.Key.{printed}
-use Rattle.theorems.specs.Shorthand.{cellOf, entry, listed, toWing, swept, sweptEntries, facesOfSwept}
+use Rattle.theorems.specs.Shorthand.{cellOf, entry, listed, toWing, swept, sweptEntries, facesOfSwept, one, ample}
 
 -- d 0, n 1, V 1, S 1, h 1, slide on axis 0 by 1.0, point 0.5, cell plus 0
 abbrev pub k1File : List ℕ
@@ -43,6 +45,14 @@ k8Solid = listed 4 6 (cellOf "+01234" ∷ cellOf "-12345" ∷ [])
 abbrev pub pointAmong : ℕ → Listed
 pointAmong v = listed 0 v (cellOf "+0" ∷ [])
 
+-- v points of one axis at 0.0, slid by 1.0 in h steps
+abbrev pub zerosSlid : ℕ → ℕ → MoveInput
+zerosSlid v h = moveInput 1 v h (S.Slide 0 one) (replicate v (ofBits binary64 0)) ample
+
+-- V 2,048, h 1 is accepted, and V 1,366, h 2 is refused 12, by move too
+abbrev pub K9OfMove : Type 0
+K9OfMove = (moveOutcome (zerosSlid 2048 1) ≡ accepted 4096) × (moveOutcome (zerosSlid 1366 2) ≡ refused 12)
+
 pub record MarkedKeys : Type 0 where
   pub k1 : printed k1File ≡ ascii "key 1 1 2 2\nv 0 0.500\nv 1 1.500\n+ 1\n- 0\n"
   pub k2-cells :
@@ -67,5 +77,5 @@ pub record MarkedKeys : Type 0 where
   pub k7 : (sidePair 2 0 0 ≡ side 1 2) × (sidePair 2 0 1 ≡ side 2 1)
   pub k8 :
       (sweepOutcome (swept 3 k8Solid) ≡ accepted 390) × (wingAt (sweptEntries 3 k8Solid) 4 0 ≡ 10) × (wingAt (sweptEntries 3 k8Solid) 10 5 ≡ 4)
-  pub k9 : (sweepOutcome (swept 1 (pointAmong 2048)) ≡ accepted 5) × (sweepOutcome (swept 2 (pointAmong 1366)) ≡ refused 12)
+  pub k9 : (sweepOutcome (swept 1 (pointAmong 2048)) ≡ accepted 5) × (sweepOutcome (swept 2 (pointAmong 1366)) ≡ refused 12) × K9OfMove
   pub k10 : wingOutcome (toWing (listed 2 4 (cellOf "+012" ∷ cellOf "+123" ∷ []))) ≡ refused 11

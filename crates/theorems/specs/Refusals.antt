@@ -12,7 +12,7 @@ use Rattle.points.specs.declared.step.Step.{Step}
 use Rattle.points.specs.declared.step.Step.the-variants as S
 use Rattle.motion.specs.Move.{MoveInput, moveOutcome}
 use Rattle.read.specs.Read.{ReadInput, readOutcome, headerOf}
-use Rattle.theorems.specs.Shorthand.{cellOf, listed, toWing, ample}
+use Rattle.theorems.specs.Shorthand.{cellOf, listed, toWing, one, ample}
 use Rattle.theorems.specs.MarkedKeys.{k1File}
 
 abbrev pub read : List ℕ → ReadInput
@@ -25,10 +25,7 @@ moved step = record { n = 3; v = 1; h = 1; step = step; points = zero ∷ zero �
     zero : Float
     zero = ofBits binary64 0
 
--- 1.0 and 1,048,575 by their bits
-abbrev pub one : Float
-one = ofBits binary64 0x3ff0000000000000
-
+-- 1,048,575 by its bits
 abbrev pub large : Float
 large = ofBits binary64 0x412ffffe00000000
 

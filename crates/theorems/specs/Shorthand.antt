@@ -11,6 +11,7 @@ use Prim.Native.Nat.{ℕ, suc, _-_}
 use Prim.Native.String.{String}
 use lib.Dec.{eqb}
 use lib.ListN.{length, drop, getD}
+use lib.Ieee.{Float, binary64, ofBits}
 use Rattle.words.specs.Records.{concat}
 use Rattle.words.specs.Text.{ascii}
 use Rattle.rules.specs.Limits.{empty, sweptVertices}
@@ -35,6 +36,10 @@ entry t ws = record { cell = cellOf t; wings = map shown (ascii ws) }
 
 abbrev pub listed : ℕ → ℕ → List Cell → Listed
 listed d v cs = record { d = d; v = v; s = length cs; words = concat (map cellWords cs) }
+
+-- 1.0 by its bits
+abbrev pub one : Float
+one = ofBits binary64 0x3ff0000000000000
 
 -- rooms are ample unless an example says otherwise
 abbrev pub ample : ℕ

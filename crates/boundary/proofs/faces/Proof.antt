@@ -13,7 +13,7 @@ use Rattle.words.specs.Records.{concat}
 use Rattle.rules.specs.Calls.{accepted}
 use Rattle.complex.specs.Layout.{tableLength, cellWords}
 use Rattle.boundary.specs.Faces.{FacesInput, boundaryCells, facesLength}
-use Rattle.boundary.specs.Written.{facesInput, allFaces, allWords}
+use Rattle.boundary.specs.Written.{facesInput, tableFaces, allWords}
 use Rattle.boundary.proofs.Counting.{boundary-is, words-are, words-long}
 use Rattle.rules.specs.Limits.{maxDimension}
 use Rattle.rules.proofs.InLimits.{Limits, limits-are}
@@ -57,7 +57,7 @@ whole : (c : tie.Else3) → isSound (input (start-of c)) ≡ true
 whole c = sym (c .before .is-sound .ensures) ∙ not-false _ (c .if3 .left)
 
 -- its boundary by cell and position, and the words that it takes
-cells : (c : tie.Else3) → boundaryCells (input (start-of c)) ≡ allFaces (start-of c .args .d) (start-of c .args .s) (start-of c .args .table .now)
+cells : (c : tie.Else3) → boundaryCells (input (start-of c)) ≡ tableFaces (start-of c .args .d) (start-of c .args .s) (start-of c .args .table .now)
 unfolding boundaryCells
 cells c = let a = start-of c .args in boundary-is (a .d) (a .s) (a .table .now) (long (two c))
 

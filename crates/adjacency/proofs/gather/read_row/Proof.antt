@@ -1,10 +1,8 @@
 -- The loop has read the first j words, of those that are to be read. Assumes nothing.
 use mathlib.Core.Logic.{⊎-elim}
-use mathlib.Core.Path.{refl}
 use Prim.Native.Nat.{_-_, _≤_}
-use native.Mathlib.Nat.{not-suc-le-zero}
 use native.Mathlib.Omega.{arith}
-use Rattle.adjacency.proofs.Reading.{Read, read-all, read-more, read-no-more}
+use Rattle.adjacency.proofs.Reading.{Read, read-all, read-more, read-no-more, read-none}
 use Rattle.adjacency.proofs.gather.read_row.Statement.{statement}
 use Rattle.adjacency.proofs.gather.read_row.Tie as tie
 
@@ -15,7 +13,7 @@ abbrev μ-loop : tie.MeasureT-loop
 μ-loop n at words row₀ j₀ row j = 8 - j
 
 loop-holds : tie.Need-loop-holds Inv-loop μ-loop
-loop-holds c = (omega arith, (refl, λ i l m. absurd (not-suc-le-zero l)))
+loop-holds c = (omega arith, read-none (c .args .n) (c .args .at) (c .args .words .now))
 
 add-row : tie.Need-add-row Inv-loop μ-loop
 add-row c = omega arith
@@ -43,7 +41,7 @@ loop-again c =
     let l = c .before .before .loop in
     let a = c .before .before .before .args in (
       omega arith,
-      ⊎-elim (λ w. read-more (a .n) (a .at) (a .words .now) (l .j) (l .row) (c .if1 .row) (l .inv .1) (c .before .loop-test .taken) (w .2))
+      ⊎-elim (λ w. read-more (a .n) (a .at) (a .words .now) (l .j) (l .row) (c .if1 .row) (l .inv .1) (c .before .loop-test .taken) (w .0 .taken) (w .2))
           (λ w. read-no-more (a .n) (a .at) (a .words .now) (l .j) (l .row) (c .if1 .row) (l .inv .1) (w .0 .left) (w .1)) (c .if1 .came),
     )
 

@@ -8,7 +8,7 @@ use lib.ListN.{length}
 use Rattle.words.specs.Records.{tabulate, concat}
 use Rattle.complex.specs.Layout.{entryOf, recordSize}
 use Rattle.boundary.specs.Written.{cellFaces, entryIn}
-use Rattle.boundary.proofs.Counting.{all-faces-are}
+use Rattle.boundary.proofs.Counting.{table-faces-are}
 use Rattle.boundary.proofs.EntryWords.{part-long, lent-is}
 use Rattle.words.proofs.Placed.{concat-more-long}
 use Rattle.boundary.proofs.writing.count_faces.Statement.{statement}
@@ -88,7 +88,7 @@ returns c =
     let at = c .before in
     let a = at .before .before .args in
     let all : at .loop .p ≡ a .s = omega arith in (
-      at .loop .inv .3 ∙ ap (λ (m : ℕ). length (concat (tabulate m (λ p. cellFaces (a .d) (entryIn (a .d) (a .table .now) p))))) all ∙ sym (ap length (all-faces-are (a .d) (a .s) (a .table .now))),
+      at .loop .inv .3 ∙ ap (λ (m : ℕ). length (concat (tabulate m (λ p. cellFaces (a .d) (entryIn (a .d) (a .table .now) p))))) all ∙ sym (ap length (table-faces-are (a .d) (a .s) (a .table .now))),
       omega arith,
     )
 

@@ -17,7 +17,7 @@ use Rattle.words.specs.Records.{concat}
 use Rattle.words.proofs.Bytes.{bytes-length}
 use Rattle.complex.specs.Layout.{tableLength, cellWords}
 use Rattle.boundary.specs.Faces.{FacesInput, boundaryCells, facesLength}
-use Rattle.boundary.specs.Written.{allFaces, allWords}
+use Rattle.boundary.specs.Written.{tableFaces, allWords}
 use Rattle.boundary.proofs.Counting.{boundary-is, words-are, words-long}
 use Rattle.rules.specs.Limits.{maxDimension}
 use Rattle.rules.proofs.InLimits.{Limits, limits-are}
@@ -44,7 +44,7 @@ whole : (c : tie.Else1) → isSound (input (start (c .before))) ≡ true
 whole c = sym (c .before .is-sound .ensures) ∙ not-false _ (c .if1 .left)
 
 -- the boundary by cell and position, and the words that it takes
-cells : (c : tie.Start) → boundaryCells (input c) ≡ allFaces (c .args .d) (c .args .s) (c .args .table .now)
+cells : (c : tie.Start) → boundaryCells (input c) ≡ tableFaces (c .args .d) (c .args .s) (c .args .table .now)
 unfolding boundaryCells
 cells c = boundary-is (c .args .d) (c .args .s) (c .args .table .now) (c .pre .1)
 

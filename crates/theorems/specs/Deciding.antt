@@ -1,0 +1,63 @@
+-- The third term's `decides` on pairs of small solids, and sentences of its shape that are false: these do not decide.
+--   sitting l             a list, with buffers for wing and sweep that have room enough
+--   circle, reversed      three segments in a ring, and the same with each sign turned over: both are closed
+--   points, exchanged     two points, listed in two orders
+--   ring x                the solid of a sitting of segments on three vertices
+--   sweptRing h x         the boundary of its sweep in h steps
+--   Equal x y             two such solids are equal, list order aside
+use mathlib.Core.Path.{_≡_}
+use mathlib.Core.Logic.{_↔_}
+use mathlib.Core.List.{List, [], _∷_}
+use Prim.Native.Nat.{ℕ}
+use lib.ListN.{length, replicate}
+use Rattle.simplex.specs.Cell.{Row, Cell}
+use Rattle.simplex.specs.Chain.{total, Same}
+use Rattle.complex.specs.Accept.{Listed}
+use Rattle.boundary.specs.Boundary.{ownBoundary}
+use Rattle.third_term.specs.ThirdTerm.{Sitting, Unrefused, solid, boundary}
+use Rattle.theorems.specs.Shorthand.{cellOf, listed}
+
+abbrev pub sitting : Listed → Sitting
+sitting l = record { s = l .s; cells = l .words; tableBuffer = replicate 96 0; sweptBuffer = replicate 96 0 }
+
+abbrev pub circle : Sitting
+circle = sitting (listed 1 3 (cellOf "+01" ∷ cellOf "+12" ∷ cellOf "-02" ∷ []))
+
+abbrev pub reversed : Sitting
+reversed = sitting (listed 1 3 (cellOf "-01" ∷ cellOf "-12" ∷ cellOf "+02" ∷ []))
+
+abbrev pub points : Sitting
+points = sitting (listed 0 2 (cellOf "+0" ∷ cellOf "+1" ∷ []))
+
+abbrev pub exchanged : Sitting
+exchanged = sitting (listed 0 2 (cellOf "+1" ∷ cellOf "+0" ∷ []))
+
+abbrev pub ring : Sitting → List Cell
+ring x = solid 1 3 1 x
+
+abbrev pub sweptRing : ℕ → Sitting → List Cell
+sweptRing h x = boundary 1 3 h x
+
+abbrev pub Equal : Sitting → Sitting → Type 0
+Equal x y = Same (ring x) (ring y)
+
+pub record Deciding : Type 0 where
+  -- wing and sweep refuse none of them, so the third term speaks of them
+  pub unrefused : Unrefused 1 3 1 circle × Unrefused 1 3 1 reversed × Unrefused 1 3 2 circle × Unrefused 0 2 1 points × Unrefused 0 2 1 exchanged
+  -- different solids, different boundaries of their sweeps; equal solids, equal boundaries
+  pub different : (Equal circle reversed → ⊥) × (Same (sweptRing 1 circle) (sweptRing 1 reversed) → ⊥)
+  pub equal : Same (solid 0 2 1 points) (solid 0 2 1 exchanged) × Same (boundary 0 2 1 points) (boundary 0 2 1 exchanged)
+  -- false: told by the solids' own boundaries, which are empty
+  pub own : (Equal circle reversed ↔ Same (ownBoundary (ring circle)) (ownBoundary (ring reversed))) → ⊥
+  -- false: told by the vertices of the faces, signs aside
+  pub signs : (Equal circle reversed ↔ ((w : Row) → total w (sweptRing 1 circle) ≡ total w (sweptRing 1 reversed))) → ⊥
+  -- false: told of solids by their vertices, signs aside
+  pub solid-signs : (((w : Row) → total w (ring circle) ≡ total w (ring reversed)) ↔ Same (sweptRing 1 circle) (sweptRing 1 reversed)) → ⊥
+  -- false: told by the count of faces
+  pub count : (Equal circle reversed ↔ (length (sweptRing 1 circle) ≡ length (sweptRing 1 reversed))) → ⊥
+  -- false: told by sweeps in different steps
+  pub steps : (Equal circle circle ↔ Same (sweptRing 1 circle) (sweptRing 2 circle)) → ⊥
+  -- false: told by one boundary alone
+  pub twice : (Equal circle reversed ↔ Same (sweptRing 1 circle) (sweptRing 1 circle)) → ⊥
+  -- false: told with the order of the list
+  pub order : ((solid 0 2 1 points ≡ solid 0 2 1 exchanged) ↔ Same (boundary 0 2 1 points) (boundary 0 2 1 exchanged)) → ⊥
