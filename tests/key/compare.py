@@ -28,11 +28,11 @@ def edge_files(rng):
     good = solids.random_file(rng, 2)
     for length in (39, 40, 65535, 65536, 65537, 200000):
         yield good[:length] + b"\0" * (length - len(good))
-    # a good file of just under 65,536 bytes: 4,096 vertices of one axis, many points
-    v, n = 1000, 8
-    cells = [(1, (p,)) for p in range(300)]
-    points = [rng.uniform(-9, 9) for _ in range(v * n)]
-    yield solids.file_bytes(0, n, v, 1, reference.Slide(7, 1.0), points, cells)
+    # good files of 8 axes: one of just under 65,536 bytes, with too many points for a key, and one with nearly the longest key
+    for v, s in ((1000, 300), (512, 400)):
+        cells = [(1, (p,)) for p in range(s)]
+        points = [rng.uniform(-9, 9) for _ in range(8 * v)]
+        yield solids.file_bytes(0, 8, v, 1, reference.Slide(7, 1.0), points, cells)
 
 
 def files(rng):
