@@ -103,10 +103,10 @@ def check_streams():
     answers("a closed input beside a file", run([COMMAND, K1], **closed(0)), 0, key_of(K1))
     answers("a closed output", run([COMMAND, K1], **closed(1)), 3, None, b"standard output is closed")
     with open("/dev/full", "wb") as full:
-        answers("a full disk", run([COMMAND, K1], stdout=full), 3, None, b"the key could not be written to standard output")
+        answers("a full disk", run([COMMAND, K1], stdout=full), 3, None, b"the text could not be written to standard output")
     ends = os.pipe()
     os.close(ends[0])
-    answers("nobody reads the key", run([COMMAND, K1], stdout=ends[1]), 3, None, b"the key could not be written to standard output")
+    answers("nobody reads the key", run([COMMAND, K1], stdout=ends[1]), 3, None, b"the text could not be written to standard output")
     os.close(ends[1])
 
 
@@ -158,7 +158,7 @@ def check_cut_keys(folder):
         answers(name, run([command, K1]), 3, b"", b"did not print a key with all its lines")
     text.write_bytes(whole)
     answers("a whole key", run([command, K1]), 0, whole)
-    ends = {"kill -KILL $$": b"signal KILL", "kill -SEGV $$": b"signal SEGV", "exit 1": b"exit status 1", "echo no >&2": b"did not print a key: no"}
+    ends = {"kill -KILL $$": b"signal KILL", "kill -SEGV $$": b"signal SEGV", "exit 1": b"exit status 1", "echo no >&2": b"text: no\n"}
     for end, part in ends.items():
         does.write_text(f"cat '{text}'\n{end}\n")
         answers(f"a whole key, and then {end}", run([command, K1]), 3, b"", part)

@@ -6,6 +6,7 @@ import sys
 
 ROOT = pathlib.Path(__file__).resolve().parents[2]
 sys.path[:0] = [str(ROOT / "tests"), str(ROOT / "tests" / "reference")]
+import solids  # noqa: E402, F401
 import winged_reference as reference  # noqa: E402, F401
 from tally import Tally  # noqa: E402
 

@@ -6,16 +6,12 @@ Thousands of random files, good and damaged, and files at the limits. Last line:
 """
 
 import collections
-import os
 import random
 import subprocess
 import sys
 
-ROOT = os.path.join(os.path.dirname(os.path.abspath(__file__)), "..", "..")
-sys.path[:0] = [os.path.join(ROOT, "tests"), os.path.join(ROOT, "tests", "reference")]
-import solids  # noqa: E402
-import winged_reference as reference  # noqa: E402
-from tally import Tally  # noqa: E402
+from common import PROGRAM, reference, solids
+from tally import Tally
 
 FILES = 3000
 # row 14 cannot come out of the program: it lists only tables that it made
@@ -47,13 +43,12 @@ def outcome(text):
 
 
 def main():
-    program = sys.argv[1] if len(sys.argv) > 1 else os.path.join(ROOT, "target", "bin", "key")
     rng = random.Random(int(sys.argv[2]) if len(sys.argv) > 2 else 20261)
     tally = Tally(shown=10)
     seen = collections.Counter()
     for number, data in enumerate(files(rng)):
         want = reference.key(data)
-        got = subprocess.run([program], input=data, stdout=subprocess.PIPE, check=False).stdout
+        got = subprocess.run([PROGRAM], input=data, stdout=subprocess.PIPE, check=False).stdout
         seen[outcome(want)] += 1
         tally.check(f"file {number} of {len(data)} bytes: got {got[:60]!r}, want {want[:60]!r}", got == want)
     missing = OUTCOMES - set(seen)
