@@ -22,7 +22,8 @@ fn print_to(input: &[u8], text: &mut [u8]) -> usize
     }
 }
 
-// Reads until the input ends or the buffer is full, and answers the count of bytes; -1 where a read failed.
+// Reads until the input ends or the buffer is full, and answers the count of bytes; -1 where a read fails, for whatever
+// reason, an interruption too.
 fn read_all(input: &mut [u8]) -> isize
     ensures { λ r. ⌜ Moved (length (now (input .entry))) r ⌝ }
 {
@@ -41,6 +42,7 @@ fn read_all(input: &mut [u8]) -> isize
     done as isize
 }
 
+// A failed read prints no key; a text that is not taken whole is told. What C's calls read and write no contract can say.
 fn main() {
     let mut input = [0u8; 65537];
     let got = read_all(&mut input);
