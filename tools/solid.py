@@ -19,28 +19,12 @@ The text, with anything after # a comment:
 Exit status: 0 done; 1 bad text or file, with its line; 2 wrong usage.
 """
 
+import pathlib
 import random
 import struct
 import sys
 
-REASONS = {
-    1: "the file is under 40 bytes, or its mark WNG or its version is wrong",
-    2: "a number is outside its limits, or the kind of step is not 1, 2 or 3",
-    3: "a length is not what the numbers say",
-    4: "a float is not finite, or its magnitude is 1,048,576 or more",
-    5: "the step does not fit: an axis beyond the space, slant axes equal, a turn with under 3 axes or off the "
-       "unit circle, or an unused part that is not zero",
-    6: "a sign is not one of the two",
-    7: "a vertex number is not below the count of vertices",
-    8: "a vertex stands twice in a cell",
-    9: "two cells are on the same vertices",
-    10: "a face is in three or more cells",
-    11: "two cells share a face with equal signs",
-    12: "the sweep has over 4,096 vertices or cells",
-    13: "a moved coordinate is not finite, or its magnitude is 1,048,576 or more",
-    14: "the table is not sound: it is not the table of its own cells",
-    15: "a lent buffer is shorter than the answer",
-}
+REASONS = pathlib.Path(__file__).resolve().parents[1] / "docs" / "refusals.txt"
 KINDS = {"slide": 1, "slant": 2, "turn": 3}
 NUMBERS = {"slide": "an axis and an amount", "slant": "an axis and an amount, twice", "turn": "cosine, sine and rise"}
 
@@ -50,6 +34,16 @@ class Bad(Exception):
 
     def __init__(self, message, line=None):
         super().__init__(message if line is None else f"line {line}: {message}")
+
+
+def reasons():
+    """What each refusal means, by its number as a word."""
+    return dict(line.split("\t") for line in REASONS.read_text().splitlines())
+
+
+def refused(number, where=""):
+    """Bad by the refusal of that number."""
+    return Bad(f"{where}refused {number}: {reasons()[number]}")
 
 
 def whole(word, line, most=65535):
@@ -124,22 +118,23 @@ def pack(text):
 
 def unpack(data):
     """The text of a file."""
-    if len(data) < 40 or data[:3] != b"WNG":
-        raise Bad("no file of a solid: it does not begin with WNG, or is under 40 bytes")
-    version, d, n, v, s, h, kind, a, b, x, y, z = struct.unpack_from("<HBBHHHBBB3d", data, 3)
+    if len(data) < 40 or data[:5] != b"WNG\1\0":
+        raise refused("1")
+    d, n, v, s, h, kind, a, b, x, y, z = struct.unpack_from("<BBHHHBBB3d", data, 5)
     size = 2 * d + 3
-    if version != 1 or kind not in (1, 2, 3) or len(data) != 40 + 8 * v * n + s * size:
-        raise Bad("the version, the kind of step or the length is wrong")
+    if kind not in (1, 2, 3):
+        raise refused("2")
+    if len(data) != 40 + 8 * v * n + s * size:
+        raise refused("3")
     step = {1: f"slide {a} {x!r}", 2: f"slant {a} {x!r} {b} {y!r}", 3: f"turn {x!r} {y!r} {z!r}"}[kind]
     lines = [f"steps {h}", step]
     for p in range(v):
         lines.append("v " + " ".join(repr(c) for c in struct.unpack_from(f"<{n}d", data, 40 + 8 * n * p)))
     for p in range(s):
         at = 40 + 8 * v * n + p * size
-        sign = chr(data[at])
-        if sign not in "+-":
-            raise Bad(f"cell {p}: the sign is byte {data[at]}")
-        lines.append(sign + " " + " ".join(map(str, struct.unpack_from(f"<{d + 1}H", data, at + 1))))
+        if data[at] not in b"+-":
+            raise refused("6", f"cell {p}: ")
+        lines.append(chr(data[at]) + " " + " ".join(map(str, struct.unpack_from(f"<{d + 1}H", data, at + 1))))
     return "\n".join(lines) + "\n"
 
 
@@ -210,8 +205,8 @@ def main(words):
         save(path(2), pack(text))
     elif words[:1] == ["unpack"] and len(words) <= 3:
         save(path(2), unpack(load(path(1))).encode())
-    elif words[:1] == ["explain"] and len(words) == 2 and words[1].isdecimal() and int(words[1]) in REASONS:
-        print(f"refused {words[1]}: {REASONS[int(words[1])]}")
+    elif words[:1] == ["explain"] and len(words) == 2 and words[1] in reasons():
+        print(refused(words[1]))
     elif words[:1] == ["random"] and len(words) == 5 and all(w.isdecimal() for w in words[1:]):
         save(None, random_text(*map(int, words[1:])).encode())
     else:

@@ -1,4 +1,5 @@
-"""Checks that the documents name what is there: every path, and every name that stands before its file.
+"""Checks that the documents name what is there: every path, and every name that stands before its file; and that
+README.md and docs/man/key.1 give the reasons of docs/refusals.txt.
 
 A path is CRATE/specs/Name, CRATE/proofs/Name or CRATE/src/name.rt, below crates/, or a path from the root.
 Last line: 'N passed, M failed'.
@@ -28,7 +29,18 @@ def file_of(crate, part, name, ending=None):
     return next((p for p in (pathlib.Path(f"{base}{e}") for e in endings) if p.exists()), None)
 
 
+def check_reasons():
+    """Each refusal is told in the same words, in the README's table and in the manual page's."""
+    reasons = [tuple(line.split("\t")) for line in (ROOT / "docs" / "refusals.txt").read_text().splitlines()]
+    check("refusals.txt: a line for each refusal", [number for number, _ in reasons] == [str(n) for n in range(1, 16)])
+    table = (ROOT / "README.md").read_text().split("| N | when |\n|---|---|\n")[-1].split("\n\n")[0]
+    check("README.md: the reasons", re.findall(r"^\| (\S+) \| (.*) \|$", table, re.M) == reasons)
+    page = (ROOT / "docs" / "man" / "key.1").read_text().split(".SH REFUSALS")[-1].split(".SH")[0].replace("\\-", "-")
+    check("key.1: the reasons", re.findall(r"^(\d+);T\{\n(.*)\nT\}$", page, re.M) == reasons)
+
+
 def main():
+    check_reasons()
     for document in DOCUMENTS:
         text = document.read_text()
         for crate, part, name, ending in INSIDE.findall(text):

@@ -6,16 +6,12 @@ Thousands of random files, good and damaged, and files at the limits. Last line:
 """
 
 import collections
-import os
 import random
 import subprocess
 import sys
 
-ROOT = os.path.join(os.path.dirname(os.path.abspath(__file__)), "..", "..")
-sys.path[:0] = [os.path.join(ROOT, "tests"), os.path.join(ROOT, "tests", "reference")]
-import solids  # noqa: E402
-import winged_reference as reference  # noqa: E402
-from tally import Tally  # noqa: E402
+from common import PROGRAM, reference, solids
+from tally import Tally
 
 FILES = 3000
 # row 14 cannot come out of the program: it lists only tables that it made
@@ -28,11 +24,11 @@ def edge_files(rng):
     good = solids.random_file(rng, 2)
     for length in (39, 40, 65535, 65536, 65537, 200000):
         yield good[:length] + b"\0" * (length - len(good))
-    # a good file of just under 65,536 bytes: 4,096 vertices of one axis, many points
-    v, n = 1000, 8
-    cells = [(1, (p,)) for p in range(300)]
-    points = [rng.uniform(-9, 9) for _ in range(v * n)]
-    yield solids.file_bytes(0, n, v, 1, reference.Slide(7, 1.0), points, cells)
+    # good files of 8 axes: one of just under 65,536 bytes, with too many points for a key, and one with nearly the longest key
+    for v, s in ((1000, 300), (512, 400)):
+        cells = [(1, (p,)) for p in range(s)]
+        points = [rng.uniform(-9, 9) for _ in range(8 * v)]
+        yield solids.file_bytes(0, 8, v, 1, reference.Slide(7, 1.0), points, cells)
 
 
 def files(rng):
@@ -47,13 +43,12 @@ def outcome(text):
 
 
 def main():
-    program = sys.argv[1] if len(sys.argv) > 1 else os.path.join(ROOT, "target", "bin", "key")
     rng = random.Random(int(sys.argv[2]) if len(sys.argv) > 2 else 20261)
     tally = Tally(shown=10)
     seen = collections.Counter()
     for number, data in enumerate(files(rng)):
         want = reference.key(data)
-        got = subprocess.run([program], input=data, stdout=subprocess.PIPE, check=False).stdout
+        got = subprocess.run([PROGRAM], input=data, stdout=subprocess.PIPE, check=False).stdout
         seen[outcome(want)] += 1
         tally.check(f"file {number} of {len(data)} bytes: got {got[:60]!r}, want {want[:60]!r}", got == want)
     missing = OUTCOMES - set(seen)

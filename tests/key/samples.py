@@ -1,4 +1,4 @@
-"""Runs the program key on the samples in examples/, and the command ./key as people use it.
+"""Runs the program key on the samples in examples/, in small pieces, on inputs that fail, and with little stack.
 
 usage: samples.py [PROGRAM]
 
@@ -6,51 +6,43 @@ Each sample's key must be the stored one, and the reference's; each text must pa
 Last line: 'N passed, M failed'.
 """
 
-import pathlib
+import os
+import random
+import resource
 import subprocess
 import sys
 
-ROOT = pathlib.Path(__file__).resolve().parents[2]
-sys.path[:0] = [str(ROOT / "tests"), str(ROOT / "tests" / "reference")]
-import winged_reference as reference  # noqa: E402
-from tally import Tally  # noqa: E402
+from common import K1, PROGRAM, ROOT, check, key_of, reference, run, tally
+from compare import edge_files
 
-COMMAND = str(ROOT / "key")
 TOOL = [sys.executable, "-B", str(ROOT / "tools" / "solid.py")]
-K1 = ROOT / "examples" / "marked" / "k1.wng"
-CROWDED = ROOT / "examples" / "refused" / "10.wng"
-
-tally = Tally()
-check = tally.check
-
-
-def run(words, data=b""):
-    return subprocess.run(words, input=data, stdout=subprocess.PIPE, stderr=subprocess.PIPE, check=False)
+FILES = sorted((ROOT / "examples").glob("*/*.wng"))
+STACK = 1 << 20  # bytes, as docs/man/key.1 says
+UNREAD = b"key: the input could not be read\n"
+UNWRITTEN = b"key: the text could not be written\n"
 
 
-def in_pieces(program, data, size):
-    """What the program prints when its input comes in small pieces, and whether all of it was taken."""
-    child = subprocess.Popen([program], stdin=subprocess.PIPE, stdout=subprocess.PIPE)
-    taken = True
+def in_pieces(data, size):
+    """What the program prints when its input comes in small pieces. It may stop reading before the end."""
+    child = subprocess.Popen([PROGRAM], stdin=subprocess.PIPE, stdout=subprocess.PIPE)
     try:
         for at in range(0, len(data), size):
             child.stdin.write(data[at:at + size])
             child.stdin.flush()
         child.stdin.close()
     except BrokenPipeError:
-        taken = False
+        pass
     text = child.stdout.read()
     child.wait()
-    return text, taken
+    return text
 
 
-def check_samples(program):
-    files = sorted((ROOT / "examples").glob("*/*.wng"))
-    check("there are samples", len(files) >= 25)
+def check_samples():
+    check("there are samples", len(FILES) >= 25)
     kinds, dimensions, refusals = set(), set(), set()
-    for file in files:
-        data, want = file.read_bytes(), file.with_suffix(".key").read_bytes()
-        check(f"{file}: the program's key", run([program], data).stdout == want)
+    for file in FILES:
+        data, want = file.read_bytes(), key_of(file)
+        check(f"{file}: the program's key", run([PROGRAM], data).stdout == want)
         check(f"{file}: the reference's key", reference.key(data) == want)
         if want.startswith(b"key"):
             kinds.add(data[13])
@@ -59,45 +51,66 @@ def check_samples(program):
             refusals.add(int(want.split()[1]))
         text = file.with_suffix(".txt")
         if text.exists():
-            check(f"{text}: packs to the file", run([*TOOL, "pack", str(text)]).stdout == data)
-            again = run([*TOOL, "unpack", str(file)]).stdout
+            check(f"{text}: packs to the file", run([*TOOL, "pack", text]).stdout == data)
+            again = run([*TOOL, "unpack", file]).stdout
             check(f"{file}: its text packs to it again", run([*TOOL, "pack"], again).stdout == data)
     check("a sample for each kind of step", kinds == {1, 2, 3})
     check("a sample for each dimension", dimensions == set(range(7)))
     check("a sample for each refusal that reaches the program", refusals == set(range(1, 16)) - {14})
 
 
-def check_pieces(program):
-    data, want = K1.read_bytes(), K1.with_suffix(".key").read_bytes()
-    check("a byte at a time", in_pieces(program, data, 1) == (want, True))
-    long = (ROOT / "examples" / "series" / "4-four-cube.wng")
-    check("seven bytes at a time", in_pieces(program, long.read_bytes(), 7) == (long.with_suffix(".key").read_bytes(), True))
+def check_pieces():
+    check("a byte at a time", in_pieces(K1.read_bytes(), 1) == key_of(K1))
+    long = ROOT / "examples" / "series" / "4-four-cube.wng"
+    check("seven bytes at a time", in_pieces(long.read_bytes(), 7) == key_of(long))
     for length in (65536, 65537, 65538, 1000000):
-        check(f"{length} bytes in pieces", in_pieces(program, b"WNG" + bytes(length - 3), 1000) == (reference.key(b"WNG" + bytes(length - 3)), True))
+        data = b"WNG" + bytes(length - 3)
+        check(f"{length} bytes in pieces", in_pieces(data, 1000) == reference.key(data))
 
 
-def check_command():
-    want = K1.with_suffix(".key").read_bytes()
-    done = run([COMMAND, str(K1)])
-    check("key FILE", (done.returncode, done.stdout, done.stderr) == (0, want, b""))
-    done = run([COMMAND, "-"], K1.read_bytes())
-    check("key -", (done.returncode, done.stdout, done.stderr) == (0, want, b""))
-    done = run([COMMAND, str(CROWDED)])
-    check("key on a refused file", (done.returncode, done.stdout) == (1, b"refused 10\n") and b"three or more cells" in done.stderr)
-    for words in ([], ["a", "b"], ["--no-such-option"], ["no such file"], [str(ROOT)]):
-        done = run([COMMAND, *words])
-        check(f"key {words}", done.returncode == 2 and done.stdout == b"" and b"try key --help" in done.stderr)
-    done = run([COMMAND, "--help"])
-    check("key --help", done.returncode == 0 and done.stdout.startswith(b"usage: key FILE") and done.stderr == b"")
-    done = run([COMMAND, "--version"])
-    check("key --version", done.returncode == 0 and done.stdout.startswith(b"key ") and done.stderr == b"")
+def check_endless():
+    with open("/dev/zero", "rb") as zero:
+        check("an endless file", run([PROGRAM], stdin=zero).stdout == b"refused 3\n")
+    with subprocess.Popen(["cat", "/dev/zero"], stdout=subprocess.PIPE) as source:
+        check("an endless pipe", run([PROGRAM], stdin=source.stdout).stdout == b"refused 3\n")
+        source.stdout.close()
+
+
+def check_failures():
+    """A read that fails is not the end of the input, and prints no key; a write that fails is told."""
+    folder = os.open("/", os.O_RDONLY)
+    said = run([PROGRAM], stdin=folder)
+    os.close(folder)
+    check("a folder as input", (said.returncode, said.stdout, said.stderr) == (0, b"", UNREAD))
+    said = run([PROGRAM], stdin=None, preexec_fn=lambda: os.close(0))
+    check("a closed input", (said.returncode, said.stdout, said.stderr) == (0, b"", UNREAD))
+    ends = os.pipe()
+    os.set_blocking(ends[0], False)
+    os.write(ends[1], K1.read_bytes())
+    said = run([PROGRAM], stdin=ends[0])
+    check("a pipe that does not wait, and is not closed", (said.returncode, said.stdout, said.stderr) == (0, b"", UNREAD))
+    for end in ends:
+        os.close(end)
+    with open("/dev/full", "wb") as full:
+        check("a full disk", run([PROGRAM], K1.read_bytes(), stdout=full).stderr == UNWRITTEN)
+    said = run([PROGRAM], K1.read_bytes(), stdout=None, preexec_fn=lambda: os.close(1))
+    check("a closed output", said.stderr == UNWRITTEN)
+
+
+def check_stack():
+    """The program keeps to the stack that it is said to take, at its limits and on every sample."""
+    limit = lambda: resource.setrlimit(resource.RLIMIT_STACK, (STACK, STACK))
+    for data in [*edge_files(random.Random(1)), *(file.read_bytes() for file in FILES)]:
+        said = run([PROGRAM], data, preexec_fn=limit)
+        check(f"{len(data)} bytes with {STACK} bytes of stack", (said.returncode, said.stdout) == (0, reference.key(data)))
 
 
 def main():
-    program = sys.argv[1] if len(sys.argv) > 1 else str(ROOT / "target" / "bin" / "key")
-    check_samples(program)
-    check_pieces(program)
-    check_command()
+    check_samples()
+    check_pieces()
+    check_endless()
+    check_failures()
+    check_stack()
     return tally.finish()
 
 

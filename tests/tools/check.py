@@ -31,6 +31,9 @@ BAD = [
     (GOOD.replace("v 1 0", "v 1 east"), "line 4: 'east' is no number"),
     (GOOD.replace("+ 0 1\n", ""), "no cell in the text"),
 ]
+# a file that has no text, and the refusal that says why
+HEAD = b"WNG\1\0\0\1\1\0\1\0\1\0"
+REFUSED = [(1, b""), (1, b"WNG"), (1, bytes(60)), (1, b"WNG\2" + bytes(60)), (2, HEAD + bytes(38)), (3, HEAD + b"\1" + bytes(36)), (6, HEAD + b"\1" + bytes(37))]
 USAGE = ([], ["pack", "a", "b", "c"], ["explain"], ["explain", "0"], ["explain", "16"], ["random", "1", "2", "3"], ["random", "a", "2", "3", "4"])
 RANDOM = [(d, v, s, seed) for d in range(7) for v, s in ((d + 1, 1), (d + 3, 6), (40, 30), (60, 20)) for seed in (1, 2)]
 
@@ -53,15 +56,16 @@ def main():
     for text, message in BAD:
         done = run([*TOOL, "pack"], text.encode())
         check(f"bad text: {message}", done.returncode == 1 and done.stdout == b"" and message in done.stderr.decode())
-    for data in (b"", b"WNG", bytes(60)):
+    for number, data in REFUSED:
         done = run([*TOOL, "unpack"], data)
-        check(f"no file: {data[:4]!r}", done.returncode == 1 and done.stdout == b"" and b"solid.py: " in done.stderr)
+        check(f"no file: {data[:14]!r}", done.returncode == 1 and done.stdout == b"" and f"refused {number}: ".encode() in done.stderr)
     for words in USAGE:
         done = run([*TOOL, *words])
         check(f"wrong usage: {words}", done.returncode == 2 and b"--help" in done.stderr)
-    for number in range(1, 16):
-        done = run([*TOOL, "explain", str(number)])
-        check(f"explain {number}", done.returncode == 0 and done.stdout.startswith(f"refused {number}: ".encode()))
+    for line in (ROOT / "docs" / "refusals.txt").read_text().splitlines():
+        number, reason = line.split("\t")
+        done = run([*TOOL, "explain", number])
+        check(f"explain {number}", (done.returncode, done.stdout) == (0, f"refused {number}: {reason}\n".encode()))
     check("--help", run([*TOOL, "--help"]).stdout.startswith(b"Solids written by hand"))
     return tally.finish()
 
