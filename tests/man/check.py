@@ -65,8 +65,8 @@ def same_interface(page, header):
     return prototypes(section(text, "SYNOPSIS")) == prototypes(header) != [] and told == enumerated != []
 
 
-GOOD = ".TH X 1\n.SH NAME\nx \\- y\n.SH EXAMPLES\n.nf\n$ echo one; echo two\none\n\n$ cat key | head -n 1\n#!/usr/bin/env bash\n.fi\n"
-BAD = (GOOD.replace("\none", "\nother"), GOOD.replace("\none", "\none\nthree"), GOOD.replace(".nf", ".XX"), GOOD.replace("$ ", "% "),
+GOOD = ".TH X 1\n.SH NAME\nx \\- y\n.SH EXAMPLES\n.nf\n$ echo one; echo two\none\ntwo\n\n$ cat key | head -n 1\n#!/usr/bin/env bash\n.fi\n"
+BAD = (GOOD.replace("\none", "\nother"), GOOD.replace("\ntwo", "\ntwo\nthree"), GOOD.replace("\ntwo", ""), GOOD.replace(".nf", ".XX"), GOOD.replace("$ ", "% "),
        GOOD.replace("EXAMPLES", "EXAMPLE"), GOOD.replace("cat key", "cat nothing; false"))
 
 
