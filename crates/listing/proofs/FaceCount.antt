@@ -40,7 +40,14 @@ row-length d ws = omega (arith, length-drop 1 (take (d + 2) ws), length-take (d 
 
 all-count : (n : ℕ) (f : ℕ → Entry) → ((p : ℕ) → length (boundaryFaces (f p)) ≤ 8) → length (boundaryOf (tabulate n f)) ≤ n * 8
 all-count zero f h = omega arith
-all-count (suc n) f h = omega (arith, length-append (boundaryFaces (f 0)) (boundaryOf (tabulate n (λ i. f (suc i)))), h 0, all-count n (λ i. f (suc i)) (λ p. h (suc p)), suc-mul n 8)
+all-count (suc n) f h =
+    omega (
+      arith,
+      length-append (boundaryFaces (f 0)) (boundaryOf (tabulate n (λ i. f (suc i)))),
+      h 0,
+      all-count n (λ i. f (suc i)) (λ p. h (suc p)),
+      suc-mul n 8,
+    )
 
 pub faces-count : (d s : ℕ) (ws : List ℕ) → d ≤ 7 → length (facesOf d s ws) ≤ s * 8
 faces-count d s ws h =

@@ -91,7 +91,8 @@ module _ (d base : ℕ) (ws : List ℕ) (r : RecordOf d base ws) where
         ∙ ap (λ (l : List ℕ). line signHere (map digits l)) row-without
 
     -- put with the sign that was computed, it is put
-    pub face-put : {at next : ℕ} {sign old new : List ℕ} → sign ≡ signHere → Put at (line sign (map digits (lowWords ++ highWords))) old next new → Put at (faceLine (face i (recordAt d base ws .cell))) old next new
+    pub face-put : {at next : ℕ} {sign old new : List ℕ} → sign ≡ signHere → Put at (line sign (map digits (lowWords ++ highWords))) old next new
+        → Put at (faceLine (face i (recordAt d base ws .cell))) old next new
     face-put {at} {next} {sign} {old} {new} e p =
         subst (λ (l : List ℕ). Put at l old next new) (ap (λ (s : List ℕ). line s (map digits (lowWords ++ highWords))) e ∙ sym face-line) p
 

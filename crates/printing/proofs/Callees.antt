@@ -32,20 +32,25 @@ use Rattle.printing.proofs.line_writer.end.Met as end-thm
 module _ {M : Type 1} (𝓤 : URA M) (H : Heap 𝓤) (𝓜 : Model 𝓤 H) (𝓖 : GhostRules 𝓤 H) (𝓡 : Running 𝓤 H 𝓜) (env : Env) where
   pub begin-known : env begin-def.name ≡ begin-def.routine → Begins 𝓤 H (𝓖 .A) (tables 𝓤 H 𝓜 𝓡 env .C) begin-def.name
   begin-known e κ κ′ q q′ x n y =
-      cited 𝓤 H (tripleOf 𝓤 H (𝓖 .A) begin.signature (begin.spec 𝓤 H (𝓖 .A) (𝓜 .mem) (𝓡 .run))) 𝓜 𝓡 env begin-def.name begin-def.routine e (begin-thm.met 𝓤 H 𝓜 𝓖 𝓡)
+      cited 𝓤 H (tripleOf 𝓤 H (𝓖 .A) begin.signature (begin.spec 𝓤 H (𝓖 .A) (𝓜 .mem)
+      (𝓡 .run))) 𝓜 𝓡 env begin-def.name begin-def.routine e (begin-thm.met 𝓤 H 𝓜 𝓖 𝓡)
       (((κ, (κ′, tt)), (q, (q′, tt)), tt, (x, (n, (y, tt))), (valueOf x ∷ [], (vint w64 n ∷ [], (valueOf y ∷ [], tt)))), tt)
 
   pub numbers-known : env numbers-def.name ≡ numbers-def.routine → Writes 𝓤 H (𝓖 .A) u16 fieldsFit fields (tables 𝓤 H 𝓜 𝓡 env .C) numbers-def.name
   numbers-known e κ κ′ q q′ h w y =
-      cited 𝓤 H (tripleOf 𝓤 H (𝓖 .A) numbers.signature (numbers.spec 𝓤 H (𝓖 .A) (𝓜 .mem) (𝓡 .run))) 𝓜 𝓡 env numbers-def.name numbers-def.routine e (numbers-thm.met 𝓤 H 𝓜 𝓖 𝓡)
+      cited 𝓤 H (tripleOf 𝓤 H (𝓖 .A) numbers.signature (numbers.spec 𝓤 H (𝓖 .A) (𝓜 .mem)
+      (𝓡 .run))) 𝓜 𝓡 env numbers-def.name numbers-def.routine e (numbers-thm.met 𝓤 H 𝓜 𝓖 𝓡)
       (((κ, (κ′, tt)), (q, (q′, tt)), tt, (h, (y, tt)), (w ∷ [], (valueOf y ∷ [], tt))), tt)
 
-  pub coordinates-known : env coordinates-def.name ≡ coordinates-def.routine → Writes 𝓤 H (𝓖 .A) f64 pointsFit pointFields (tables 𝓤 H 𝓜 𝓡 env .C) coordinates-def.name
+  pub coordinates-known : env coordinates-def.name ≡ coordinates-def.routine
+      → Writes 𝓤 H (𝓖 .A) f64 pointsFit pointFields (tables 𝓤 H 𝓜 𝓡 env .C) coordinates-def.name
   coordinates-known e κ κ′ q q′ h w y =
-      cited 𝓤 H (tripleOf 𝓤 H (𝓖 .A) coordinates.signature (coordinates.spec 𝓤 H (𝓖 .A) (𝓜 .mem) (𝓡 .run))) 𝓜 𝓡 env coordinates-def.name coordinates-def.routine e (coordinates-thm.met 𝓤 H 𝓜 𝓖 𝓡)
+      cited 𝓤 H (tripleOf 𝓤 H (𝓖 .A) coordinates.signature (coordinates.spec 𝓤 H (𝓖 .A) (𝓜 .mem)
+      (𝓡 .run))) 𝓜 𝓡 env coordinates-def.name coordinates-def.routine e (coordinates-thm.met 𝓤 H 𝓜 𝓖 𝓡)
       (((κ, (κ′, tt)), (q, (q′, tt)), tt, (h, (y, tt)), (w ∷ [], (valueOf y ∷ [], tt))), tt)
 
   pub end-known : env end-def.name ≡ end-def.routine → Ends 𝓤 H (𝓖 .A) (tables 𝓤 H 𝓜 𝓡 env .C) end-def.name
   end-known e κ q h w =
-      cited 𝓤 H (tripleOf 𝓤 H (𝓖 .A) end.signature (end.spec 𝓤 H (𝓖 .A) (𝓜 .mem) (𝓡 .run))) 𝓜 𝓡 env end-def.name end-def.routine e (end-thm.met 𝓤 H 𝓜 𝓖 𝓡)
+      cited 𝓤 H (tripleOf 𝓤 H (𝓖 .A) end.signature (end.spec 𝓤 H (𝓖 .A) (𝓜 .mem)
+      (𝓡 .run))) 𝓜 𝓡 env end-def.name end-def.routine e (end-thm.met 𝓤 H 𝓜 𝓖 𝓡)
       (((κ, tt), (q, tt), tt, (h, tt), (w ∷ [], tt)), tt)

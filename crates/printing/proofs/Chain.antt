@@ -87,10 +87,14 @@ module _ {M : Type 1} (𝓤 : URA M) (H : Heap 𝓤) (A : Atoms 𝓤) where
   -- the writer h is handed back
   module _ (κ κ′ : Lft) (q q′ : Share) (h : LineWriter) (Ws : Type 0) (L : Ws → Fml) where
     abbrev Hands : Val → SProp 𝓤
-    Hands w = H .⇛ (ex 𝓤 (λ (r : LineWriter). sep 𝓤 (sep 𝓤 (tokens 𝓤 H A κ q κ′ q′) (sem 𝓤 H A (writer κ .own r (w ∷ [])))) (ex 𝓤 (λ (ws : Ws). sep 𝓤 (sem 𝓤 H A (L ws)) (fact 𝓤 (r ≡ h))))))
+    Hands w =
+        H .⇛ (ex 𝓤 (λ (r : LineWriter). sep 𝓤 (sep 𝓤 (tokens 𝓤 H A κ q κ′ q′) (sem 𝓤 H A (writer κ .own r (w ∷ []))))
+        (ex 𝓤 (λ (ws : Ws). sep 𝓤 (sem 𝓤 H A (L ws)) (fact 𝓤 (r ≡ h))))))
 
     abbrev handed : Val → Item 𝓤
-    handed w = later (some (λ (r : LineWriter). ((‵ (flft κ q) ⊛ ‵ (flft κ′ q′) ⊛ ‵ ftrue) ⊛ ‵ (writer κ .own r (w ∷ []))) ⊛ some (λ (ws : Ws). ‵ (L ws) ⊛ raw (fact 𝓤 (r ≡ h)))))
+    handed w =
+        later (some (λ (r : LineWriter). ((‵ (flft κ q) ⊛ ‵ (flft κ′ q′) ⊛ ‵ ftrue) ⊛ ‵ (writer κ .own r (w ∷ []))) ⊛ some
+        (λ (ws : Ws). ‵ (L ws) ⊛ raw (fact 𝓤 (r ≡ h)))))
 
   abbrev pub Begins : Calls 𝓤 H → Name → Type 1
   Begins C f = (κ κ′ : Lft) (q q′ : Share) (x : RefT (List ℕ)) (n : ℕ) (y : RefT (List ℕ))
@@ -101,14 +105,16 @@ module _ {M : Type 1} (𝓤 : URA M) (H : Heap 𝓤) (A : Atoms 𝓤) where
     module _ (κ κ′ : Lft) (q q′ : Share) (h : LineWriter) (w : Val) (y : RefT (List (R .Denot))) where
       abbrev WriteAsks : SProp 𝓤
       WriteAsks =
-          sep 𝓤 (sep 𝓤 (tokens 𝓤 H A κ q κ′ q′) (sem 𝓤 H A (owns (writer κ ∷ ShrSlice (named 1) κ′ R ∷ []) (h, (y, tt)) (w ∷ [], (valueOf y ∷ [], tt)))))
+          sep 𝓤 (sep 𝓤 (tokens 𝓤 H A κ q κ′ q′) (sem 𝓤 H A (owns (writer κ ∷ ShrSlice (named 1) κ′ R ∷ []) (h, (y, tt))
+          (w ∷ [], (valueOf y ∷ [], tt)))))
           (fact 𝓤 (need (h .at) (h .buf .now) (y .now)))
 
       write-asks : Given 𝓤 H A → need (h .at) (h .buf .now) (y .now)
           → ent 𝓤 (sep 𝓤 (sem 𝓤 H A (writer κ .own h (w ∷ []))) (sep 𝓤 (A .lft κ q) (sep 𝓤 (A .lft κ′ q′) (sem 𝓤 H A (sliceOwn R κ′ y))))) WriteAsks
       write-asks W p =
           qed W (‵ (writer κ .own h (w ∷ [])) ∷ ‵ (flft κ q) ∷ ‵ (flft κ′ q′) ∷ ‵ (sliceOwn R κ′ y) ∷ []) ∵ says ! p $
-          nothing ! $ move ! (3 ∷ 0 ∷ []) $ join ! $ move ! (2 ∷ 0 ∷ []) $ join ! $ frame ! $ nothing ! $ move ! (2 ∷ 0 ∷ []) $ fjoin ! $ move ! (1 ∷ 0 ∷ []) $ fjoin ! $ done !
+          nothing ! $ move ! (3 ∷ 0 ∷ []) $ join ! $ move ! (2 ∷ 0 ∷ []) $ join ! $ frame ! $ nothing ! $ move ! (2 ∷ 0 ∷ []) $ fjoin ! $
+          move ! (1 ∷ 0 ∷ []) $ fjoin ! $ done !
 
     abbrev pub Writes : Calls 𝓤 H → Name → Type 1
     Writes C f = (κ κ′ : Lft) (q q′ : Share) (h : LineWriter) (w : Val) (y : RefT (List (R .Denot)))
@@ -117,7 +123,8 @@ module _ {M : Type 1} (𝓤 : URA M) (H : Heap 𝓤) (A : Atoms 𝓤) where
 
   module _ (κ : Lft) (q : Share) (h : LineWriter) where
     abbrev EndAsks : Val → SProp 𝓤
-    EndAsks w = sep 𝓤 (sep 𝓤 (sep 𝓤 (A .lft κ q) (emp 𝓤)) (sem 𝓤 H A (owns (writer κ ∷ []) (h, tt) (w ∷ [], tt)))) (fact 𝓤 (h .at < length (h .buf .now)))
+    EndAsks w =
+        sep 𝓤 (sep 𝓤 (sep 𝓤 (A .lft κ q) (emp 𝓤)) (sem 𝓤 H A (owns (writer κ ∷ []) (h, tt) (w ∷ [], tt)))) (fact 𝓤 (h .at < length (h .buf .now)))
 
     end-asks : Given 𝓤 H A → (w : Val) → h .at < length (h .buf .now) → ent 𝓤 (sep 𝓤 (sem 𝓤 H A (writer κ .own h (w ∷ []))) (A .lft κ q)) (EndAsks w)
     end-asks W w p =
@@ -135,16 +142,20 @@ module _ {M : Type 1} (𝓤 : URA M) (H : Heap 𝓤) (A : Atoms 𝓤) where
     IsEnded r zs = fact 𝓤 (Put (h .at) (10 ∷ []) (h .buf .now) r (zs .0 .0))
 
     abbrev EndAnswers : Val → SProp 𝓤
-    EndAnswers v = H .⇛ (ex 𝓤 (λ (r : ℕ). sep 𝓤 (sep 𝓤 (sep 𝓤 (A .lft κ q) (emp 𝓤)) (sem 𝓤 H A (usize .own r (v ∷ [])))) (ex 𝓤 (λ (zs : EndLasts). sep 𝓤 (sem 𝓤 H A (said zs)) (IsEnded r zs)))))
+    EndAnswers v =
+        H .⇛ (ex 𝓤 (λ (r : ℕ). sep 𝓤 (sep 𝓤 (sep 𝓤 (A .lft κ q) (emp 𝓤)) (sem 𝓤 H A (usize .own r (v ∷ []))))
+        (ex 𝓤 (λ (zs : EndLasts). sep 𝓤 (sem 𝓤 H A (said zs)) (IsEnded r zs)))))
 
     abbrev ended : Val → Item 𝓤
-    ended v = later (some (λ (r : ℕ). ((‵ (flft κ q) ⊛ ‵ ftrue) ⊛ ‵ (usize .own r (v ∷ []))) ⊛ some (λ (zs : EndLasts). ‵ (said zs) ⊛ raw (IsEnded r zs))))
+    ended v =
+        later (some (λ (r : ℕ). ((‵ (flft κ q) ⊛ ‵ ftrue) ⊛ ‵ (usize .own r (v ∷ []))) ⊛ some (λ (zs : EndLasts). ‵ (said zs) ⊛ raw (IsEnded r zs))))
 
   abbrev pub Ends : Calls 𝓤 H → Name → Type 1
   Ends C f = (κ : Lft) (q : Share) (h : LineWriter) (w : Val) → ent 𝓤 (EndAsks κ q h w) (C f (w ∷ []) (EndAnswers κ q h))
 
 -- ---- at the exit of a line's function: the last bytes, and nothing of its k other parameters
-pub line-ended : {M : Type 1} (𝓤 : URA M) (H : Heap 𝓤) (A : Atoms 𝓤) (W : Given 𝓤 H A) (κ κ′ : Lft) (q q′ : Share) (γ : GName) (zs : List ℕ) (r : ℕ) (v : Val) (k : ℕ)
+pub line-ended : {M : Type 1} (𝓤 : URA M) (H : Heap 𝓤) (A : Atoms 𝓤) (W : Given 𝓤 H A) (κ κ′ : Lft) (q q′ : Share) (γ : GName) (zs : List ℕ)
+    (r : ℕ) (v : Val) (k : ℕ)
     → ent 𝓤 (sep 𝓤 (sem 𝓤 H A (usize .own r (v ∷ []))) (sep 𝓤 (sem 𝓤 H A (finally u8 γ zs)) (sep 𝓤 (A .lft κ q) (A .lft κ′ q′))))
     (sep 𝓤 (tokens 𝓤 H A κ q κ′ q′) (sep 𝓤 (sem 𝓤 H A (fsep (finally u8 γ zs) (nothings k))) (sem 𝓤 H A (usize .own r (v ∷ [])))))
 line-ended 𝓤 H A W κ κ′ q q′ γ zs r v k =
@@ -166,23 +177,29 @@ module _ {M : Type 1} {𝓤 : URA M} {H : Heap 𝓤} {A : Atoms 𝓤} {K : Type 
       peeks t (writer κ) (Is (writer κ)) (shows 𝓤 H A (writer κ)) h (w ∷ []) (λ is. k (typed κ h w is)))))
 
   module _ {E : Env 𝓤 H} {C : Calls 𝓤 H} {Λ : Loops 𝓤 H} {f : Name} {xs : List Operand} {goal : Post 𝓤 H} {d : Place} {rest : Body} where
-    pub begins : K → FmC 𝓤 H (W .laws) C → Begins 𝓤 H A C f → (κ κ′ : Lft) (q q′ : Share) (x : RefT (List ℕ)) (n : ℕ) (y : RefT (List ℕ)) → n < 2 ^ 64 → n + length (y .now) ≤ length (x .now)
+    pub begins : K → FmC 𝓤 H (W .laws) C → Begins 𝓤 H A C f → (κ κ′ : Lft) (q q′ : Share) (x : RefT (List ℕ)) (n : ℕ) (y : RefT (List ℕ))
+        → n < 2 ^ 64 → n + length (y .now) ≤ length (x .now)
         → ((i : Item 𝓤) → Opds K W (i ∷ Γ) E xs (valueOf x ∷ vint w64 n ∷ valueOf y ∷ []))
-        → ((w : Val) → Typed w → Seq K W (‵ (writer κ .own (advanced (writerAt x n) (y .now)) (w ∷ [])) ∷ ‵ (flft κ q) ∷ ‵ (flft κ′ q′) ∷ Γ) (lands C Λ E d w rest goal))
+        → ((w : Val) → Typed w → Seq K W (‵ (writer κ .own (advanced (writerAt x n) (y .now)) (w ∷ [])) ∷ ‵ (flft κ q) ∷ ‵ (flft κ′ q′) ∷ Γ)
+        (lands C Λ E d w rest goal))
         → Seq K W (‵ (bytesOwn κ x (valueOf x)) ∷ ‵ (flft κ q) ∷ ‵ (flft κ′ q′) ∷ ‵ (sliceOwn u8 κ′ y) ∷ Γ) (runs C Λ E (seq (call f xs d) rest) goal)
     begins t fm known κ κ′ q q′ x n y n-fits fits operands k =
         move t (1 ∷ 2 ∷ 0 ∷ []) $ group t 4 $
         use1 W (raw (Asks 𝓤 H A u8 wordFits (λ word. word) κ κ′ q q′ x n y)) (asks 𝓤 H A u8 wordFits (λ word. word) κ κ′ q q′ x n y W n-fits fits) $
-        calls-from t fm _ _ _ (known κ κ′ q q′ x n y) (operands _) (λ w. hands t tt κ κ′ q q′ (advanced (writerAt x n) (y .now)) BeginLasts beginSaid w (k w))
+        calls-from t fm _ _ _ (known κ κ′ q q′ x n y) (operands _)
+        (λ w. hands t tt κ κ′ q q′ (advanced (writerAt x n) (y .now)) BeginLasts beginSaid w (k w))
 
-    pub writes : K → FmC 𝓤 H (W .laws) C → (R : RattleType) (need : ℕ → List ℕ → List (R .Denot) → Type 0) (text : List (R .Denot) → List ℕ) → Writes 𝓤 H A R need text C f
+    pub writes : K → FmC 𝓤 H (W .laws) C → (R : RattleType) (need : ℕ → List ℕ → List (R .Denot) → Type 0) (text : List (R .Denot) → List ℕ)
+        → Writes 𝓤 H A R need text C f
         → (κ κ′ : Lft) (q q′ : Share) (h : LineWriter) (w : Val) (y : RefT (List (R .Denot))) → need (h .at) (h .buf .now) (y .now)
         → ((i : Item 𝓤) → Opds K W (i ∷ Γ) E xs (w ∷ valueOf y ∷ []))
-        → ((v : Val) → Typed v → Seq K W (‵ (writer κ .own (advanced h (text (y .now))) (v ∷ [])) ∷ ‵ (flft κ q) ∷ ‵ (flft κ′ q′) ∷ Γ) (lands C Λ E d v rest goal))
+        → ((v : Val) → Typed v → Seq K W (‵ (writer κ .own (advanced h (text (y .now))) (v ∷ [])) ∷ ‵ (flft κ q) ∷ ‵ (flft κ′ q′) ∷ Γ)
+        (lands C Λ E d v rest goal))
         → Seq K W (‵ (writer κ .own h (w ∷ [])) ∷ ‵ (flft κ q) ∷ ‵ (flft κ′ q′) ∷ ‵ (sliceOwn R κ′ y) ∷ Γ) (runs C Λ E (seq (call f xs d) rest) goal)
     writes t fm R need text known κ κ′ q q′ h w y p operands k =
         group t 4 $ use1 W (raw (WriteAsks 𝓤 H A R need text κ κ′ q q′ h w y)) (write-asks 𝓤 H A R need text κ κ′ q q′ h w y W p) $
-        calls-from t fm _ _ _ (known κ κ′ q q′ h w y) (operands _) (λ v. hands t tt κ κ′ q q′ (advanced h (text (y .now))) WriteLasts writeSaid v (k v))
+        calls-from t fm _ _ _ (known κ κ′ q q′ h w y) (operands _)
+        (λ v. hands t tt κ κ′ q q′ (advanced h (text (y .now))) WriteLasts writeSaid v (k v))
 
     pub ends : K → FmC 𝓤 H (W .laws) C → Ends 𝓤 H A C f → (κ : Lft) (q : Share) (h : LineWriter) (w : Val) → h .at < length (h .buf .now)
         → ((i : Item 𝓤) → Opds K W (i ∷ Γ) E xs (w ∷ []))

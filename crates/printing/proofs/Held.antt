@@ -7,7 +7,7 @@
 --   writer-spent-goes     nothing is had of a parameter whose bytes the result holds
 --   writer-gave       what is had of a parameter whose bytes were passed on for good, with its law
 -- The laws take `Given`; the rest assumes nothing.
-use mathlib.Core.Path.{_≡_, refl, sym, ap, subst}
+use mathlib.Core.Path.{refl, sym, ap, subst}
 use mathlib.Core.List.{List, [], _∷_}
 use Prim.Native.Nat.{ℕ, _<_, _^_}
 use lib.Dec.{T as Holds}
@@ -64,12 +64,15 @@ module _ {M : Type 1} (𝓤 : URA M) (H : Heap 𝓤) (A : Atoms 𝓤) (W : Given
       by ! (makes 𝓤 H A W (MutSlice (named 0) κ u8 ∷ usize ∷ []) parts (s ∷ [], (vint w64 n ∷ [], tt)))
 
 -- at the exit of a function of k parameters that hands the writer back, of which nothing else is had
-pub handed : {M : Type 1} (𝓤 : URA M) (H : Heap 𝓤) (A : Atoms 𝓤) (W : Given 𝓤 H A) (κ κ′ : Lft) (q q′ : Share) (x : RefT (List ℕ)) (n : ℕ) → n < 2 ^ 64 → (s : Val) (k : ℕ)
+pub handed : {M : Type 1} (𝓤 : URA M) (H : Heap 𝓤) (A : Atoms 𝓤) (W : Given 𝓤 H A) (κ κ′ : Lft) (q q′ : Share) (x : RefT (List ℕ)) (n : ℕ)
+    → n < 2 ^ 64 → (s : Val) (k : ℕ)
     → ent 𝓤 (sep 𝓤 (sem 𝓤 H A (MutSlice (named 0) κ u8 .own x (s ∷ []))) (sep 𝓤 (A .lft κ q) (A .lft κ′ q′)))
-    (sep 𝓤 (sep 𝓤 (A .lft κ q) (sep 𝓤 (A .lft κ′ q′) (emp 𝓤))) (sep 𝓤 (sem 𝓤 H A (nothings k)) (sem 𝓤 H A (writer κ .own (writerAt x n) (machine s n ∷ [])))))
+    (sep 𝓤 (sep 𝓤 (A .lft κ q) (sep 𝓤 (A .lft κ′ q′) (emp 𝓤)))
+    (sep 𝓤 (sem 𝓤 H A (nothings k)) (sem 𝓤 H A (writer κ .own (writerAt x n) (machine s n ∷ [])))))
 handed 𝓤 H A W κ κ′ q q′ x n n-fits s k =
     qed W (‵ (MutSlice (named 0) κ u8 .own x (s ∷ [])) ∷ ‵ (flft κ q) ∷ ‵ (flft κ′ q′) ∷ []) ∵
-    nothing ! $ move ! (3 ∷ 0 ∷ []) $ join ! $ move ! (2 ∷ 0 ∷ []) $ join ! $ frame ! $ nothings-had ! k $ frame ! $ by ! (made 𝓤 H A W κ x n n-fits s)
+    nothing ! $ move ! (3 ∷ 0 ∷ []) $ join ! $ move ! (2 ∷ 0 ∷ []) $ join ! $ frame ! $ nothings-had ! k $ frame ! $
+    by ! (made 𝓤 H A W κ x n n-fits s)
 
 -- the result holds the bytes
 abbrev pub SpentS : Slot 2
@@ -100,4 +103,8 @@ pub writer-gave-goes : {M : Type 1} (𝓤 : URA M) (H : Heap 𝓤) (A : Atoms �
 writer-gave-goes 𝓤 H A W =
     goes-declared 𝓤 H A W 1 (structAt name (named 0 ∷ []) slots) yes (stay-struct-at name (named 0 ∷ []) slots yes gives) LineWriter
     (λ κs. T.the-type (namedLft 1 0 tt κs) .to) (λ κs. T.the-type (namedLft 1 0 tt κs) .to-one)
-    (goes-struct-at 𝓤 H A W 1 name (named 0 ∷ []) slots yes gives (goes-gave-slice 𝓤 H A W 1 0 tt (plain (λ _. u8)), (goes-dropped 𝓤 H A W 1 (plain (λ _. usize)) yes (λ κs x f. refl), tt)))
+    (goes-struct-at 𝓤 H A W 1 name (named 0 ∷ []) slots yes gives (
+      goes-gave-slice 𝓤 H A W 1 0 tt (plain
+          (λ _. u8)),
+      (goes-dropped 𝓤 H A W 1 (plain (λ _. usize)) yes (λ κs x f. refl), tt),
+    ))

@@ -59,7 +59,8 @@ module _ {M : Type 1} (𝓤 : URA M) (H : Heap 𝓤) (A : Atoms 𝓤) where
 
       abbrev pub Asks : SProp 𝓤
       Asks =
-          sep 𝓤 (sep 𝓤 (tokens κ q κ′ q′) (sem 𝓤 H A (owns (MutSlice (named 0) κ u8 ∷ usize ∷ ShrSlice (named 1) κ′ R ∷ []) (x, (n, (y, tt))) values)))
+          sep 𝓤 (sep 𝓤 (tokens κ q κ′ q′) (sem 𝓤 H A (owns (MutSlice (named 0) κ u8 ∷ usize ∷ ShrSlice (named 1) κ′ R ∷ [])
+          (x, (n, (y, tt))) values)))
           (fact 𝓤 (need n (x .now) (y .now)))
 
       abbrev Lasts : Type 0
@@ -89,32 +90,43 @@ module _ {M : Type 1} (𝓤 : URA M) (H : Heap 𝓤) (A : Atoms 𝓤) where
       asks W n-fits p =
           qed W (‵ (flft κ q) ∷ ‵ (flft κ′ q′) ∷ ‵ (bytesOwn κ x (valueOf x)) ∷ ‵ (sliceOwn R κ′ y) ∷ []) ∵ says ! p $
           nothing ! $ move ! (2 ∷ 0 ∷ []) $ join ! $ move ! (1 ∷ 0 ∷ []) $ join ! $ frame ! $
-          nothing ! $ move ! (2 ∷ 0 ∷ []) $ fjoin ! $ owned ! usize (Is usize) (uint-makes 𝓤 H A W w64) n _ (refl, n-fits) $ fjoin ! $ move ! (1 ∷ 0 ∷ []) $ fjoin ! $ done !
+          nothing ! $ move ! (2 ∷ 0 ∷ []) $ fjoin ! $ owned ! usize (Is usize) (uint-makes 𝓤 H A W w64) n _ (refl, n-fits) $ fjoin ! $
+          move ! (1 ∷ 0 ∷ []) $ fjoin ! $ done !
 
     abbrev pub Puts : Calls 𝓤 H → Name → Type 1
     Puts C f = (κ κ′ : Lft) (q q′ : Share) (x : RefT (List ℕ)) (n : ℕ) (y : RefT (List (R .Denot)))
         → ent 𝓤 (Asks κ κ′ q q′ x n y) (C f (valueOf x ∷ vint w64 n ∷ valueOf y ∷ []) (Answers κ κ′ q q′ x n y))
 
 module _ {M : Type 1} {𝓤 : URA M} {H : Heap 𝓤} {A : Atoms 𝓤} {K : Type 0} {W : Given 𝓤 H A} {Γ : List (Item 𝓤)} {E : Env 𝓤 H} {C : Calls 𝓤 H} {Λ : Loops 𝓤 H} {f : Name} {xs : List Operand} {goal : Post 𝓤 H} {d : Place} {rest : Body} where
-  pub puts : K → FmC 𝓤 H (W .laws) C → (R : RattleType) (need : ℕ → List ℕ → List (R .Denot) → Type 0) (text : List (R .Denot) → List ℕ) → Puts 𝓤 H A R need text C f
-      → (κ κ′ : Lft) (q q′ : Share) (b o : ℕ) (γ : GName) (ys : List ℕ) (n : ℕ) (y : RefT (List (R .Denot))) → n < 2 ^ 64 → Room u8 (length ys) → need n ys (y .now)
+  pub puts : K → FmC 𝓤 H (W .laws) C → (R : RattleType) (need : ℕ → List ℕ → List (R .Denot) → Type 0) (text : List (R .Denot) → List ℕ)
+      → Puts 𝓤 H A R need text C f
+      → (κ κ′ : Lft) (q q′ : Share) (b o : ℕ) (γ : GName) (ys : List ℕ) (n : ℕ) (y : RefT (List (R .Denot))) → n < 2 ^ 64 → Room u8 (length ys)
+      → need n ys (y .now)
       → ((i j : Item 𝓤) → Opds K W (i ∷ j ∷ Γ) E xs (sliceVal (b, o) (length ys) ∷ vint w64 n ∷ valueOf y ∷ []))
       → ((r : ℕ) (zs : List ℕ) → Put n (text (y .now)) ys r zs → r < 2 ^ 64
-      → Seq K W (‵ (bytesOwn κ (bytesAt b o γ zs) (sliceVal (b, o) (length ys))) ∷ ‵ (flft κ q) ∷ ‵ (flft κ′ q′) ∷ Γ) (lands C Λ E d (vint w64 r) rest goal))
-      → Seq K W (‵ (bytesOwn κ (bytesAt b o γ ys) (sliceVal (b, o) (length ys))) ∷ ‵ (flft κ q) ∷ ‵ (flft κ′ q′) ∷ ‵ (sliceOwn R κ′ y) ∷ Γ) (runs C Λ E (seq (call f xs d) rest) goal)
+      → Seq K W (‵ (bytesOwn κ (bytesAt b o γ zs) (sliceVal (b, o) (length ys))) ∷ ‵ (flft κ q) ∷ ‵ (flft κ′ q′) ∷ Γ)
+      (lands C Λ E d (vint w64 r) rest goal))
+      → Seq K W (‵ (bytesOwn κ (bytesAt b o γ ys) (sliceVal (b, o) (length ys))) ∷ ‵ (flft κ q) ∷ ‵ (flft κ′ q′) ∷ ‵ (sliceOwn R κ′ y) ∷ Γ)
+      (runs C Λ E (seq (call f xs d) rest) goal)
   puts t fm R need text met κ κ′ q q′ b o γ ys n y n-fits room p operands k =
       lft-new t tt (λ ν. move t (1 ∷ 2 ∷ []) $
-      use2 W (later (some (λ (δ : GName). ‵ (bytesOwn (ν ∷ []) (bytesAt b o δ ys) (sliceVal (b, o) (length ys))) ⊛ ‵ (LentAgain u8 κ (ν ∷ []) q γ b o δ ys))))
+      use2 W (later (some (λ (δ : GName). ‵ (bytesOwn (ν ∷ []) (bytesAt b o δ ys)
+      (sliceVal (b, o) (length ys))) ⊛ ‵ (LentAgain u8 κ (ν ∷ []) q γ b o δ ys))))
       (lends-again u8 κ (ν ∷ []) q γ b o 𝓤 H A W (named 0) (named 0) ys) $ await t tt $ pick t (λ δ. split t $
       -- [the bytes, lent again; what is kept; the call's token; the other token; the slice]
       move t (2 ∷ 3 ∷ 0 ∷ 4 ∷ []) $ group t 4 $
-      use1 W (raw (Asks 𝓤 H A R need text (ν ∷ []) κ′ fullShare q′ (bytesAt b o δ ys) n y)) (asks 𝓤 H A R need text (ν ∷ []) κ′ fullShare q′ (bytesAt b o δ ys) n y W n-fits p) $
-      calls-from t fm _ _ (Answers 𝓤 H A R need text (ν ∷ []) κ′ fullShare q′ (bytesAt b o δ ys) n y) (met (ν ∷ []) κ′ fullShare q′ (bytesAt b o δ ys) n y) (operands _ _) (λ w.
-      use1 W {i = raw (Answers 𝓤 H A R need text (ν ∷ []) κ′ fullShare q′ (bytesAt b o δ ys) n y w)} (answered 𝓤 H A R need text (ν ∷ []) κ′ fullShare q′ (bytesAt b o δ ys) n y w) (id⊢ 𝓤 _) $ await t tt $ pick t (λ r. split t $
-      move t (1 ∷ []) $ pick t (λ zs. split t $ move t (1 ∷ []) $ heard t (Put n (text (y .now)) ys r (zs .0)) (λ e. fsplit t $ fsplit t $ move t (1 ∷ []) $ feqL t (λ l.
+      use1 W (raw (Asks 𝓤 H A R need text (ν ∷ []) κ′ fullShare q′ (bytesAt b o δ ys) n y))
+      (asks 𝓤 H A R need text (ν ∷ []) κ′ fullShare q′ (bytesAt b o δ ys) n y W n-fits p) $
+      calls-from t fm _ _ (Answers 𝓤 H A R need text (ν ∷ []) κ′ fullShare q′ (bytesAt b o δ ys) n y)
+      (met (ν ∷ []) κ′ fullShare q′ (bytesAt b o δ ys) n y) (operands _ _) (λ w.
+      use1 W {i =
+      raw (Answers 𝓤 H A R need text (ν ∷ []) κ′ fullShare q′ (bytesAt b o δ ys) n y w)} (answered 𝓤 H A R need text (ν ∷ []) κ′ fullShare q′ (bytesAt b o δ ys) n y w) (id⊢ 𝓤 _) $ await t tt $ pick t (λ r. split t $
+      move t (1 ∷ []) $ pick t (λ zs. split t $ move t (1 ∷ []) $ heard t (Put n (text (y .now)) ys r (zs .0))
+      (λ e. fsplit t $ fsplit t $ move t (1 ∷ []) $ feqL t (λ l.
       -- [the last list; true; the tokens and the result; what is kept]
       move t (2 ∷ []) $ split t $ split t $ lft-end t tt $ move t (0 ∷ 5 ∷ 3 ∷ []) $
-      use3 W (later (‵ (bytesOwn κ (bytesAt b o γ (zs .0)) (sliceVal (b, o) (length ys))) ⊛ ‵ (flft κ q))) (comes-back u8 κ (ν ∷ []) q γ b o 𝓤 H A W (named 0) (named 0) ys δ (zs .0) room l) $ await t tt $ split t $
+      use3 W (later (‵ (bytesOwn κ (bytesAt b o γ (zs .0)) (sliceVal (b, o) (length ys))) ⊛ ‵ (flft κ q)))
+      (comes-back u8 κ (ν ∷ []) q γ b o 𝓤 H A W (named 0) (named 0) ys δ (zs .0) room l) $ await t tt $ split t $
       -- [the bytes; their token; the other token; the result; true]
       move t (3 ∷ []) $ facts t usize (Is usize) (shows 𝓤 H A usize) r (w ∷ []) (λ is.
       move t (3 ∷ []) $ drop t $ move t (2 ∷ []) $ split t $ move t (1 ∷ []) $ drop t $ move t (1 ∷ 2 ∷ 0 ∷ []) $

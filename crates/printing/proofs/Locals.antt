@@ -33,10 +33,12 @@ module _ {M : Type 1} {𝓤 : URA M} {H : Heap 𝓤} {A : Atoms 𝓤} {K : Type 
       → Seq K W Γ (allocs (local τ₀ h₀ ∷ local τ₁ h₁ ∷ local τ₂ h₂ ∷ ls) Kt)
   alloc3 t k = alloc1 t (λ l₀. alloc1 t (λ l₁. alloc1 t (λ l₂. k l₀ l₁ l₂)))
 
-  pub cell : K → {E : Env 𝓤 H} {i : ℕ} (n : ℕ) {q : Share} {v : Val} → nth 𝓤 H A n Γ ≡ ‵ (fat q (spotOf 𝓤 H E i .0) (spotOf 𝓤 H E i .1) (spotOf 𝓤 H E i .2) v) → Opd K W Γ E (copy (place i [])) v
+  pub cell : K → {E : Env 𝓤 H} {i : ℕ} (n : ℕ) {q : Share} {v : Val}
+      → nth 𝓤 H A n Γ ≡ ‵ (fat q (spotOf 𝓤 H E i .0) (spotOf 𝓤 H E i .1) (spotOf 𝓤 H E i .2) v) → Opd K W Γ E (copy (place i [])) v
   cell t n e = load t (from t (stop t)) (look t n e)
 
-  pub free-cell : K → {τ : Ty} {b : ℕ} {v : Val} {E : Env 𝓤 H} {g : Goal 𝓤 H} → Step K W Γ (frees E g) (‵ (fat fullShare τ b zero v) ∷ ‵ (fdies τ b) ∷ Γ) (frees ((τ, b) ∷ E) g)
+  pub free-cell : K → {τ : Ty} {b : ℕ} {v : Val} {E : Env 𝓤 H} {g : Goal 𝓤 H} → Step K W Γ (frees E g)
+      (‵ (fat fullShare τ b zero v) ∷ ‵ (fdies τ b) ∷ Γ) (frees ((τ, b) ∷ E) g)
   free-cell t = step (λ s. forget t 0 refl $ free1 t $ s)
 
   pub nothings-had : K → {G : Goal 𝓤 H} (k : ℕ) → Step K W (‵ (nothings k) ∷ Γ) G Γ G

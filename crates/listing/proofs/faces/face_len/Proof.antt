@@ -39,7 +39,12 @@ fields-len-requires c κs = search needs
 add-result : tie.Need-add-result
 add-result c =
     let start = c .before .before .before in
-    omega (arith, c .fields-len .ensures, face-sum (start .args .d) (start .args .base) (start .args .table .now) (start .pre .inside) (start .args .i) (start .pre .position), face-length (start .args .d) (start .args .base) (start .args .table .now) (start .pre .inside) (start .args .i) (start .pre .position))
+    omega (
+      arith,
+      c .fields-len .ensures,
+      face-sum (start .args .d) (start .args .base) (start .args .table .now) (start .pre .inside) (start .args .i) (start .pre .position),
+      face-length (start .args .d) (start .args .base) (start .args .table .now) (start .pre .inside) (start .args .i) (start .pre .position),
+    )
 
 mul-fields-len-2 : tie.Need-mul-fields-len-2
 mul-fields-len-2 c = search needs
@@ -59,12 +64,23 @@ fields-len-requires-2 c κs = search needs
 add-result-2 : tie.Need-add-result-2
 add-result-2 c =
     let start = c .before .before .before .before .before in
-    omega (arith, c .before .before .fields-len .ensures, c .fields-len2 .ensures, face-sum (start .args .d) (start .args .base) (start .args .table .now) (start .pre .inside) (start .args .i) (start .pre .position), face-length (start .args .d) (start .args .base) (start .args .table .now) (start .pre .inside) (start .args .i) (start .pre .position))
+    omega (
+      arith,
+      c .before .before .fields-len .ensures,
+      c .fields-len2 .ensures,
+      face-sum (start .args .d) (start .args .base) (start .args .table .now) (start .pre .inside) (start .args .i) (start .pre .position),
+      face-length (start .args .d) (start .args .base) (start .args .table .now) (start .pre .inside) (start .args .i) (start .pre .position),
+    )
 
 returns : tie.Need-returns
 returns c =
     let start = c .before .before .before .before .before in
-    omega (arith, c .before .before .fields-len .ensures, c .fields-len2 .ensures, face-sum (start .args .d) (start .args .base) (start .args .table .now) (start .pre .inside) (start .args .i) (start .pre .position))
+    omega (
+      arith,
+      c .before .before .fields-len .ensures,
+      c .fields-len2 .ensures,
+      face-sum (start .args .d) (start .args .base) (start .args .table .now) (start .pre .inside) (start .args .i) (start .pre .position),
+    )
 
 pub face-len-spec : {M : Type 1} → statement M
 face-len-spec =

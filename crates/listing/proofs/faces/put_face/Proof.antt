@@ -60,7 +60,11 @@ part-face-line-end-2 c = search needs
 face-line-requires : tie.Need-face-line-requires
 face-line-requires c κs =
     let start = c .before .before .before .before .before .before .before .before in
-    omega (arith, start .pre .1, face-line-length (start .args .d) (start .args .base) (start .args .table .now) (start .pre .0 .inside) (start .args .i) (start .pre .0 .position))
+    omega (
+      arith,
+      start .pre .1,
+      face-line-length (start .args .d) (start .args .base) (start .args .table .now) (start .pre .0 .inside) (start .args .i) (start .pre .0 .position),
+    )
 
 same-length : tie.Need-same-length
 same-length c = search needs

@@ -42,7 +42,8 @@ first-line-requires c κs =
     let fs = facesOf d (start .args .s) (start .args .table .now) in
     let counts = countsText d n v (start .args .faces) in
     let rest = vertexLines n v ps ++ faceLines fs in
-    let all = left-start 0 (counts ++ rest) (start .args .buf .now) (room-of d n v ps fs (start .args .faces) (start .pre .2) (length (start .args .buf .now)) (start .pre .3)) in
+    let room = room-of d n v ps fs (start .args .faces) (start .pre .2) (length (start .args .buf .now)) (start .pre .3) in
+    let all = left-start 0 (counts ++ rest) (start .args .buf .now) room in
     left-fits counts rest all
 
 put-vertices-requires : tie.Need-put-vertices-requires
@@ -55,7 +56,8 @@ put-vertices-requires c κs =
     let fs = facesOf d (start .args .s) (start .args .table .now) in
     let counts = countsText d n v (start .args .faces) in
     let rest = vertexLines n v ps ++ faceLines fs in
-    let all = left-start 0 (counts ++ rest) (start .args .buf .now) (room-of d n v ps fs (start .args .faces) (start .pre .2) (length (start .args .buf .now)) (start .pre .3)) in
+    let room = room-of d n v ps fs (start .args .faces) (start .pre .2) (length (start .args .buf .now)) (start .pre .3) in
+    let all = left-start 0 (counts ++ rest) (start .args .buf .now) room in
     let one = left-step counts rest _ _ all (c .before .before .before .first-line .ensures) in
     (start .pre .1, left-fits (vertexLines n v ps) (faceLines fs) one)
 
@@ -69,7 +71,8 @@ put-faces-requires c κs =
     let fs = facesOf d (start .args .s) (start .args .table .now) in
     let counts = countsText d n v (start .args .faces) in
     let rest = vertexLines n v ps ++ faceLines fs in
-    let all = left-start 0 (counts ++ rest) (start .args .buf .now) (room-of d n v ps fs (start .args .faces) (start .pre .2) (length (start .args .buf .now)) (start .pre .3)) in
+    let room = room-of d n v ps fs (start .args .faces) (start .pre .2) (length (start .args .buf .now)) (start .pre .3) in
+    let all = left-start 0 (counts ++ rest) (start .args .buf .now) room in
     let one = left-step counts rest _ _ all (c .before .before .before .before .before .before .before .first-line .ensures) in
     let two = left-step (vertexLines n v ps) (faceLines fs) _ _ one (c .before .before .before .put-vertices .ensures) in
     (start .pre .0, two .room)
@@ -87,7 +90,8 @@ returns c =
     let fs = facesOf d (start .args .s) (start .args .table .now) in
     let counts = countsText d n v (start .args .faces) in
     let rest = vertexLines n v ps ++ faceLines fs in
-    let all = left-start 0 (counts ++ rest) (start .args .buf .now) (room-of d n v ps fs (start .args .faces) (start .pre .2) (length (start .args .buf .now)) (start .pre .3)) in
+    let room = room-of d n v ps fs (start .args .faces) (start .pre .2) (length (start .args .buf .now)) (start .pre .3) in
+    let all = left-start 0 (counts ++ rest) (start .args .buf .now) room in
     let one = left-step counts rest _ _ all (c .before .before .before .before .before .before .before .before .before .before .first-line .ensures) in
     let two = left-step (vertexLines n v ps) (faceLines fs) _ _ one (c .before .before .before .before .before .before .put-vertices .ensures) in
     rw (key-pieces d n v ps fs (start .args .faces) (start .pre .2)) (left-last (faceLines fs) _ _ two (c .before .before .put-faces .ensures))

@@ -34,8 +34,10 @@ part-vertex-line-end c = search needs
 
 vertex-line-requires : tie.Need-vertex-line-requires
 vertex-line-requires c κs =
-    let start = c .before .before .before .before .before .before in
-    (point-ranged (start .args .n) (start .args .p) (start .args .points .now) (start .pre .0 .within) (start .pre .0 .ranged), rw (vertex-line (start .args .n) (start .args .p) (start .args .points .now)) at (start .pre .1))
+    let start = c .before .before .before .before .before .before in (
+      point-ranged (start .args .n) (start .args .p) (start .args .points .now) (start .pre .0 .within) (start .pre .0 .ranged),
+      rw (vertex-line (start .args .n) (start .args .p) (start .args .points .now)) at (start .pre .1),
+    )
 
 same-length : tie.Need-same-length
 same-length c = search needs

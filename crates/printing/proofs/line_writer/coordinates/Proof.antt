@@ -26,5 +26,6 @@ coordinates-spec 𝓤 H 𝓜 𝓖 𝓡 =
     (tables 𝓤 H 𝓜 𝓡 code.env .C) (tables 𝓤 H 𝓜 𝓡 code.env .Λ) #coordinates code.function (code.unfolded 𝓤 H 𝓜 𝓡)
     (thin-meets f64 pointsFit pointFields 𝓤 H (𝓖 .A) (givenOf 𝓤 H 𝓜 𝓖) (tablesOf 𝓤 H 𝓜 (tables 𝓤 H 𝓜 𝓡 code.env)) #callee
     (λ κ κ′ q q′ x n y.
-    cited 𝓤 H (tripleOf 𝓤 H (𝓖 .A) callee.signature (callee.spec 𝓤 H (𝓖 .A) (𝓜 .mem) (𝓡 .run))) 𝓜 𝓡 code.env #callee callee-def.routine code.calls-printing·fields·put-points (callee-thm.met 𝓤 H 𝓜 𝓖 𝓡)
+    cited 𝓤 H (tripleOf 𝓤 H (𝓖 .A) callee.signature (callee.spec 𝓤 H (𝓖 .A) (𝓜 .mem)
+    (𝓡 .run))) 𝓜 𝓡 code.env #callee callee-def.routine code.calls-printing·fields·put-points (callee-thm.met 𝓤 H 𝓜 𝓖 𝓡)
     (((κ, (κ′, tt)), (q, (q′, tt)), tt, (x, (n, (y, tt))), (valueOf x ∷ [], (vint w64 n ∷ [], (valueOf y ∷ [], tt)))), tt)))

@@ -23,7 +23,8 @@ unfolding code.routine tablesOf
 face-line-spec 𝓤 H 𝓜 𝓖 𝓡 =
     entered 𝓤 H (tripleOf 𝓤 H (𝓖 .A) face-line.signature (face-line.spec 𝓤 H (𝓖 .A) (𝓜 .mem) (𝓡 .run)))
     (tables 𝓤 H 𝓜 𝓡 code.env .C) (tables 𝓤 H 𝓜 𝓡 code.env .Λ) #face-line code.function (code.unfolded 𝓤 H 𝓜 𝓡)
-    (line-meets u16 fieldsFit fields (λ n bytes sign low high. n + length (line sign (map digits (low ++ high))) ≤ length bytes) (λ sign low high. line sign (map digits (low ++ high)))
+    (line-meets u16 fieldsFit fields (λ n bytes sign low high. n + length (line sign (map digits (low ++ high))) ≤ length bytes)
+    (λ sign low high. line sign (map digits (low ++ high)))
     line-of-two (λ n bytes sign low high p. p) (λ n bytes sign low high p m zs h. h)
     𝓤 H (𝓖 .A) (givenOf 𝓤 H 𝓜 𝓖) (tablesOf 𝓤 H 𝓜 (tables 𝓤 H 𝓜 𝓡 code.env)) #numbers
     (begin-known 𝓤 H 𝓜 𝓖 𝓡 code.env code.calls-printing·line-writer·begin)

@@ -55,8 +55,10 @@ abbrev stayed : Stays (first-line.ended .signature .params) (first-line.ended .k
 stayed = (gave-slice (0 ∷ []) tt (plain (λ _. u8)), (stay-dropped _ yes, (stay-dropped _ yes, (stay-dropped _ yes, tt))))
 
 module _ {M : Type 1} (𝓤 : URA M) (H : Heap 𝓤) (A : Atoms 𝓤) (W : Given 𝓤 H A) (mem : Memory → SProp 𝓤) (run : Routine → Fun 𝓤) (𝓣 : Tables 𝓤 H)
-    (known-begin : Begins 𝓤 H A (𝓣 .C) #begin) (known-numbers : Writes 𝓤 H A u16 fieldsFit fields (𝓣 .C) #numbers) (known-end : Ends 𝓤 H A (𝓣 .C) #end) where
-  module _ (κ κ′ : Lft) (q q′ : Share) (x : RefT (List ℕ)) (n : ℕ) (word ws : RefT (List ℕ)) (more : n + length (line (word .now) (map digits (ws .now))) ≤ length (x .now)) where
+    (known-begin : Begins 𝓤 H A (𝓣 .C) #begin) (known-numbers : Writes 𝓤 H A u16 fieldsFit fields (𝓣 .C) #numbers)
+    (known-end : Ends 𝓤 H A (𝓣 .C) #end) where
+  module _ (κ κ′ : Lft) (q q′ : Share) (x : RefT (List ℕ)) (n : ℕ) (word ws : RefT (List ℕ))
+      (more : n + length (line (word .now) (map digits (ws .now))) ≤ length (x .now)) where
     abbrev a : RefT (List ℕ) × (ℕ × (RefT (List ℕ) × (RefT (List ℕ) × Unit {0})))
     a = (x, (n, (word, (ws, tt))))
 
@@ -95,7 +97,8 @@ module _ {M : Type 1} (𝓤 : URA M) (H : Heap 𝓤) (A : Atoms 𝓤) (W : Given
         → ent 𝓤 (sep 𝓤 (sem 𝓤 H A (usize .own r (v ∷ []))) (sep 𝓤 (sem 𝓤 H A (finally u8 (x .name) zs)) (sep 𝓤 (A .lft κ q) (A .lft κ′ q′)))) (Post v)
     exits v r zs e l =
         qed W (‵ (usize .own r (v ∷ [])) ∷ ‵ (finally u8 (x .name) zs) ∷ ‵ (flft κ q) ∷ ‵ (flft κ′ q′) ∷ []) ∵
-        suffices ! _ (ends-at 𝓤 H A first-line.ended stayed (first-line.clauses 𝓤 H A mem run) W bound v r (zs, (tt, (tt, (tt, tt)))) (l ∙ left₂ .same, (tt, (tt, (tt, tt))))) $
+        suffices ! _ (ends-at 𝓤 H A first-line.ended stayed (first-line.clauses 𝓤 H A mem run) W bound v r (zs, (tt, (tt, (tt, tt))))
+        (l ∙ left₂ .same, (tt, (tt, (tt, tt))))) $
         says ! (left-last (10 ∷ []) r zs left₂ e) $ by ! (line-ended 𝓤 H A W κ κ′ q q′ (x .name) zs r v 3)
 
     walk : Room u8 (length (x .now)) → n < 2 ^ 64 → length (word .now) < 2 ^ 64 → length (ws .now) < 2 ^ 64
@@ -105,23 +108,27 @@ module _ {M : Type 1} (𝓤 : URA M) (H : Heap 𝓤) (A : Atoms 𝓤) (W : Given
         enter ! (𝓣 .C) (𝓣 .Λ) code.function passed _ $
         alloc3 ! (λ l₀ l₁ l₂. alloc3 ! (λ l₃ l₄ l₅. alloc3 ! (λ l₆ l₇ l₈. alloc1 ! (λ l₉. alloc0 ! $ params1 ! $
         pass1 ! (init ! 16 refl (tt, (tt, (record { fits = room .0 }, tt)))) $ pass1 ! (init ! 14 refl (tt, record { fits = n-fits })) $
-        pass1 ! (init ! 12 refl (tt, (tt, (record { fits = word-fits }, tt)))) $ pass1 ! (init ! 10 refl (tt, (tt, (record { fits = ws-fits }, tt)))) $ pass0 ! $
+        pass1 ! (init ! 12 refl (tt, (tt, (record { fits = word-fits }, tt)))) $
+        pass1 ! (init ! 10 refl (tt, (tt, (record { fits = ws-fits }, tt)))) $ pass0 ! $
         -- [_9; …; .. ; _1; …; room for _0; …; the tokens; what the parameters own]
         assigns ! (addr ! (from ! (fld ! refl (hop ! (look-in ! 16 (sub ! 0 refl (whole !))) (stop !))))) (from ! (stop !)) (init ! 4 refl (tt, tt)) $
-        assigns ! (agg ! (and-then ! (cell ! 4 refl) (and-then ! (load ! (from ! (fld ! refl (stop !))) (look-in ! 16 (sub ! 1 refl (whole !)))) (no-more !)))) (from ! (stop !))
+        assigns ! (agg ! (and-then ! (cell ! 4 refl) (and-then ! (load ! (from ! (fld ! refl (stop !))) (look-in ! 16 (sub ! 1 refl (whole !))))
+        (no-more !)))) (from ! (stop !))
         (init ! 2 refl (tt, (tt, (record { fits = room .0 }, tt)))) $
         move ! (21 ∷ []) $ fsplit ! $ move ! (1 ∷ []) $ fsplit ! $ drop ! $ fsplit ! $ move ! (1 ∷ []) $ fsplit ! $
         -- [the numbers; true; the word; the bytes; _9; …; .. ; the tokens]
         move ! (24 ∷ []) $ split ! $ move ! (1 ∷ []) $ split ! $ move ! (6 ∷ 2 ∷ 0 ∷ 5 ∷ 3 ∷ []) $
         begins ! (fmOf 𝓤 H (W .laws) 𝓣) known-begin κ κ′ q q′ x n word n-fits (left-of n all (x .now) (writerAt x n) (word .now) _ left₀)
-        (λ i. and-then ! (cell ! 6 refl) (and-then ! (cell ! 18 refl) (and-then ! (cell ! 16 refl) (no-more !)))) (λ w₁ t₁. land ! (from ! (stop !)) (init ! 12 refl t₁) $
+        (λ i. and-then ! (cell ! 6 refl) (and-then ! (cell ! 18 refl) (and-then ! (cell ! 16 refl) (no-more !))))
+        (λ w₁ t₁. land ! (from ! (stop !)) (init ! 12 refl t₁) $
         writes ! (fmOf 𝓤 H (W .laws) 𝓣) u16 fieldsFit fields known-numbers κ κ′ q q′ h₁ w₁ ws (left-of n all (x .now) h₁ (fields (ws .now)) _ left₁)
         (λ i. and-then ! (cell ! 9 refl) (and-then ! (cell ! 13 refl) (no-more !))) (λ w₂ t₂. land ! (from ! (stop !)) (init ! 13 refl t₂) $
         assigns ! (of-opd ! (cell ! 13 refl)) (from ! (stop !)) (init ! 5 refl t₂) $
         ends ! (fmOf 𝓤 H (W .laws) 𝓣) known-end κ q h₂ w₂ (omega (arith, left₂ .room)) (λ i. and-then ! (cell ! 4 refl) (no-more !)) (λ v r zs e l is.
         -- [the result; the last list; the two tokens; …; _9; …; .. ; room for _0; …]
         land ! (from ! (stop !)) (init ! 24 refl (uint-lawful 𝓤 H A W w64 .typed r _ is .0)) $
-        returns ! (look ! 24 refl) $ move ! (cells 6 10) $ free3 ! $ free3 ! $ free3 ! $ free-cell ! $ free0 ! $ keep ! (0 ∷ 1 ∷ 2 ∷ 3 ∷ []) $ by ! (exits v r zs e l))))))))
+        returns ! (look ! 24 refl) $ move ! (cells 6 10) $ free3 ! $ free3 ! $ free3 ! $ free-cell ! $ free0 ! $ keep ! (0 ∷ 1 ∷ 2 ∷ 3 ∷ []) $
+        by ! (exits v r zs e l))))))))
 
   first-line-meets : Meets 𝓤 H A first-line.signature (WpFn 𝓤 H (𝓣 .C) (𝓣 .Λ) code.function) (first-line.spec 𝓤 H A mem run)
   first-line-meets =
@@ -129,15 +136,30 @@ module _ {M : Type 1} (𝓤 : URA M) (H : Heap 𝓤) (A : Atoms 𝓤) (W : Given
         goes-gave-slice 𝓤 H A W 2 0 tt (plain (λ _. u8)),
         (
           goes-dropped 𝓤 H A W 2 (plain (λ _. usize)) yes (λ κs x f. refl),
-          (goes-dropped 𝓤 H A W 2 (shrSlice 1 tt (λ _. u8)) yes (λ κs x f. refl), (goes-dropped 𝓤 H A W 2 (shrSlice 1 tt (λ _. u16)) yes (λ κs x f. refl), tt)),
+          (
+            goes-dropped 𝓤 H A W 2 (shrSlice 1 tt (λ _. u8)) yes
+                (λ κs x f. refl),
+            (goes-dropped 𝓤 H A W 2 (shrSlice 1 tt (λ _. u16)) yes (λ κs x f. refl), tt),
+          ),
         ),
       ) (first-line.clauses 𝓤 H A mem run)
       (WpFn 𝓤 H (𝓣 .C) (𝓣 .Λ) code.function) (WpFn-mono 𝓤 H (W .laws) 𝓣 code.function)
       (walked 𝓤 H A first-line.ended stayed (first-line.clauses 𝓤 H A mem run) (WpFn 𝓤 H (𝓣 .C) (𝓣 .Λ) code.function)
       (λ κs. (slice-vals, (uint-vals w64, (slice-vals, (slice-vals, tt)))))
-      (λ κs. (mut-slice-tells (named 0) (κs .0) u8, (uint-tells w64, (shr-slice-tells (named 1) (κs .1 .0) u8, (shr-slice-tells (named 1) (κs .1 .0) u16, tt)))))
+      (λ κs. (
+        mut-slice-tells (named 0) (κs .0) u8,
+        (
+          uint-tells w64,
+          (
+            shr-slice-tells (named 1)
+                (κs .1 .0) u8,
+            (shr-slice-tells (named 1) (κs .1 .0) u16, tt),
+          ),
+        ),
+      ))
       (λ κs qs bounds a g are. needs 𝓤 _ _ (λ more.
-      walk (κs .0) (κs .1 .0) (qs .0) (qs .1 .0) (a .0) (a .1 .0) (a .1 .1 .0) (a .1 .1 .1 .0) more (are .0 .0 .1) (are .1 .0 .1) (are .1 .1 .0 .0 .1 .0) (are .1 .1 .1 .0 .0 .1 .0))))
+      walk (κs .0) (κs .1 .0) (qs .0) (qs .1 .0) (a .0) (a .1 .0) (a .1 .1 .0) (a .1 .1 .1 .0) more (are .0 .0 .1) (are .1 .0 .1)
+      (are .1 .1 .0 .0 .1 .0) (are .1 .1 .1 .0 .0 .1 .0))))
 
 pub first-line-spec : {M : Type 1} → stated.statement M
 unfolding code.routine tablesOf
