@@ -1,26 +1,28 @@
 -- The line of one face, from the words of a table.
 --   cut               a part from b on, taken before or after what stands in front is dropped
 --   record-row, record-sign   the cell of a record
---   face-pieces       sign, the vertices before position i, those after it, line feed
---   face-sum          its length
+--   part-slice        the same between two places
+--   face-line, face-put       its sign, the vertices before position i, those after it
+--   face-line-length, face-sum        its length
 --   face-length       at most 256 bytes
 -- Assumes nothing.
-use mathlib.Core.Path.{_≡_, refl, sym, ap, _∙_}
-use mathlib.Core.List.{List, [], _∷_, _++_, map, append-assoc}
+use mathlib.Core.Path.{_≡_, refl, sym, ap, _∙_, subst}
+use mathlib.Core.List.{List, [], _∷_, _++_, map}
 use mathlib.Core.Bool.{true, false}
 use Prim.Native.Nat.{ℕ, zero, suc, _+_, _-_, _≤_}
-use native.Mathlib.Nat.{add-zero, zero-add, suc-add}
+use native.Mathlib.Nat.{add-zero, zero-add, suc-add, min-le-left}
 use native.Mathlib.Omega.{arith}
-use lib.ListN.{length, take, drop, getD, length-append}
-use lib.Seq.{take-nil, slice, length-slice, take-take, drop-drop, getD-take, getD-drop}
+use lib.ListN.{length, take, drop, getD, length-append, length-take}
+use lib.Seq.{take-nil, slice, take-take, drop-drop, getD-take, getD-drop}
 use Rattle.simplex.specs.Cell.{Row, Sign, times, alternating}
 use Rattle.simplex.specs.Faces.{without, face}
 use Rattle.simplex.specs.SignWords.{signOf}
 use Rattle.complex.specs.Layout.{recordSize}
 use Rattle.printing.specs.Decimal.{digits}
-use Rattle.printing.specs.Fields.{fields, restOfLine}
+use Rattle.printing.specs.Fields.{fields, restOfLine, line}
+use Rattle.printing.specs.Put.{Put}
 use Rattle.printing.proofs.Bounds.{fields-length}
-use Rattle.printing.proofs.FieldText.{fields-append, line-of-fields}
+use Rattle.printing.proofs.FieldText.{fields-append, rest-of-numbers}
 use Rattle.listing.specs.Lines.{signText, faceLine}
 use Rattle.listing.specs.Parts.{recordAt, RecordOf}
 
@@ -29,6 +31,12 @@ cut zero m l = ap (λ (k : ℕ). take k l) (sym (zero-add m))
 cut (suc b) zero [] = sym (ap (drop (suc b)) (take-nil (suc b + zero)))
 cut (suc b) (suc m) [] = sym (ap (drop (suc b)) (take-nil (suc b + suc m)))
 cut (suc b) m (x ∷ l) = cut b m l ∙ ap (λ (k : ℕ). drop (suc b) (take k (x ∷ l))) (sym (suc-add b m))
+
+-- a part of a list, cut either way
+pub part-slice : (a e : ℕ) (l : List ℕ) → a ≤ e → take (e - a) (drop a l) ≡ slice a e l
+part-slice a e l h =
+    let end : a + (e - a) ≡ e = omega arith in
+    cut a (e - a) l ∙ ap (λ (k : ℕ). slice a k l) end
 
 without-cut : (i : ℕ) (w : Row) → without i w ≡ take i w ++ drop (suc i) w
 without-cut zero [] = refl
@@ -54,13 +62,17 @@ module _ (d base : ℕ) (ws : List ℕ) (r : RecordOf d base ws) where
       ∙ ap (λ (k : ℕ). getD ws k 0) (add-zero base))
 
   module _ (i : ℕ) (h : i ≤ d) where
-    abbrev pub lowFields : List ℕ
-    lowFields = fields (slice (base + 1) (base + 1 + i) ws)
+    -- the vertices before position i and after it, as parts of the table
+    abbrev pub lowWords : List ℕ
+    lowWords = take (base + 1 + i - (base + 1)) (drop (base + 1) ws)
 
-    abbrev pub highFields : List ℕ
-    highFields = fields (slice (base + 1 + i + 1) (base + 1 + d + 1) ws)
+    abbrev pub highWords : List ℕ
+    highWords = take (base + 1 + d + 1 - (base + 1 + i + 1)) (drop (base + 1 + i + 1) ws)
 
-    row-without : without i (recordAt d base ws .cell .row) ≡ slice (base + 1) (base + 1 + i) ws ++ slice (base + 1 + i + 1) (base + 1 + d + 1) ws
+    abbrev pub signHere : List ℕ
+    signHere = signText (times (alternating i) (signOf (getD ws base 0)))
+
+    row-without : without i (recordAt d base ws .cell .row) ≡ lowWords ++ highWords
     row-without =
         let a = base + 1 in
         let b = base + 1 + d + 1 in
@@ -69,45 +81,55 @@ module _ (d base : ℕ) (ws : List ℕ) (r : RecordOf d base ws) where
         ∙ without-cut i (slice a b ws)
         ∙ ap (λ (l : List ℕ). l ++ drop (suc i) (slice a b ws)) (cut a i (take b ws) ∙ ap (drop a) (take-take (a + i) b ws (omega arith)))
         ∙ ap (λ (l : List ℕ). slice a (a + i) ws ++ l) (drop-drop (suc i) a (take b ws) ∙ ap (λ (k : ℕ). slice k b ws) next)
+        ∙ ap (λ (l : List ℕ). l ++ slice (a + i + 1) b ws) (sym (part-slice a (a + i) ws (omega arith)))
+        ∙ ap (λ (l : List ℕ). lowWords ++ l) (sym (part-slice (a + i + 1) b ws (omega arith)))
 
-    pub face-pieces : faceLine (face i (recordAt d base ws .cell))
-        ≡ signText (times (alternating i) (signOf (getD ws base 0))) ++ (lowFields ++ (highFields ++ 10 ∷ []))
+    face-line : faceLine (face i (recordAt d base ws .cell)) ≡ line signHere (map digits (lowWords ++ highWords))
     unfolding faceLine
-    face-pieces =
-        let low = slice (base + 1) (base + 1 + i) ws in
-        let high = slice (base + 1 + i + 1) (base + 1 + d + 1) ws in
-        ap (λ (s : Sign). signText (times (alternating i) s) ++ restOfLine (map digits (without i (recordAt d base ws .cell .row)))) record-sign
-        ∙ ap (λ (l : List ℕ). signText (times (alternating i) (signOf (getD ws base 0))) ++ l)
-        (ap (λ (l : List ℕ). restOfLine (map digits l)) row-without
-        ∙ line-of-fields (low ++ high)
-        ∙ ap (λ (l : List ℕ). l ++ 10 ∷ []) (fields-append low high)
-        ∙ append-assoc (fields low) (fields high) (10 ∷ []))
+    face-line =
+        ap (λ (s : Sign). line (signText (times (alternating i) s)) (map digits (without i (recordAt d base ws .cell .row)))) record-sign
+        ∙ ap (λ (l : List ℕ). line signHere (map digits l)) row-without
+
+    -- put with the sign that was computed, it is put
+    pub face-put : {at next : ℕ} {sign old new : List ℕ} → sign ≡ signHere → Put at (line sign (map digits (lowWords ++ highWords))) old next new
+        → Put at (faceLine (face i (recordAt d base ws .cell))) old next new
+    face-put {at} {next} {sign} {old} {new} e p =
+        subst (λ (l : List ℕ). Put at l old next new) (ap (λ (s : List ℕ). line s (map digits (lowWords ++ highWords))) e ∙ sym face-line) p
 
     sign-length : (s : Sign) → length (signText s) ≡ 1
     sign-length true = refl
     sign-length false = refl
 
-    pub face-sum : length (faceLine (face i (recordAt d base ws .cell))) ≡ 2 + length lowFields + length highFields
-    face-sum =
-        let sign = signText (times (alternating i) (signOf (getD ws base 0))) in
+    pub face-line-length : length (faceLine (face i (recordAt d base ws .cell))) ≡ 1 + length (restOfLine (map digits (lowWords ++ highWords)))
+    face-line-length =
         omega (
           arith,
-          ap length face-pieces,
-          length-append sign (lowFields ++ (highFields ++ 10 ∷ [])),
+          ap length face-line,
+          length-append signHere (restOfLine (map digits (lowWords ++ highWords))),
           sign-length (times (alternating i) (signOf (getD ws base 0))),
-          length-append lowFields (highFields ++ 10 ∷ []),
-          length-append highFields (10 ∷ []),
+        )
+
+    pub face-sum : length (faceLine (face i (recordAt d base ws .cell))) ≡ 2 + length (fields lowWords) + length (fields highWords)
+    face-sum =
+        omega (
+          arith,
+          face-line-length,
+          ap length (rest-of-numbers (lowWords ++ highWords)),
+          length-append (fields (lowWords ++ highWords)) (10 ∷ []),
+          ap length (fields-append lowWords highWords),
+          length-append (fields lowWords) (fields highWords),
+        )
+
+    words-length : length lowWords + length highWords ≤ 8
+    words-length =
+        omega (
+          arith,
+          length-take (base + 1 + i - (base + 1)) (drop (base + 1) ws),
+          min-le-left (base + 1 + i - (base + 1)) (length (drop (base + 1) ws)),
+          length-take (base + 1 + d + 1 - (base + 1 + i + 1)) (drop (base + 1 + i + 1) ws),
+          min-le-left (base + 1 + d + 1 - (base + 1 + i + 1)) (length (drop (base + 1 + i + 1) ws)),
+          r .most,
         )
 
     pub face-length : length (faceLine (face i (recordAt d base ws .cell))) ≤ 256
-    face-length =
-        omega (
-          arith,
-          face-sum,
-          r .most,
-          r .within,
-          fields-length (slice (base + 1) (base + 1 + i) ws),
-          fields-length (slice (base + 1 + i + 1) (base + 1 + d + 1) ws),
-          length-slice (base + 1) (base + 1 + i) ws (omega (arith, r .within)),
-          length-slice (base + 1 + i + 1) (base + 1 + d + 1) ws (omega (arith, r .within)),
-        )
+    face-length = omega (arith, face-sum, words-length, fields-length lowWords, fields-length highWords)

@@ -2,20 +2,27 @@
 --   lines-rest, lines-end         of the lines f 0, f 1, ..
 --   point-within                  point p is among the floats
 --   points-rest, points-end       of the coordinates of point p
+--   vertex-line                   the line of point p, from a part of the floats
+--   point-ranged                  which are in range
 -- Assumes nothing.
 use mathlib.Core.Path.{_≡_, sym, ap, _∙_, subst}
+use mathlib.Core.Bool.{true}
 use mathlib.Core.List.{List, [], _∷_, _++_, map}
 use Prim.Native.Nat.{ℕ, suc, _+_, _-_, _*_, _≤_, _<_}
 use native.Mathlib.Nat.{suc-mul, mul-le-mul-right}
 use native.Mathlib.Numerals.{add-one}
 use native.Mathlib.Omega.{arith}
-use lib.ListN.{length, drop, getD, length-drop, drop-of-length-le}
+use lib.ListN.{length, take, drop, getD, length-drop, drop-of-length-le}
 use lib.Ieee.{Float, nan}
 use lib.Seq.{drop-cons, length-take-le, getD-take, getD-drop}
-use Rattle.words.specs.Records.{tabulate, part, concat}
+use Rattle.words.specs.Records.{tabulate, part, concat, allOf}
 use Rattle.words.proofs.Records.{tabulate-length, tabulate-at}
-use Rattle.printing.specs.Decimal.{coordinate}
-use Rattle.printing.specs.Fields.{pointField, restOfLine}
+use Rattle.words.proofs.Loops.{all-at}
+use Rattle.points.specs.Step.{inRange}
+use Rattle.points.proofs.AllOf.{allOf-true}
+use Rattle.printing.specs.Decimal.{digits, coordinate}
+use Rattle.printing.specs.Fields.{pointField, restOfLine, line}
+use Rattle.listing.specs.Lines.{vertexWord, vertexLine}
 
 module _ (n : ℕ) (f : ℕ → List ℕ) where
   pub lines-rest : (p : ℕ) → p < n → concat (drop p (tabulate n f)) ≡ f p ++ concat (drop (p + 1) (tabulate n f))
@@ -53,3 +60,24 @@ module _ (n p : ℕ) (ps : List Float) (within : p * n + n ≤ length ps) where
 
   pub points-end : (j : ℕ) → n ≤ j → leftOf j ≡ 10 ∷ []
   points-end j h = ap (λ (xs : List Float). restOfLine (map coordinate xs)) (part-end nan n p ps j h within)
+
+-- point p as a part of the floats
+module _ (n p : ℕ) (ps : List Float) where
+  abbrev pointHere : List Float
+  pointHere = take (p * n + n - p * n) (drop (p * n) ps)
+
+  point-here : part n p ps ≡ pointHere
+  point-here =
+      let axes : n ≡ p * n + n - p * n = omega arith in
+      ap (λ (k : ℕ). take k (drop (p * n) ps)) axes
+
+  pub vertex-line : vertexLine n ps p ≡ line vertexWord (map digits (p ∷ []) ++ map coordinate pointHere)
+  unfolding vertexLine
+  vertex-line = ap (λ (xs : List Float). line vertexWord (digits p ∷ map coordinate xs)) point-here
+
+  pub point-ranged : p * n + n ≤ length ps → allOf inRange ps ≡ true → allOf inRange pointHere ≡ true
+  point-ranged within e =
+      subst (λ (xs : List Float). allOf inRange xs ≡ true) point-here
+      (allOf-true inRange nan (part n p ps) (λ k h.
+      let l = subst (λ (m : ℕ). k < m) (part-length nan n p ps within) h in
+      ap inRange (getD-take n (drop (p * n) ps) k nan l ∙ getD-drop (p * n) ps k nan) ∙ all-at inRange nan ps (p * n + k) e (omega (arith, within))))

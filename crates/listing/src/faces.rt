@@ -1,8 +1,7 @@
 // The lines of the boundary faces: their count and lengths, and written. `base` is the word at which a table's record
 // begins: sign word, d + 1 vertices, d + 1 wings.
 use printing::fields::fields_len;
-use printing::fields::put_fields;
-use printing::writing::put_byte;
+use printing::lines::face_line;
 ghost use mathlib.Core.Path.{_≡_};
 ghost use mathlib.Core.List.{[], _∷_};
 ghost use Prim.Native.Nat.{_+_, _≤_};
@@ -41,20 +40,22 @@ fn face_len(d: usize, base: usize, i: usize, table: &[u16]) -> usize
     ensures { λ r. ⌜ r ≡ length (faceLine (face i (recordAt d base (now (table .entry)) .cell))) ⌝ }
 {
     let first = base + 1;
-    let low = fields_len(table, first, first + i);
-    let high = fields_len(table, first + i + 1, first + d + 1);
-    2 + low + high
+    let skip = first + i;
+    let next = skip + 1;
+    let last = first + d + 1;
+    2 + fields_len(&table[first..skip]) + fields_len(&table[next..last])
 }
 
 fn put_face(d: usize, base: usize, i: usize, table: &[u16], buf: &mut [u8], at: usize) -> usize
     requires { ⌜ FaceOf d base i (now table) × (at + length (faceLine (face i (recordAt d base (now table) .cell))) ≤ length (now buf)) ⌝ }
     ensures { λ r. ⌜ Put at (faceLine (face i (recordAt d base (now (table .entry)) .cell))) (now (buf .entry)) r (now (buf .exit)) ⌝ }
 {
+    let sign = [sign_byte(table[base], i)];
     let first = base + 1;
-    let sign = put_byte(buf, at, sign_byte(table[base], i));
-    let low = put_fields(table, first, first + i, buf, sign);
-    let high = put_fields(table, first + i + 1, first + d + 1, buf, low);
-    put_byte(buf, high, b'\n')
+    let skip = first + i;
+    let next = skip + 1;
+    let last = first + d + 1;
+    face_line(buf, at, &sign, &table[first..skip], &table[next..last])
 }
 
 // The boundary faces of one record, by position.

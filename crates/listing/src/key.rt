@@ -5,8 +5,7 @@ use crate::faces::put_faces;
 use crate::vertices::put_vertices;
 use crate::vertices::vertices_len;
 use printing::lengths::digits_len;
-use printing::line_writer::number_line;
-use printing::writing::put_text;
+use printing::lines::first_line;
 ghost use mathlib.Core.Path.{_≡_};
 ghost use Prim.Native.Nat.{_≤_};
 ghost use lib.ListN.{length};
@@ -36,7 +35,7 @@ pub fn key_size(d: usize, n: usize, v: usize, s: usize, table: &[u16], points: &
     Size { count, bytes }
 }
 
-// The key from the start of the buffer. The first line is built by a line writer.
+// The key from the start of the buffer. Each line is built by a line writer.
 pub fn put_key(
     d: usize,
     n: usize,
@@ -51,8 +50,8 @@ pub fn put_key(
         × (length (keyText d n v (now points) (facesOf d s (now table))) ≤ length (now buf)) ⌝ }
     ensures { λ r. ⌜ Put 0 (keyText d n v (now (points .entry)) (facesOf d s (now (table .entry)))) (now (buf .entry)) r (now (buf .exit)) ⌝ }
 {
-    let word = put_text(buf, 0, b"key");
-    let first = number_line(buf, word, d as u64, n as u64, v as u64, faces as u64);
+    let counts = [d as u16, n as u16, v as u16, faces as u16];
+    let first = first_line(buf, 0, b"key", &counts);
     let vertices = put_vertices(n, v, points, buf, first);
     put_faces(d, s, table, buf, vertices)
 }

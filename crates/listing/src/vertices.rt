@@ -1,9 +1,7 @@
 // The lines of the vertices: their lengths, and written.
 use printing::lengths::coordinate_len;
 use printing::lengths::digits_len;
-use printing::writing::put_byte;
-use printing::writing::put_field;
-use printing::writing::put_point;
+use printing::lines::vertex_line;
 ghost use mathlib.Core.Path.{_≡_};
 ghost use Prim.Native.Nat.{_+_, _≤_};
 ghost use lib.ListN.{length};
@@ -42,15 +40,10 @@ fn put_vertex(n: usize, p: usize, points: &[f64], buf: &mut [u8], at: usize) -> 
     requires { ⌜ VertexOf n p (now points) × (at + length (vertexLine n (now points) p) ≤ length (now buf)) ⌝ }
     ensures { λ r. ⌜ Put at (vertexLine n (now (points .entry)) p) (now (buf .entry)) r (now (buf .exit)) ⌝ }
 {
-    let word = put_byte(buf, at, b'v');
-    let mut cur = put_field(buf, word, p as u64);
     let base = p * n;
-    let mut j: usize = 0;
-    while j < n {
-        cur = put_point(buf, cur, points[base + j]);
-        j += 1;
-    }
-    put_byte(buf, cur, b'\n')
+    let end = base + n;
+    let number = [p as u16];
+    vertex_line(buf, at, b"v", &number, &points[base..end])
 }
 
 pub(crate) fn put_vertices(n: usize, v: usize, points: &[f64], buf: &mut [u8], at: usize) -> usize

@@ -6,5 +6,11 @@ pub mod Fractions
 pub mod Bounds
 pub mod FieldText
 pub mod Placing
-pub mod Held
 pub mod Again
+pub mod Locals
+pub mod Held
+pub mod Lending
+pub mod Thin
+pub mod Chain
+pub mod Line
+pub mod Callees

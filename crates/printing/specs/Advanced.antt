@@ -1,18 +1,16 @@
--- A line writer after a piece of text.
+-- A line writer, and after a piece of text.
+--   writerAt buf at       the writer of these lent bytes at this place
 --   advanced w text       the same lent bytes with text at the writer's place, and the place after it
---   numberLine a b c d    the rest of a line: four numbers and the line feed
-use mathlib.Core.List.{List, [], _∷_}
+use mathlib.Core.List.{List}
 use Prim.Native.Nat.{ℕ, _+_}
 use lib.ListN.{length}
-use denote.Ref.{now, at-last}
+use denote.Ref.{RefT, now, at-last}
 use Rattle.words.specs.Placed.{placed}
-use Rattle.printing.specs.Decimal.{digits}
-use Rattle.printing.specs.Fields.{restOfLine}
 use Rattle.printing.specs.declared.line_writer.LineWriter.{LineWriter}
+
+abbrev pub writerAt : RefT (List ℕ) → ℕ → LineWriter
+writerAt buf at = record { buf = buf; at = at }
 
 -- the reference keeps its pointer and its name
 abbrev pub advanced : LineWriter → List ℕ → LineWriter
 advanced w text = record { buf = at-last (w .buf) (placed (w .at) text (now (w .buf))); at = w .at + length text }
-
-abbrev pub numberLine : ℕ → ℕ → ℕ → ℕ → List ℕ
-numberLine a b c d = restOfLine (digits a ∷ digits b ∷ digits c ∷ digits d ∷ [])

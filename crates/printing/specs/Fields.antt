@@ -4,6 +4,7 @@
 --   field n                   a number's field with the space before it
 --   fields ws                 the fields of a list of numbers
 --   pointField x              a coordinate's field with the space before it
+--   pointFields xs            the fields of a list of coordinates
 --   restOfLine fs             fields after the first, and the line feed
 --   line f fs                 a line of these fields
 use mathlib.Core.Bool.{Bool, cond, _&&_}
@@ -29,6 +30,9 @@ fields ws = concat (map field ws)
 
 abbrev pub pointField : Float → List ℕ
 pointField x = 32 ∷ coordinate x
+
+abbrev pub pointFields : List Float → List ℕ
+pointFields xs = concat (map pointField xs)
 
 -- each field with a space before it
 abbrev pub restOfLine : List (List ℕ) → List ℕ

@@ -1,33 +1,54 @@
-// A line writer: it holds lent bytes and the place of the next byte. Its functions take it apart and call those of
-// `writing`. `number_line` makes a writer and uses it up, so whoever calls it sees a slice and numbers only.
+// A line writer: it holds lent bytes and the place of the next byte. Each function takes it apart and calls one that
+// writes at a place of a slice. The functions of `lines` make a writer and use it up.
+use crate::fields::put_fields;
+use crate::fields::put_points;
 use crate::writing::put_byte;
-use crate::writing::put_field;
+use crate::writing::put_text;
 ghost use mathlib.Core.Path.{_≡_};
+ghost use mathlib.Core.Bool.{true};
 ghost use mathlib.Core.List.{[], _∷_};
 ghost use Prim.Native.Nat.{_+_, _≤_, _<_};
 ghost use lib.ListN.{length};
-ghost use Rattle.printing.specs.Fields.{field};
+ghost use Rattle.words.specs.Records.{allOf};
+ghost use Rattle.points.specs.Step.{inRange};
+ghost use Rattle.printing.specs.Fields.{fields, pointFields};
 ghost use Rattle.printing.specs.Put.{Put};
-ghost use Rattle.printing.specs.Advanced.{advanced, numberLine};
+ghost use Rattle.printing.specs.Advanced.{writerAt, advanced};
 
 pub struct LineWriter<'a> {
     pub buf: &'a mut [u8],
     pub at: usize,
 }
 
-pub fn new<'a>(buf: &'a mut [u8], at: usize) -> LineWriter<'a>
-    ensures { λ r. ⌜ (r .buf ≡ buf .entry) × (r .at ≡ at) ⌝ }
+// The line's word at a place. The writer stands after it.
+pub(crate) fn begin<'a, 'b>(buf: &'a mut [u8], at: usize, word: &'b [u8]) -> LineWriter<'a>
+    requires { ⌜ at + length (now word) ≤ length (now buf) ⌝ }
+    ensures { λ r. ⌜ r ≡ advanced (writerAt (buf .entry) at) (now (word .entry)) ⌝ }
 {
-    LineWriter { buf: buf, at: at }
+    let next = put_text(&mut *buf, at, word);
+    LineWriter { buf: buf, at: next }
 }
 
-// A number's field, with the space before it.
-pub fn number<'a>(w: LineWriter<'a>, n: u64) -> LineWriter<'a>
-    requires { ⌜ w .at + length (field n) ≤ length (now (w .buf)) ⌝ }
-    ensures { λ r. ⌜ r ≡ advanced (w .entry) (field n) ⌝ }
+// A field for each number.
+pub(crate) fn numbers<'a, 'b>(w: LineWriter<'a>, words: &'b [u16]) -> LineWriter<'a>
+    requires { ⌜ w .at + length (fields (now words)) ≤ length (now (w .buf)) ⌝ }
+    ensures { λ r. ⌜ r ≡ advanced (w .entry) (fields (now (words .entry))) ⌝ }
 {
     let at = w.at;
-    let next = put_field(&mut *w.buf, at, n);
+    let next = put_fields(&mut *w.buf, at, words);
+    LineWriter {
+        buf: w.buf,
+        at: next,
+    }
+}
+
+// A field for each coordinate.
+pub(crate) fn coordinates<'a, 'b>(w: LineWriter<'a>, points: &'b [f64]) -> LineWriter<'a>
+    requires { ⌜ (allOf inRange (now points) ≡ true) × (w .at + length (pointFields (now points)) ≤ length (now (w .buf))) ⌝ }
+    ensures { λ r. ⌜ r ≡ advanced (w .entry) (pointFields (now (points .entry))) ⌝ }
+{
+    let at = w.at;
+    let next = put_points(&mut *w.buf, at, points);
     LineWriter {
         buf: w.buf,
         at: next,
@@ -35,19 +56,10 @@ pub fn number<'a>(w: LineWriter<'a>, n: u64) -> LineWriter<'a>
 }
 
 // The line feed. The answer is the place after it.
-pub fn end<'a>(w: LineWriter<'a>) -> usize
+pub(crate) fn end<'a>(w: LineWriter<'a>) -> usize
     requires { ⌜ w .at < length (now (w .buf)) ⌝ }
     ensures { λ r. ⌜ Put (w .entry .at) (10 ∷ []) (now (w .entry .buf)) r (now (w .exit .0)) ⌝ }
 {
     let at = w.at;
     put_byte(&mut *w.buf, at, b'\n')
-}
-
-// The rest of a line: four numbers and the line feed.
-pub fn number_line(buf: &mut [u8], at: usize, a: u64, b: u64, c: u64, d: u64) -> usize
-    requires { ⌜ at + length (numberLine a b c d) ≤ length (now buf) ⌝ }
-    ensures { λ r. ⌜ Put at (numberLine a b c d) (now (buf .entry)) r (now (buf .exit)) ⌝ }
-{
-    let w = number(number(number(number(new(buf, at), a), b), c), d);
-    end(w)
 }

@@ -90,7 +90,7 @@ fn put_coordinate(buf: &mut [u8], at: usize, x: f64) -> usize
 }
 
 // A number's field, with the space before it.
-pub fn put_field(buf: &mut [u8], at: usize, n: u64) -> usize
+pub(crate) fn put_field(buf: &mut [u8], at: usize, n: u64) -> usize
     requires { ⌜ at + length (field n) ≤ length (now buf) ⌝ }
     ensures { λ r. ⌜ Put at (field n) (now (buf .entry)) r (now (buf .exit)) ⌝ }
 {
@@ -99,7 +99,7 @@ pub fn put_field(buf: &mut [u8], at: usize, n: u64) -> usize
 }
 
 // A coordinate's field, with the space before it.
-pub fn put_point(buf: &mut [u8], at: usize, x: f64) -> usize
+pub(crate) fn put_point(buf: &mut [u8], at: usize, x: f64) -> usize
     requires { ⌜ (inRange x ≡ true) × (at + length (pointField x) ≤ length (now buf)) ⌝ }
     ensures { λ r. ⌜ Put at (pointField x) (now (buf .entry)) r (now (buf .exit)) ⌝ }
 {

@@ -2,24 +2,23 @@
 use mathlib.Core.Path.{ap, _≡_}
 use Prim.Native.Nat.{_≤_, _-_, _+_}
 use native.Mathlib.Omega.{arith}
-use lib.Seq.{slice, length-slice}
-use lib.ListN.{length-append, length, getD}
+use lib.ListN.{length-append, length, drop, getD, drop-of-length-le}
 use borrow.Author.Needs.{needs}
+use Rattle.words.proofs.Loops.{drop-next}
 use Rattle.printing.specs.Fields.{field, fields}
 use Rattle.printing.proofs.Digits.{digits-length}
 use Rattle.printing.proofs.Bounds.{fields-length}
-use Rattle.printing.proofs.FieldText.{fields-rest, fields-end}
 use Rattle.printing.proofs.fields.fields_len.Statement.{statement}
 use Rattle.printing.proofs.fields.fields_len.Tie as tie
 
 abbrev Inv-loop : tie.InvT-loop
-Inv-loop words from to k₀ i₀ k i = (i ≤ to) × (from ≤ i) × (k + length (fields (slice i to words)) ≡ length (fields (slice from to words)))
+Inv-loop words k₀ i₀ k i = (i ≤ length words) × (k + length (fields (drop i words)) ≡ length (fields words))
 
 abbrev μ-loop : tie.MeasureT-loop
-μ-loop words from to k₀ i₀ k i = to - i
+μ-loop words k₀ i₀ k i = length words - i
 
 loop-holds : tie.Need-loop-holds Inv-loop μ-loop
-loop-holds c = (omega arith, omega arith, omega arith)
+loop-holds c = (omega arith, omega arith)
 
 mul-wide : tie.Need-mul-wide Inv-loop μ-loop
 mul-wide c = search needs
@@ -40,7 +39,14 @@ add-k-2 : tie.Need-add-k-2 Inv-loop μ-loop
 add-k-2 c =
     let start = c .before .before .before .before .before .before in
     let ws = start .args .words .now in
-    omega (arith, c .digits-len .ensures, digits-length (c .before .wide .result), c .before .before .before .before .loop .inv .2, fields-length (slice (start .args .from) (start .args .to) ws), length-slice (start .args .from) (start .args .to) ws (start .pre .2), start .pre .1)
+    omega (
+      arith,
+      c .digits-len .ensures,
+      digits-length (c .before .wide .result),
+      c .before .before .before .before .loop .inv .1,
+      fields-length ws,
+      start .pre,
+    )
 
 add-i : tie.Need-add-i Inv-loop μ-loop
 add-i c = search needs
@@ -53,18 +59,18 @@ loop-again c =
     let start = c .before .before .before .before .before .before in
     let turn = c .before .before .before .before in
     let ws = start .args .words .now in
-    let to = start .args .to in
     let i = turn .loop .i in
-    let len = rw (c .before .wide .ensures .0) at (c .digits-len .ensures) in (
+    let len = rw (c .before .wide .ensures .0) at (c .digits-len .ensures) in
+    let next = drop-next 0 ws i (c .before .before .before .loop-test .taken) in (
       omega arith,
-      omega arith,
-      omega (arith, len, turn .loop .inv .2, ap length (fields-rest to ws (start .pre .2) i (c .before .before .before .loop-test .taken)), length-append (field (getD ws i 0)) (fields (slice (i + 1) to ws))),
+      omega (arith, len, turn .loop .inv .1, ap (λ l. length (fields l)) next, length-append (field (getD ws i 0)) (fields (drop (i + 1) ws))),
     )
 
 returns : tie.Need-returns Inv-loop μ-loop
 returns c =
     let start = c .before .before .before in
-    omega (arith, c .before .loop .inv .2, ap length (fields-end (start .args .to) (start .args .words .now) (start .pre .2) (c .before .loop .i) (c .loop-test .left)))
+    let none = drop-of-length-le (start .args .words .now) (c .loop-test .left) in
+    omega (arith, c .before .loop .inv .1, ap (λ l. length (fields l)) none)
 
 pub fields-len-spec : {M : Type 1} → statement M
 fields-len-spec =
