@@ -2,6 +2,7 @@
 use mathlib.Core.Path.{_≡_, refl}
 use mathlib.Core.List.{List, [], _∷_}
 use Prim.Native.Nat.{ℕ}
+use lib.ListN.{length}
 use lib.Ieee.{Float, binary64, ofBits}
 use Rattle.words.specs.Text.{ascii}
 use Rattle.rules.specs.Calls.{refused}
@@ -40,7 +41,7 @@ pub sound-before-room : listOutcome (told 0 (0 ∷ 0 ∷ 0 ∷ []) origin) ≡ r
 unfolding computing points-computing digits thousandths coordinate firstLine vertexLine faceLine keyText listText listRules listOutcome
 sound-before-room = refl
 
-pub untouched : listBuffer (told 0 (0 ∷ 0 ∷ 0 ∷ []) origin) [] ≡ []
+pub untouched : length (listBuffer (told 0 (0 ∷ 0 ∷ 0 ∷ []) origin) []) ≡ 0
 unfolding computing points-computing digits thousandths coordinate firstLine vertexLine faceLine keyText listText listRules listOutcome listBuffer
 untouched = refl
 

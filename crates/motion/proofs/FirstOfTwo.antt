@@ -2,7 +2,7 @@
 use mathlib.Core.Path.{_≡_, refl}
 use mathlib.Core.List.{List, [], _∷_}
 use Prim.Native.Nat.{ℕ}
-use lib.ListN.{replicate}
+use lib.ListN.{length, replicate}
 use lib.Ieee.{Float, binary64, ofBits}
 use Rattle.rules.specs.Calls.{refused}
 use Rattle.points.specs.declared.step.Step.the-variants as S
@@ -49,6 +49,6 @@ pub moved-before-room : moveOutcome (moveInput 1 1 1 (S.Slide 0 one) (large ∷ 
 unfolding computing movedLevels moveRules moveOutcome
 moved-before-room = refl
 
-pub untouched : moveBuffer (moveInput 1 1 1 (S.Slide 0 one) (large ∷ []) 0) [] ≡ []
+pub untouched : length (moveBuffer (moveInput 1 1 1 (S.Slide 0 one) (large ∷ []) 0) []) ≡ 0
 unfolding computing movedLevels moveRules moveOutcome moveBuffer
 untouched = refl

@@ -2,7 +2,7 @@
 use mathlib.Core.Path.{_≡_, refl}
 use mathlib.Core.List.{List, [], _∷_, _++_}
 use Prim.Native.Nat.{ℕ}
-use lib.ListN.{replicate}
+use lib.ListN.{length, replicate}
 use Rattle.words.specs.Text.{ascii}
 use Rattle.rules.specs.Calls.{refused}
 use Rattle.points.proofs.Computing.{computing}
@@ -55,6 +55,6 @@ pub twice-before-room : readOutcome (told (file 2 63 0 43 0)) ≡ refused 8
 unfolding computing filePoints fileCells readRules readOutcome
 twice-before-room = refl
 
-pub untouched : readPoints (told (file 2 63 0 43 0)) [] ≡ []
+pub untouched : length (readPoints (told (file 2 63 0 43 0)) []) ≡ 0
 unfolding computing filePoints fileCells readRules headerOf readOutcome readPoints
 untouched = refl
