@@ -1,11 +1,25 @@
 #!/usr/bin/env python3
-"""The must-fail edits: tries those of the large crates, and looks where the prover refused each one.
+"""The must-fail edits: each must be refused by the prover because something that was true no longer is.
 
 An edit is a slip in same-shaped code or in a definition. Its file has 'file:', 'old:' and 'new:' lines, as rt takes
-them, and a line 'refused in:' with the file of the crate in which the prover's first error must stand.
+them, and says what the slip must bring about:
+
+    refused in: FILE    the file of the crate in which the prover refuses it
+    fact: NAME          of a definition: the computed example in that file that no longer holds
+    changes: CASE       of code: the case of the trial that comes out different (trial.py)
+
+That the prover refuses is not enough: it also refuses what only fits a proof's text no longer. A definition has changed
+if an equation without variables now computes to another value (refusal.py), and code has changed if it writes something
+else on some input. Contracts state the whole answer, so then no proof of them could pass. An edit that changes nothing
+is worthless, and fails. worthless/*.edit are such edits, of the crate that their line 'crate:' names: they pass only if
+they are found so, in the words of their line 'worthless:'.
 
 crates/NAME/must-fail   tried by rt ci, each from nothing; its logs are read here
 crates/NAME/slips       of crates that take long to prove: tried here, each over what a first check has proved
+examples/NAME.txt       computed examples that are put to the copy of a crate as proofs/Shown.antt
+
+A proof rests on its own function's code and on contracts. So slips that are each in the function whose proof refuses
+them, no two in the same, are tried at once.
 
     check.py                    all of them, after rt ci
     check.py --slips NAME..     only the slips of these crates, after rt check
@@ -21,82 +35,63 @@ import sys
 import tempfile
 import time
 
-ROOT = pathlib.Path(__file__).resolve().parents[2]
-# An error that only says that a proof's text no longer has the code's shape; no fact was refused.
-SHAPE_ONLY = re.compile(r"has no `Need-")
+HERE = pathlib.Path(__file__).resolve().parent
+sys.path[:0] = [str(HERE), str(HERE.parent)]
+
+import trial  # noqa: E402
+from edit import ROOT, Bad, Edit, edits_of  # noqa: E402
+from refusal import is_example, refused  # noqa: E402
+from tally import Tally  # noqa: E402
 
 
-class Bad(Exception):
-    """An edit that cannot be applied as it is written."""
-
-
-def parts(edit):
-    """The replacements of an edit, as (file, old, new), and the file in which it must be refused."""
-    name, old, found, place = None, None, [], None
-    for line in edit.read_text().splitlines():
-        if line.startswith("file: "):
-            name = line[len("file: "):]
-        elif line.startswith("old: "):
-            old = line[len("old: "):]
-        elif line.startswith("new:"):
-            found.append((name, old, line[len("new:"):].removeprefix(" ")))
-        elif line.startswith("refused in: "):
-            place = line[len("refused in: "):]
+def problem(edit, log, paths, text, same):
+    """What is wrong with an edit, or None: its log, how the paths of its crate go on there, the text of the file in
+    which it must be refused, and whether its case comes out the same."""
+    if "\nlogic=" not in log:
+        return "no verdict: " + log[-300:]
+    found = [r for r in refused(log, paths) if not r.idle()]
     if not found:
-        raise Bad("it has no 'old:' and 'new:' pair")
-    return found, place
+        return "not refused"
+    here = [r for r in found if r.file == edit.place]
+    if edit.of_code():
+        if not here:
+            return f"not refused in {edit.place}, but in {found[0].file}"
+        if same is None:
+            return f"there is no case '{edit.case}', or it cannot be run"
+        return f"changes nothing: '{edit.case}' comes out the same, though {edit.place} is refused" if same else None
+    if not edit.fact or not is_example(text, edit.fact):
+        return f"{edit.place} has no computed example '{edit.fact}'"
+    of_fact = [r for r in here if r.name == edit.fact]
+    if not of_fact:
+        return f"changes nothing: {edit.fact} still holds, though {found[0].file} is refused"
+    return None if any(r.two_values() for r in of_fact) else f"{edit.fact} is refused, but does not show two values"
 
 
-def apply(edit, crate):
-    for name, old, new in parts(edit)[0]:
-        file = crate / name
-        text = file.read_text()
-        if text.count(old) != 1:
-            raise Bad(f"{name} has its 'old:' text {text.count(old)} times")
-        file.write_text(text.replace(old, new))
-
-
-def first_error(log, crate):
-    """The file of the crate where the prover's first error stands, or else its first note, and what it says."""
-    for start in (r"(\S+?):\d+:\d+: error(.*)", r"note: (\S+?):\d+:\d+: (.*)"):
-        found = re.search("^" + start, log, re.MULTILINE)
-        if found:
-            return found[1].split(f"{crate}/", 1)[-1], found[2]
-    return None, ""
-
-
-def verdict(edit, log, crate):
-    """What is wrong with the refusal of an edit, or None."""
-    if "\nlogic=not-proved" not in log:
-        return "NOT REFUSED" if "\nlogic=proved" in log else "no verdict: " + log[-300:]
-    wanted = parts(edit)[1]
-    place, error = first_error(log, crate)
-    if SHAPE_ONLY.search(error):
-        return f"refused in {place}, but only for the shape of the proof"
-    if place != wanted:
-        return f"refused in {place}, and not in {wanted}"
-    return None
-
-
-def told(kind, edit, problem, seconds=None):
+def told(kind, edit, wrong, seconds=None):
+    """The result of an edit: whether it passes, and a line about it."""
     took = "" if seconds is None else f" ({seconds:.0f} s)"
-    label = f"{edit.parents[1].name}/{edit.stem}"
-    if problem:
-        return False, f"{kind} {label}: {problem}{took}"
-    return True, f"{kind} {label}: refused in {parts(edit)[1]}{took}"
+    if edit.worthless:
+        good = (wrong or "").startswith(edit.worthless)
+        return good, f"worthless {edit.label}: {'found so: ' if good else 'NOT found so: '}{wrong}{took}"
+    seen = edit.case if edit.of_code() else edit.fact
+    return not wrong, f"{kind} {edit.label}: {wrong or f'refused in {edit.place}; changes {seen}'}{took}"
 
 
-def tried_by_rt(edit):
-    crate = edit.parents[1].name
-    log = ROOT / "target" / "must-fail" / crate / edit.stem / ".log"
-    if not log.is_file():
-        return told("must-fail", edit, "was not tried: run rt ci first")
-    return told("must-fail", edit, verdict(edit, log.read_text(), f"must-fail/{crate}/{edit.stem}"))
-
-
-def check(root, name):
+def prove(root, name):
     run = subprocess.run(["rt", "dev", name], cwd=root, text=True, stdout=subprocess.PIPE, stderr=subprocess.STDOUT)
     return "\n" + run.stdout
+
+
+def renew(root, name):
+    """Puts the crate as it is, with the examples kept here, into the copy."""
+    crate, examples = root / "crates" / name, HERE / "examples" / f"{name}.txt"
+    shutil.rmtree(crate, ignore_errors=True)
+    shutil.copytree(ROOT / "crates" / name, crate)
+    if examples.is_file():
+        shutil.copy(examples, crate / "proofs" / "Shown.antt")
+        with (crate / "proofs" / "Lib.antt").open("a") as lib:
+            lib.write("pub mod Shown\n")
+    return crate
 
 
 def prepared(root):
@@ -108,50 +103,112 @@ def prepared(root):
         (root / "target" / part).symlink_to(ROOT / "target" / part)
 
 
-def slips_of(name):
-    """Tries the slips of a crate: one check of the crate as it is, then one for each slip over what that proved."""
-    edits = sorted((ROOT / "crates" / name / "slips").glob("*.edit"))
+def comes_out_same(edit, root):
+    """Whether the case that an edit of code names comes out as before; None where it cannot be told."""
+    if not edit.of_code() or not edit.case or not trial.known(edit.case):
+        return None
+    try:
+        edit.apply(root / "crates" / edit.crate)
+        return trial.run(root, edit.case)[1]
+    except Bad:
+        return None
+    finally:
+        renew(root, edit.crate)
+
+
+def in_own_function(edit):
+    """Whether the edit is all in the function whose proof must refuse it."""
+    def function(file, old):
+        text = (ROOT / "crates" / edit.crate / file).read_text()
+        return re.findall(r"\bfn (\w+)", text[:text.find(old)])[-1:]
+    place = pathlib.Path(edit.place or "")
+    return edit.of_code() and place.name == "Proof.antt" and all(function(f, o) == [place.parent.name] for f, o, _ in edit.pairs)
+
+
+def batches(edits):
+    """The edits, those together that can be tried at once."""
+    found = []
+    for edit in edits:
+        for batch in found if in_own_function(edit) else []:
+            if all(in_own_function(e) and e.place != edit.place for e in batch):
+                batch.append(edit)
+                break
+        else:
+            found.append([edit])
+    return found
+
+
+def tried(root, batch, kept, same):
+    """Tries the edits of a batch over what a check of the crate has proved."""
+    name = batch[0].crate
+    crate, warm, began = root / "crates" / name, root / "target" / "inc" / name, time.time()
+    shutil.copytree(kept, warm)
+    texts = {e: (crate / e.place).read_text() if (crate / (e.place or "?")).is_file() else "" for e in batch}
+    try:
+        for edit in batch:
+            edit.apply(crate)
+        log = prove(root, name)
+        wrong = [problem(e, log, f"crates/{name}", texts[e], same[e]) for e in batch]
+    except Bad as bad:
+        wrong = [f"BAD EDIT: {bad}"] * len(batch)
+    took = (time.time() - began) / len(batch)
+    renew(root, name)
+    shutil.rmtree(warm, ignore_errors=True)
+    return [told("slip", e, w, took) for e, w in zip(batch, wrong)]
+
+
+def edits_in(name, with_logs):
+    """Tries the edits of a crate, with those that rt ci has tried where there are logs."""
+    worthless = [e for e in map(Edit, sorted((HERE / "worthless").glob("*.edit"))) if e.crate == name]
+    slips, results = edits_of(name, "slips") + worthless, []
+    logged = edits_of(name, "must-fail") if with_logs else []
+    if not slips and not logged:
+        return []
     with tempfile.TemporaryDirectory() as folder:
         root = pathlib.Path(folder)
         prepared(root)
-        crate, warm, kept = root / "crates" / name, root / "target" / "inc" / name, root / "proved"
-        if "\nlogic=proved" not in check(root, name):
-            return [(False, f"slips of {name}: the crate itself is not proved")]
-        warm.rename(kept)
-        results = []
-        for edit in edits:
-            shutil.copytree(kept, warm)
-            began = time.time()
-            try:
-                apply(edit, crate)
-                problem = verdict(edit, check(root, name), f"crates/{name}")
-            except Bad as bad:
-                problem = f"BAD EDIT: {bad}"
-            results.append(told("slip", edit, problem, time.time() - began))
-            shutil.rmtree(crate)
-            shutil.copytree(ROOT / "crates" / name, crate)
-            shutil.rmtree(warm)
-        return results
+        crate = renew(root, name)
+        for edit in logged:
+            log = ROOT / "target" / "must-fail" / name / edit.path.stem / ".log"
+            text = (crate / edit.place).read_text() if (crate / (edit.place or "?")).is_file() else ""
+            said = "\n" + log.read_text() if log.is_file() else "\nnot tried: run rt ci first"
+            wrong = problem(edit, said, f"must-fail/{name}/{edit.path.stem}", text, comes_out_same(edit, root))
+            results.append(told("must-fail", edit, wrong))
+        if not slips:
+            return results
+        if "\nlogic=proved" not in prove(root, name):
+            return results + [(False, f"slips of {name}: the crate itself is not proved")]
+        kept = (root / "target" / "inc" / name).rename(root / "proved")
+        same = {edit: comes_out_same(edit, root) for edit in slips}
+        for batch in batches(slips):
+            results += tried(root, batch, kept, same)
+    return results
+
+
+def trial_as_it_is():
+    with tempfile.TemporaryDirectory() as folder:
+        root = pathlib.Path(folder)
+        prepared(root)
+        said, same = trial.run(root, None)
+    return bool(same), f"the trial as it is: {'comes out as it says' if same else said}"
 
 
 def main():
     parser = argparse.ArgumentParser(description=__doc__, formatter_class=argparse.RawDescriptionHelpFormatter)
     parser.add_argument("--slips", nargs="+", metavar="NAME", help="only the slips of these crates")
-    chosen = parser.parse_args().slips
-    crates = sorted((ROOT / "crates").iterdir())
-    slips = chosen or [c.name for c in crates if (c / "slips").is_dir()]
-    slips.sort(key=lambda name: -len(list((ROOT / "crates" / name / "slips").glob("*.edit"))))
-    results = [] if chosen else [tried_by_rt(e) for c in crates for e in sorted((c / "must-fail").glob("*.edit"))]
-    for _, line in results:
-        print(line)
+    given = parser.parse_args().slips
+    names = given or [c.name for c in (ROOT / "crates").iterdir()]
+    names.sort(key=lambda name: -len(list((ROOT / "crates" / name / "slips").glob("*.edit"))))
+    tally = Tally()
     with concurrent.futures.ThreadPoolExecutor(min(os.cpu_count() or 1, 4)) as pool:
-        for tried in pool.map(slips_of, slips):
-            for _, line in tried:
-                print(line, flush=True)
-            results += tried
-    passed = sum(good for good, _ in results)
-    print(f"{passed} passed, {len(results) - passed} failed")
-    return passed != len(results)
+        waiting = [pool.submit(edits_in, name, not given) for name in names]
+        waiting.append(pool.submit(lambda: [trial_as_it_is()]))
+        for done in waiting:
+            for good, line in done.result():
+                tally.check(line, good)
+                if good:
+                    print(line, flush=True)
+    return tally.finish()
 
 
 if __name__ == "__main__":

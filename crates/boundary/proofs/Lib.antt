@@ -4,3 +4,5 @@ pub mod Lone
 pub mod EntryWords
 pub mod Counting
 pub mod Outcomes
+pub mod Examples
+pub mod FirstOfTwo

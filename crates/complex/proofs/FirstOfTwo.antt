@@ -5,7 +5,7 @@ use Prim.Native.Nat.{ℕ}
 use Rattle.rules.specs.Calls.{firstRefusal}
 use Rattle.complex.specs.Accept.{Listed, solidRules}
 
-abbrev told : ℕ → ℕ → ℕ → List ℕ → ℕ
+abbrev pub told : ℕ → ℕ → ℕ → List ℕ → ℕ
 told d v s words = firstRefusal solidRules (record { d = d; v = v; s = s; words = words })
 
 -- a point with the sign word 2 on vertex 5 of one

@@ -1,2 +1,3 @@
 -- The cases of the call list.
 pub mod ListCases
+pub mod FirstOfTwo

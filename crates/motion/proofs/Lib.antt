@@ -1,2 +1,3 @@
 -- The rules of the call move.
 pub mod MoveRules
+pub mod FirstOfTwo

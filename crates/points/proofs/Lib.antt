@@ -6,3 +6,4 @@ pub mod Moved
 pub mod LevelLaws
 pub mod Writing
 pub mod Staying
+pub mod Computing

@@ -13,3 +13,4 @@ pub mod Meeting
 pub mod SweptSolid
 pub mod SweptWings
 pub mod SweptTable
+pub mod Examples

@@ -1,2 +1,3 @@
 -- The rules of the call read.
 pub mod Outcomes
+pub mod FirstOfTwo

@@ -4,3 +4,4 @@ pub mod InLimits
 pub mod Shaping
 pub mod Answers
 pub mod Accepting
+pub mod Examples

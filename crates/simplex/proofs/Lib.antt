@@ -5,6 +5,7 @@
 --   Sums Counts Cancel FaceCounts       sums over signed cells and over faces; faces that cancel
 --   Pairs Sunk Sinking                  one entry sinks to its place
 --   Front Eight Ordered                 the first entries of a row of eight put in order
+--   Examples                            two signs, computed
 pub mod Signs
 pub mod Rows
 pub mod Without
@@ -25,3 +26,4 @@ pub mod Sinking
 pub mod Front
 pub mod Eight
 pub mod Ordered
+pub mod Examples

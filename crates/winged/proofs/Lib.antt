@@ -4,3 +4,4 @@ pub mod Hosting
 pub mod Inward
 pub mod FaceBytes
 pub mod FaceOutcomes
+pub mod Examples

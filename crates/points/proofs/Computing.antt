@@ -1,0 +1,7 @@
+-- One name that opens what is said of points and steps, so that an example is proved by computing both sides.
+use lib.Ieee.{add, sub, mul, neg, lt, le, ofBits}
+use Rattle.points.specs.Step.{inRange, onCircle, stepFits, addAt, turned, movedPoint}
+
+unfoldable pub computing : Unit {0}
+unfolding add sub mul neg lt le ofBits inRange onCircle stepFits addAt turned movedPoint
+computing = tt
