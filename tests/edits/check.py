@@ -6,6 +6,7 @@ them, and says what the slip must bring about:
 
     refused in: FILE    the file of the crate in which the prover refuses it
     fact: NAME          of a definition: the computed example in that file that no longer holds
+    refuted: CASE       of a theorem: the case in which the prover shows that the edited sentence is false
     changes: CASE       of code: the case of the trial that comes out different (trial.py)
 
 That the prover refuses is not enough: it also refuses what only fits a proof's text no longer. A definition has changed
@@ -17,6 +18,7 @@ they are found so, in the words of their line 'worthless:'.
 crates/NAME/must-fail   tried by rt ci, each from nothing; its logs are read here
 crates/NAME/slips       of crates that take long to prove: tried here, each over what a first check has proved
 examples/NAME.txt       computed examples that are put to the copy of a crate as proofs/Shown.antt
+refutations/NAME.txt    cases in which an edited theorem is false: after what they share, each from a line '-- case CASE'
 
 A proof rests on its own function's code and on contracts. So slips that are each in the function whose proof refuses
 them, no two in the same, are tried at once.
@@ -46,7 +48,7 @@ from tally import Tally  # noqa: E402
 
 def problem(edit, log, paths, text, same):
     """What is wrong with an edit, or None: its log, how the paths of its crate go on there, the text of the file in
-    which it must be refused, and whether its case comes out the same."""
+    which it must be refused, and whether its case comes out the same, or its sentence is not refuted."""
     if "\nlogic=" not in log:
         return "no verdict: " + log[-300:]
     found = [r for r in refused(log, paths) if not r.idle()]
@@ -59,6 +61,10 @@ def problem(edit, log, paths, text, same):
         if same is None:
             return f"there is no case '{edit.case}', or it cannot be run"
         return f"changes nothing: '{edit.case}' comes out the same, though {edit.place} is refused" if same else None
+    if edit.refuted:
+        if not here:
+            return f"not refused in {edit.place}, but in {found[0].file}"
+        return f"changes nothing: it is not refuted, though {edit.place} is refused" if same else None
     if not edit.fact or not is_example(text, edit.fact):
         return f"{edit.place} has no computed example '{edit.fact}'"
     of_fact = [r for r in here if r.name == edit.fact]
@@ -73,8 +79,8 @@ def told(kind, edit, wrong, seconds=None):
     if edit.worthless:
         good = (wrong or "").startswith(edit.worthless)
         return good, f"worthless {edit.label}: {'found so: ' if good else 'NOT found so: '}{wrong}{took}"
-    seen = edit.case if edit.of_code() else edit.fact
-    return not wrong, f"{kind} {edit.label}: {wrong or f'refused in {edit.place}; changes {seen}'}{took}"
+    seen = f"false {edit.refuted}" if edit.refuted else f"changes {edit.case if edit.of_code() else edit.fact}"
+    return not wrong, f"{kind} {edit.label}: {wrong or f'refused in {edit.place}; {seen}'}{took}"
 
 
 def prove(root, name):
@@ -113,6 +119,33 @@ def comes_out_same(edit, root):
     except Bad:
         return None
     finally:
+        renew(root, edit.crate)
+
+
+def refutation(edit):
+    """The proof that the edited sentence is false: what the cases share, and the case that the edit names."""
+    shared, *cases = re.split(r"^-- case ", (HERE / "refutations" / f"{edit.crate}.txt").read_text(), flags=re.MULTILINE)
+    for case in cases:
+        name, text = case.split("\n", 1)
+        if name == edit.refuted:
+            return shared + text
+    raise Bad(f"there is no case '{edit.refuted}'")
+
+
+def not_refuted(edit, root):
+    """Whether the prover, given the edited definitions alone, does not show that the sentence is false."""
+    crate = root / "crates" / edit.crate
+    try:
+        edit.apply(crate)
+        shutil.rmtree(crate / "proofs")
+        (crate / "proofs").mkdir()
+        (crate / "proofs" / "Lib.antt").write_text("-- A refutation.\npub mod Refuted\n")
+        (crate / "proofs" / "Refuted.antt").write_text(refutation(edit))
+        return "\nlogic=proved" not in prove(root, edit.crate)
+    except Bad:
+        return True
+    finally:
+        shutil.rmtree(root / "target" / "inc" / edit.crate, ignore_errors=True)
         renew(root, edit.crate)
 
 
@@ -179,7 +212,7 @@ def edits_in(name, with_logs):
         if "\nlogic=proved" not in prove(root, name):
             return results + [(False, f"slips of {name}: the crate itself is not proved")]
         kept = (root / "target" / "inc" / name).rename(root / "proved")
-        same = {edit: comes_out_same(edit, root) for edit in slips}
+        same = {edit: not_refuted(edit, root) if edit.refuted else comes_out_same(edit, root) for edit in slips}
         for batch in batches(slips):
             results += tried(root, batch, kept, same)
     return results

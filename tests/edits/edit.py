@@ -2,7 +2,7 @@
 import pathlib
 
 ROOT = pathlib.Path(__file__).resolve().parents[2]
-NAMES = ("crate", "refused in", "fact", "changes", "worthless")
+NAMES = ("crate", "refused in", "fact", "refuted", "changes", "worthless")
 
 
 class Bad(Exception):
@@ -26,7 +26,8 @@ class Edit:
                 said[name] = text
         self.crate = said.get("crate") or path.parents[1].name
         self.place = said.get("refused in")
-        self.fact, self.case, self.worthless = said.get("fact"), said.get("changes"), said.get("worthless")
+        self.fact, self.refuted, self.case = said.get("fact"), said.get("refuted"), said.get("changes")
+        self.worthless = said.get("worthless")
         self.label = f"{self.crate}/{path.stem}"
 
     def of_code(self):

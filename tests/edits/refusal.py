@@ -52,7 +52,7 @@ def refused(log, crate):
 def is_example(text, name):
     """Whether a file's declaration is an equation without variables, proved by computing, or a record of such.
 
-    An instance of a law counts too: what the law, as r, says at given values.
+    An instance of a law counts too: what the law, as r, says at given values; and a law under computed conditions.
     """
     body = re.search(rf"^{re.escape(name)}(?P<given>(?: r)?) =\s+(?P<proof>\S.*(?:\n .*)*)", text, re.MULTILINE)
     if not body:
@@ -60,4 +60,6 @@ def is_example(text, name):
     proof = " ".join(body["proof"].split())
     if body["given"]:
         return re.fullmatch(r"r( \.[\w-]+)+( [^λ]*)?", proof) is not None
-    return re.fullmatch(r"refl|record \{( [\w-]+ = (refl|\(refl(, refl)*\));?)+ \}", proof) is not None
+    one = r"[\w-]+( (_|refl|\([\w-]+ \.\d\)))*"
+    each = rf"({one}|\({one}(, {one})*\))"
+    return re.fullmatch(rf"{each}|record \{{( [\w-]+ = {each};?)+ \}}", proof) is not None

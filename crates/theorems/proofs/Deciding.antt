@@ -8,13 +8,19 @@ use lib.ListN.{take}
 use Rattle.simplex.specs.Cell.{Cell}
 use Rattle.simplex.specs.Chain.{countOn, Same}
 use Rattle.third_term.specs.ThirdTerm.{solid, boundary}
-use Rattle.theorems.specs.Deciding.{Deciding, Equal, circle, reversed, points, exchanged, sweptRing}
+use Rattle.theorems.specs.Deciding.{Deciding, Equal, circle, reversed, ring, points, exchanged, sweptRing}
 use Rattle.theorems.proofs.Computing.{computing}
 
--- at the row 0 1: once with plus in the circle, never in its reverse
-apart : Equal circle reversed → ⊥
+once-in-circle : countOn true (0 ∷ 1 ∷ []) (ring circle) ≡ 1
 unfolding computing
-apart e = let z : _≡_ {A = ℕ} 1 0 = e true (0 ∷ 1 ∷ []) in omega arith
+once-in-circle = refl
+
+never-in-reverse : countOn true (0 ∷ 1 ∷ []) (ring reversed) ≡ 0
+unfolding computing
+never-in-reverse = refl
+
+apart : Equal circle reversed → ⊥
+apart e = omega (arith, once-in-circle, never-in-reverse, e true (0 ∷ 1 ∷ []))
 
 -- the bottom copy has the row 0 1 with plus in the one, with minus in the other
 swept-apart : Same (sweptRing 1 circle) (sweptRing 1 reversed) → ⊥
