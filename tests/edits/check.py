@@ -21,7 +21,8 @@ examples/NAME.txt       computed examples that are put to the copy of a crate as
 refutations/NAME.txt    cases in which an edited theorem is false: after what they share, each from a line '-- case CASE'
 
 A proof rests on its own function's code and on contracts. So slips that are each in the function whose proof refuses
-them, no two in the same, are tried at once.
+them, no two in the same, are tried at once. A proof by hand rests on the theorems of the functions that it calls, so
+slips in such functions are tried by themselves.
 
     check.py                    all of them, after rt ci
     check.py --slips NAME..     only the slips of these crates, after rt check
@@ -150,12 +151,17 @@ def not_refuted(edit, root):
 
 
 def in_own_function(edit):
-    """Whether the edit is all in the function whose proof must refuse it."""
+    """Whether the edit is all in the function whose proof must refuse it, and no proof by hand is concerned."""
+    crate = ROOT / "crates" / edit.crate
+
     def function(file, old):
-        text = (ROOT / "crates" / edit.crate / file).read_text()
+        text = (crate / file).read_text()
         return re.findall(r"\bfn (\w+)", text[:text.find(old)])[-1:]
     place = pathlib.Path(edit.place or "")
-    return edit.of_code() and place.name == "Proof.antt" and all(function(f, o) == [place.parent.name] for f, o, _ in edit.pairs)
+    if not edit.of_code() or place.name != "Proof.antt" or any(function(f, o) != [place.parent.name] for f, o, _ in edit.pairs):
+        return False
+    cited = {name for p in (crate / "proofs").rglob("*.antt") for name in re.findall(r"\.(\w+)\.Met as ", p.read_text())}
+    return place.parent.name not in cited and ".Tie as " in (crate / place).read_text()
 
 
 def batches(edits):
