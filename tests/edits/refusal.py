@@ -16,6 +16,7 @@ DIFFERENT = re.compile(
     r"computed as far as they go, the two types (?:are|differ only where one has|first differ where one has) `([^`]*)`"
     r"\s+\(expected\)[^`]*`([^`]*)`\s+\(found\)"
 )
+STATED = re.compile(r"expected type `([^`]*)`,?\s+but this has type `([^`]*)`")
 VALUES = {"Path", "record", "true", "false", "accepted", "refused", "pos", "negsuc", "[]", "_∷_", "∷", "_≤_", "≤", "→"}
 TYPES = {"ℕ", "ℤ", "Bool", "List", "Outcome"}
 FIELDS = {"sign", "row", "cell", "position", "wings"}
@@ -33,15 +34,23 @@ class Refused:
         return bool(IDLE.search(self.text))
 
     def two_values(self):
-        """Whether the refused equation computes to two different values."""
-        found = DIFFERENT.search(self.text)
-        return bool(found) and is_value(found[1]) and is_value(found[2]) and found[1] != found[2]
+        """Whether what is refused computes to two different values, or states one number in place of another."""
+        found, stated = DIFFERENT.search(self.text), STATED.search(self.text)
+        if found:
+            return is_value(found[1]) and is_value(found[2]) and found[1] != found[2]
+        return bool(stated) and one_number(stated[1].split(), stated[2].split())
 
 
 def is_value(text):
     """Whether a text has numbers and constructors only."""
     words = re.findall(r"[^\s(){};,=]+", text)
     return all(w.isdigit() or w.rsplit(".", 1)[-1] in VALUES | TYPES | FIELDS for w in words)
+
+
+def one_number(these, those):
+    """Whether two texts differ in a single number."""
+    different = [(x, y) for x, y in zip(these, those) if x != y]
+    return len(these) == len(those) and len(different) == 1 and all(x.isdigit() for x in different[0])
 
 
 def refused(log, crate):

@@ -1,11 +1,10 @@
 -- What is printed for small inputs, computed.
 use mathlib.Core.Path.{_≡_, refl}
 use mathlib.Core.List.{List, [], _∷_, _++_}
-use Prim.Native.Nat.{ℕ, suc}
+use Prim.Native.Nat.{ℕ}
 use lib.ListN.{length, replicate}
 use lib.Ieee.{binary64, ofBits}
 use Rattle.words.specs.Records.{tabulate, concat}
-use Rattle.words.specs.Text.{ascii}
 use Rattle.rules.specs.Calls.{accepted, refused}
 use Rattle.complex.proofs.Computing.{computing}
 use Rattle.wing.specs.Wing.{wingRules, wingOutcome}
@@ -16,9 +15,9 @@ use Rattle.motion.specs.Move.{movedLevels, moveRules, moveOutcome}
 use Rattle.file.specs.File.{filePoints, fileCells}
 use Rattle.file.specs.Tests.{fileWords}
 use Rattle.read.specs.declared.Header.{Header}
-use Rattle.read.specs.Read.{readRules, headerOf, readOutcome}
+use Rattle.read.specs.Read.{readRules, readOutcome}
 use Rattle.printing.specs.Decimal.{digits}
-use Rattle.marking.specs.Key.{listIn, keyOutcome, printed, textOutcome}
+use Rattle.marking.specs.Key.{listIn, callsOn, keyOutcome, printed, textOutcome}
 
 -- no bytes: ten are printed, "refused 1" and a line feed
 pub ten-bytes : textOutcome [] 10 ≡ accepted 10
@@ -33,15 +32,13 @@ pub points-of-both-levels : length (listIn (replicate 6 0 ++ (1 ∷ 1 ∷ [])) s
 unfolding points-computing filePoints movedLevels
 points-of-both-levels = refl
 
--- 33 segments in a row, in 64 steps of 1,048,575: too many cells for sweep, and out of range for move
-abbrev row : List ℕ
-row =
-    ascii "WNG"
-    ++ (1 ∷ 0 ∷ 1 ∷ 2 ∷ 34 ∷ 0 ∷ 33 ∷ 0 ∷ 64 ∷ 0 ∷ 1 ∷ 0 ∷ 0 ∷ [])
-    ++ (0 ∷ 0 ∷ 0 ∷ 0 ∷ 254 ∷ 255 ∷ 47 ∷ 65 ∷ [])
-    ++ replicate 560 0
-    ++ concat (tabulate 33 (λ p. 43 ∷ p ∷ 0 ∷ suc p ∷ 0 ∷ []))
+-- one cell of dimension 7, moved on axis 1 of one: too much for sweep, and unfit for move; read would not let it through
+abbrev eight : List ℕ
+eight = replicate 5 0 ++ (7 ∷ 1 ∷ 8 ∷ 0 ∷ 1 ∷ []) ++ replicate 94 0 ++ (43 ∷ concat (tabulate 8 (λ p. p ∷ 0 ∷ [])))
 
-pub sweep-before-move : keyOutcome row ≡ refused 12
-unfolding computing points-computing filePoints fileCells fileWords readRules headerOf readOutcome wingRules wingOutcome sweepRules sweepOutcome movedLevels moveRules moveOutcome keyOutcome
+abbrev unfit : Header
+unfit = record { d = 7; n = 1; v = 8; s = 1; h = 1; step = S.Slide 1 (ofBits binary64 0) }
+
+pub sweep-before-move : callsOn eight unfit ≡ refused 2
+unfolding computing points-computing filePoints fileCells fileWords wingRules wingOutcome sweepRules sweepOutcome movedLevels moveRules moveOutcome
 sweep-before-move = refl
