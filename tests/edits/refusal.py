@@ -16,8 +16,7 @@ DIFFERENT = re.compile(
     r"computed as far as they go, the two types (?:are|differ only where one has|first differ where one has) `([^`]*)`"
     r"\s+\(expected\)[^`]*`([^`]*)`\s+\(found\)"
 )
-STATED = re.compile(r"expected type `([^`]*)`,?\s+but this has type `([^`]*)`")
-VALUES = {"Path", "record", "true", "false", "accepted", "refused", "pos", "negsuc", "[]", "_∷_", "∷", "_≤_", "≤", "→"}
+VALUES = {"Path", "record", "true", "false", "accepted", "refused", "pos", "negsuc", "[]", "_∷_"}
 TYPES = {"ℕ", "ℤ", "Bool", "List", "Outcome"}
 FIELDS = {"sign", "row", "cell", "position", "wings"}
 
@@ -34,23 +33,15 @@ class Refused:
         return bool(IDLE.search(self.text))
 
     def two_values(self):
-        """Whether what is refused computes to two different values, or states one number in place of another."""
-        found, stated = DIFFERENT.search(self.text), STATED.search(self.text)
-        if found:
-            return is_value(found[1]) and is_value(found[2]) and found[1] != found[2]
-        return bool(stated) and one_number(stated[1].split(), stated[2].split())
+        """Whether the refused equation computes to two different values."""
+        found = DIFFERENT.search(self.text)
+        return bool(found) and is_value(found[1]) and is_value(found[2]) and found[1] != found[2]
 
 
 def is_value(text):
     """Whether a text has numbers and constructors only."""
     words = re.findall(r"[^\s(){};,=]+", text)
     return all(w.isdigit() or w.rsplit(".", 1)[-1] in VALUES | TYPES | FIELDS for w in words)
-
-
-def one_number(these, those):
-    """Whether two texts differ in a single number."""
-    different = [(x, y) for x, y in zip(these, those) if x != y]
-    return len(these) == len(those) and len(different) == 1 and all(x.isdigit() for x in different[0])
 
 
 def refused(log, crate):
@@ -61,7 +52,7 @@ def refused(log, crate):
 def is_example(text, name):
     """Whether a file's declaration is an equation without variables, proved by computing, or a record of such.
 
-    An instance of a law counts too: what the law, as r, says at given values; and a law under computed conditions.
+    An instance of a law counts too: what the law, as r, says at given values. A record may cite other declarations.
     """
     body = re.search(rf"^{re.escape(name)}(?P<given>(?: r)?) =\s+(?P<proof>\S.*(?:\n .*)*)", text, re.MULTILINE)
     if not body:
@@ -69,6 +60,4 @@ def is_example(text, name):
     proof = " ".join(body["proof"].split())
     if body["given"]:
         return re.fullmatch(r"r( \.[\w-]+)+( [^λ]*)?", proof) is not None
-    one = r"[\w-]+( (_|refl|\([\w-]+ \.\d\)))*"
-    each = rf"({one}|\({one}(, {one})*\))"
-    return re.fullmatch(rf"{each}|record \{{( [\w-]+ = {each};?)+ \}}", proof) is not None
+    return re.fullmatch(r"refl|record \{( [\w-]+ = ([\w-]+|\([\w-]+(, [\w-]+)*\));?)+ \}", proof) is not None

@@ -49,9 +49,12 @@ pointAmong v = listed 0 v (cellOf "+0" ∷ [])
 abbrev pub zerosSlid : ℕ → ℕ → MoveInput
 zerosSlid v h = moveInput 1 v h (S.Slide 0 one) (replicate v (ofBits binary64 0)) ample
 
--- V 2,048, h 1 is accepted, and V 1,366, h 2 is refused 12, by move too
-abbrev pub K9OfMove : Type 0
-K9OfMove = (moveOutcome (zerosSlid 2048 1) ≡ accepted 4096) × (moveOutcome (zerosSlid 1366 2) ≡ refused 12)
+-- V 2,048, h 1 and V 1,366, h 2
+abbrev pub k9Most : MoveInput
+k9Most = zerosSlid 2048 1
+
+abbrev pub k9Over : MoveInput
+k9Over = zerosSlid 1366 2
 
 pub record MarkedKeys : Type 0 where
   pub k1 : printed k1File ≡ ascii "key 1 1 2 2\nv 0 0.500\nv 1 1.500\n+ 1\n- 0\n"
@@ -77,5 +80,7 @@ pub record MarkedKeys : Type 0 where
   pub k7 : (sidePair 2 0 0 ≡ side 1 2) × (sidePair 2 0 1 ≡ side 2 1)
   pub k8 :
       (sweepOutcome (swept 3 k8Solid) ≡ accepted 390) × (wingAt (sweptEntries 3 k8Solid) 4 0 ≡ 10) × (wingAt (sweptEntries 3 k8Solid) 10 5 ≡ 4)
-  pub k9 : (sweepOutcome (swept 1 (pointAmong 2048)) ≡ accepted 5) × (sweepOutcome (swept 2 (pointAmong 1366)) ≡ refused 12) × K9OfMove
+  pub k9 :
+      (sweepOutcome (swept 1 (pointAmong 2048)) ≡ accepted 5) × (sweepOutcome (swept 2 (pointAmong 1366)) ≡ refused 12)
+      × (moveOutcome k9Most ≡ accepted 4096) × (moveOutcome k9Over ≡ refused 12)
   pub k10 : wingOutcome (toWing (listed 2 4 (cellOf "+012" ∷ cellOf "+123" ∷ []))) ≡ refused 11
