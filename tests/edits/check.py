@@ -17,7 +17,6 @@ they are found so, in the words of their line 'worthless:'.
 
 crates/NAME/must-fail   tried by rt ci, each from nothing; its logs are read here
 crates/NAME/slips       of crates that take long to prove: tried here, each over what a first check has proved
-examples/NAME.txt       computed examples that are put to the copy of a crate as proofs/Shown.antt
 refutations/NAME.txt    cases in which an edited theorem is false: after what they share, each from a line '-- case CASE'
 
 A proof rests on its own function's code and on contracts. So slips that are each in the function whose proof refuses
@@ -90,14 +89,10 @@ def prove(root, name):
 
 
 def renew(root, name):
-    """Puts the crate as it is, with the examples kept here, into the copy."""
-    crate, examples = root / "crates" / name, HERE / "examples" / f"{name}.txt"
+    """Puts the crate as it is into the copy."""
+    crate = root / "crates" / name
     shutil.rmtree(crate, ignore_errors=True)
     shutil.copytree(ROOT / "crates" / name, crate)
-    if examples.is_file():
-        shutil.copy(examples, crate / "proofs" / "Shown.antt")
-        with (crate / "proofs" / "Lib.antt").open("a") as lib:
-            lib.write("pub mod Shown\n")
     return crate
 
 
@@ -239,7 +234,7 @@ def main():
     names = given or [c.name for c in (ROOT / "crates").iterdir()]
     names.sort(key=lambda name: -len(list((ROOT / "crates" / name / "slips").glob("*.edit"))))
     tally = Tally()
-    with concurrent.futures.ThreadPoolExecutor(min(os.cpu_count() or 1, 4)) as pool:
+    with concurrent.futures.ThreadPoolExecutor((os.cpu_count() or 1) + 1) as pool:
         waiting = [pool.submit(edits_in, name, not given) for name in names]
         waiting.append(pool.submit(lambda: [trial_as_it_is()]))
         for done in waiting:

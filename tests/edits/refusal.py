@@ -16,7 +16,7 @@ DIFFERENT = re.compile(
     r"computed as far as they go, the two types (?:are|differ only where one has|first differ where one has) `([^`]*)`"
     r"\s+\(expected\)[^`]*`([^`]*)`\s+\(found\)"
 )
-VALUES = {"Path", "record", "true", "false", "accepted", "refused", "pos", "negsuc", "[]", "_∷_"}
+VALUES = {"Path", "record", "true", "false", "accepted", "refused", "pos", "negsuc", "[]", "_∷_", "∷"}
 TYPES = {"ℕ", "ℤ", "Bool", "List", "Outcome"}
 FIELDS = {"sign", "row", "cell", "position", "wings"}
 

@@ -86,8 +86,7 @@ def main():
     tally.check("groff is there", shutil.which("groff"))
     if tally.failed:
         return tally.finish()
-    if not (ROOT / "target" / "staticlib" / "libwinged.a").exists():
-        subprocess.run(["rt", "staticlib", "winged"], cwd=ROOT, stdout=subprocess.DEVNULL, check=False)
+    tally.check("the library is built", subprocess.run([ROOT / "tests" / "library"], check=False).returncode == 0)
     pages = {path.name: path.read_text() for path in sorted((ROOT / "docs" / "man").iterdir())}
     header = (ROOT / "include" / "winged.h").read_text()
     check_itself(tally, pages["winged.3"], header)

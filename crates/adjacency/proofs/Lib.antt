@@ -24,3 +24,4 @@ pub mod Taking
 pub mod Twins
 pub mod Winged
 pub mod Tabling
+pub mod Examples

@@ -5,3 +5,4 @@ pub mod FaceText
 pub mod TableFaces
 pub mod FaceCount
 pub mod KeyText
+pub mod Examples

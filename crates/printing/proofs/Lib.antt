@@ -14,3 +14,4 @@ pub mod Thin
 pub mod Chain
 pub mod Line
 pub mod Callees
+pub mod Examples

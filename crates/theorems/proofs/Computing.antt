@@ -1,13 +1,12 @@
 -- One name that opens every definition, so that an example is proved by computing both sides.
 use lib.Count.{trailingZeros}
-use lib.Ieee.{add, sub, mul, neg, lt, le, eq, ofBits}
-use Rattle.complex.specs.Accept.{solidRules, acceptable}
-use Rattle.complex.specs.Table.{tableOfList, ownTable, sound}
+use lib.Ieee.{eq}
+use Rattle.complex.proofs.Computing.{computing as solids-computing}
 use Rattle.wing.specs.Wing.{wingRules, wingOutcome, wingBuffer}
 use Rattle.prism.specs.Sides.{allSides}
 use Rattle.sweep.specs.Sweep.{sweepRules, sweptWords, sweepOutcome, sweepBuffer}
 use Rattle.boundary.specs.Faces.{boundaryCells, facesRules, facesOutcome, facesBuffer}
-use Rattle.points.specs.Step.{inRange, onCircle, stepFits, addAt, turned, movedPoint}
+use Rattle.points.proofs.Computing.{computing as points-computing}
 use Rattle.motion.specs.Move.{movedLevels, moveRules, moveOutcome, moveBuffer}
 use Rattle.file.specs.File.{filePoints, fileCells}
 use Rattle.file.specs.Tests.{fileWords}
@@ -19,5 +18,5 @@ use Rattle.winged.specs.Host.{hostWingOutcome, hostWing, hostWingBuffer, hostSw
 use Rattle.marking.specs.Key.{keyOutcome, printed}
 
 unfoldable pub computing : Unit {0}
-unfolding add sub mul neg lt le eq ofBits solidRules acceptable tableOfList ownTable sound wingRules wingOutcome wingBuffer allSides sweepRules sweptWords sweepOutcome sweepBuffer boundaryCells facesRules facesOutcome facesBuffer inRange onCircle stepFits addAt turned movedPoint movedLevels moveRules moveOutcome moveBuffer filePoints fileCells readRules headerOf fileWords readOutcome readCells readPoints digits thousandths coordinate firstLine vertexLine faceLine keyText listText listRules listOutcome listBuffer keyOutcome printed hostWingOutcome hostWing hostWingBuffer hostSweepOutcome hostSweep hostSweepBuffer hostFacesOutcome hostFaces hostFacesBuffer
+unfolding eq solids-computing points-computing wingRules wingOutcome wingBuffer allSides sweepRules sweptWords sweepOutcome sweepBuffer boundaryCells facesRules facesOutcome facesBuffer movedLevels moveRules moveOutcome moveBuffer filePoints fileCells readRules headerOf fileWords readOutcome readCells readPoints digits thousandths coordinate firstLine vertexLine faceLine keyText listText listRules listOutcome listBuffer keyOutcome printed hostWingOutcome hostWing hostWingBuffer hostSweepOutcome hostSweep hostSweepBuffer hostFacesOutcome hostFaces hostFacesBuffer
 computing = tt

@@ -5,3 +5,4 @@ pub mod Coefficients
 pub mod Acceptance
 pub mod Run
 pub mod ThirdTerm
+pub mod Examples
