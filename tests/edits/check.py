@@ -21,7 +21,8 @@ refutations/NAME.txt    cases in which an edited theorem is false: after what th
 
 A proof rests on its own function's code and on contracts. So slips that are each in the function whose proof refuses
 them, no two in the same, are tried at once. A proof by hand rests on the theorems of the functions that it calls, so
-slips in such functions are tried by themselves.
+slips in such functions are tried by themselves. An example of a definition is part of its crate, and rests on
+definitions, so where these name no type of the code an edit of them is tried on the example alone (copies.py).
 
     check.py                    all of them, after rt ci
     check.py --slips NAME..     only the slips of these crates, after rt check
@@ -32,7 +33,6 @@ import os
 import pathlib
 import re
 import shutil
-import subprocess
 import sys
 import tempfile
 import time
@@ -41,6 +41,7 @@ HERE = pathlib.Path(__file__).resolve().parent
 sys.path[:0] = [str(HERE), str(HERE.parent)]
 
 import trial  # noqa: E402
+from copies import definitions_with, prepared, prove, renew, stands_alone  # noqa: E402
 from edit import ROOT, Bad, Edit, edits_of  # noqa: E402
 from refusal import is_example, refused  # noqa: E402
 from tally import Tally  # noqa: E402
@@ -83,28 +84,6 @@ def told(kind, edit, wrong, seconds=None):
     return not wrong, f"{kind} {edit.label}: {wrong or f'refused in {edit.place}; {seen}'}{took}"
 
 
-def prove(root, name):
-    run = subprocess.run(["rt", "dev", name], cwd=root, text=True, stdout=subprocess.PIPE, stderr=subprocess.STDOUT)
-    return "\n" + run.stdout
-
-
-def renew(root, name):
-    """Puts the crate as it is into the copy."""
-    crate = root / "crates" / name
-    shutil.rmtree(crate, ignore_errors=True)
-    shutil.copytree(ROOT / "crates" / name, crate)
-    return crate
-
-
-def prepared(root):
-    """A copy of the repository whose crates an edit may change; what is proved already is taken over."""
-    shutil.copy(ROOT / "crates.txt", root)
-    shutil.copytree(ROOT / "crates", root / "crates")
-    (root / "target").mkdir()
-    for part in ("rlib", "stamp"):
-        (root / "target" / part).symlink_to(ROOT / "target" / part)
-
-
 def comes_out_same(edit, root):
     """Whether the case that an edit of code names comes out as before; None where it cannot be told."""
     if not edit.of_code() or not edit.case or not trial.known(edit.case):
@@ -130,18 +109,12 @@ def refutation(edit):
 
 def not_refuted(edit, root):
     """Whether the prover, given the edited definitions alone, does not show that the sentence is false."""
-    crate = root / "crates" / edit.crate
     try:
-        edit.apply(crate)
-        shutil.rmtree(crate / "proofs")
-        (crate / "proofs").mkdir()
-        (crate / "proofs" / "Lib.antt").write_text("-- A refutation.\npub mod Refuted\n")
-        (crate / "proofs" / "Refuted.antt").write_text(refutation(edit))
-        return "\nlogic=proved" not in prove(root, edit.crate)
+        edit.apply(root / "crates" / edit.crate)
+        return "\nlogic=proved" not in definitions_with(root, edit.crate, "Refuted", refutation(edit))
     except Bad:
         return True
     finally:
-        shutil.rmtree(root / "target" / "inc" / edit.crate, ignore_errors=True)
         renew(root, edit.crate)
 
 
@@ -191,6 +164,25 @@ def tried(root, batch, kept, same):
     return [told("slip", e, w, took) for e, w in zip(batch, wrong)]
 
 
+def tried_alone(root, edits):
+    """Tries edits of definitions on their examples, with the definitions alone; unedited, these must hold."""
+    results, fine = [], {}
+    for edit in edits:
+        name, began, file = edit.crate, time.time(), pathlib.Path(edit.place).stem
+        text = (ROOT / "crates" / name / edit.place).read_text()
+        if file not in fine:
+            fine[file] = "\nlogic=proved" in definitions_with(root, name, file, text)
+        try:
+            edit.apply(root / "crates" / name)
+            wrong = problem(edit, definitions_with(root, name, file, text), f"crates/{name}", text, None)
+        except Bad as bad:
+            wrong = f"BAD EDIT: {bad}"
+        renew(root, name)
+        wrong = wrong if fine[file] else f"{edit.place} does not hold with the definitions alone"
+        results.append(told("slip", edit, wrong, time.time() - began))
+    return results
+
+
 def edits_in(name, with_logs):
     """Tries the edits of a crate, with those that rt ci has tried where there are logs."""
     worthless = [e for e in map(Edit, sorted((HERE / "worthless").glob("*.edit"))) if e.crate == name]
@@ -208,6 +200,8 @@ def edits_in(name, with_logs):
             said = "\n" + log.read_text() if log.is_file() else "\nnot tried: run rt ci first"
             wrong = problem(edit, said, f"must-fail/{name}/{edit.path.stem}", text, comes_out_same(edit, root))
             results.append(told("must-fail", edit, wrong))
+        results += tried_alone(root, [e for e in slips if stands_alone(e)])
+        slips = [e for e in slips if not stands_alone(e)]
         if not slips:
             return results
         if "\nlogic=proved" not in prove(root, name):
@@ -234,7 +228,7 @@ def main():
     names = given or [c.name for c in (ROOT / "crates").iterdir()]
     names.sort(key=lambda name: -len(list((ROOT / "crates" / name / "slips").glob("*.edit"))))
     tally = Tally()
-    with concurrent.futures.ThreadPoolExecutor((os.cpu_count() or 1) + 1) as pool:
+    with concurrent.futures.ThreadPoolExecutor(min(os.cpu_count() or 1, 4)) as pool:
         waiting = [pool.submit(edits_in, name, not given) for name in names]
         waiting.append(pool.submit(lambda: [trial_as_it_is()]))
         for done in waiting:
