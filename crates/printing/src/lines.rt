@@ -15,15 +15,6 @@ ghost use Rattle.printing.specs.Decimal.{digits, coordinate};
 ghost use Rattle.printing.specs.Fields.{line};
 ghost use Rattle.printing.specs.Put.{Put};
 
-// A word and counts.
-pub fn first_line<'a, 'b>(buf: &'a mut [u8], at: usize, word: &'b [u8], counts: &'b [u16]) -> usize
-    requires { ⌜ at + length (line (now word) (map digits (now counts))) ≤ length (now buf) ⌝ }
-    ensures { λ r. ⌜ Put at (line (now (word .entry)) (map digits (now (counts .entry)))) (now (buf .entry)) r (now (buf .exit)) ⌝ }
-{
-    let w = numbers(begin(buf, at, word), counts);
-    end(w)
-}
-
 // A word, a vertex's number and its coordinates.
 pub fn vertex_line<'a, 'b>(
     buf: &'a mut [u8],
@@ -53,4 +44,13 @@ pub fn face_line<'a, 'b>(
 {
     let w = numbers(numbers(begin(buf, at, sign), low), high);
     end(w)
+}
+
+// A word and counts: a line of numbers, none of them left out.
+pub fn first_line<'a>(buf: &mut [u8], at: usize, word: &'a [u8], counts: &'a [u16]) -> usize
+    requires { ⌜ at + length (line (now word) (map digits (now counts))) ≤ length (now buf) ⌝ }
+    ensures { λ r. ⌜ Put at (line (now (word .entry)) (map digits (now (counts .entry)))) (now (buf .entry)) r (now (buf .exit)) ⌝ }
+{
+    let none: usize = 0;
+    face_line(buf, at, word, &counts[..none], counts)
 }
