@@ -8,16 +8,10 @@ use lib.ListN.{take}
 use Rattle.simplex.specs.Cell.{Cell}
 use Rattle.simplex.specs.Chain.{countOn, Same}
 use Rattle.third_term.specs.ThirdTerm.{solid, boundary}
-use Rattle.theorems.specs.Deciding.{Deciding, Equal, circle, reversed, ring, points, exchanged, sweptRing}
+use Rattle.third_term.specs.Pairs.{circle, reversed, points, exchanged}
+use Rattle.third_term.proofs.Examples.{once-in-circle, never-in-reverse}
+use Rattle.theorems.specs.Deciding.{Deciding, Equal, sweptRing}
 use Rattle.theorems.proofs.Computing.{computing}
-
-once-in-circle : countOn true (0 ∷ 1 ∷ []) (ring circle) ≡ 1
-unfolding computing
-once-in-circle = refl
-
-never-in-reverse : countOn true (0 ∷ 1 ∷ []) (ring reversed) ≡ 0
-unfolding computing
-never-in-reverse = refl
 
 apart : Equal circle reversed → ⊥
 apart e = omega (arith, once-in-circle, never-in-reverse, e true (0 ∷ 1 ∷ []))

@@ -1,36 +1,17 @@
--- The third term's `decides` on pairs of small solids, and sentences of its shape that are false: these do not decide.
---   sitting l             a list, with buffers for wing and sweep that have room enough
---   circle, reversed      three segments in a ring, and the same with each sign turned over: both are closed
---   points, exchanged     two points, listed in two orders
+-- The third term's `decides` on pairs of small solids (third_term, Pairs), and sentences of its shape that are false.
 --   ring x                the solid of a sitting of segments on three vertices
 --   sweptRing h x         the boundary of its sweep in h steps
 --   Equal x y             two such solids are equal, list order aside
 use mathlib.Core.Path.{_≡_}
 use mathlib.Core.Logic.{_↔_}
-use mathlib.Core.List.{List, [], _∷_}
+use mathlib.Core.List.{List}
 use Prim.Native.Nat.{ℕ}
-use lib.ListN.{length, replicate}
+use lib.ListN.{length}
 use Rattle.simplex.specs.Cell.{Row, Cell}
 use Rattle.simplex.specs.Chain.{total, Same}
-use Rattle.complex.specs.Accept.{Listed}
 use Rattle.boundary.specs.Boundary.{ownBoundary}
 use Rattle.third_term.specs.ThirdTerm.{Sitting, Unrefused, solid, boundary}
-use Rattle.theorems.specs.Shorthand.{cellOf, listed}
-
-abbrev pub sitting : Listed → Sitting
-sitting l = record { s = l .s; cells = l .words; tableBuffer = replicate 96 0; sweptBuffer = replicate 96 0 }
-
-abbrev pub circle : Sitting
-circle = sitting (listed 1 3 (cellOf "+01" ∷ cellOf "+12" ∷ cellOf "-02" ∷ []))
-
-abbrev pub reversed : Sitting
-reversed = sitting (listed 1 3 (cellOf "-01" ∷ cellOf "-12" ∷ cellOf "+02" ∷ []))
-
-abbrev pub points : Sitting
-points = sitting (listed 0 2 (cellOf "+0" ∷ cellOf "+1" ∷ []))
-
-abbrev pub exchanged : Sitting
-exchanged = sitting (listed 0 2 (cellOf "+1" ∷ cellOf "+0" ∷ []))
+use Rattle.third_term.specs.Pairs.{circle, reversed, points, exchanged}
 
 abbrev pub ring : Sitting → List Cell
 ring x = solid 1 3 1 x

@@ -1,16 +1,18 @@
--- The third term at a point and at a segment, each swept once: what the law, as r, says there.
-use mathlib.Core.Path.{_≡_}
+-- The third term at a point and at a segment, each swept once: what the law, as r, says there. And a pair of different solids.
+use mathlib.Core.Path.{_≡_, refl}
+use mathlib.Core.Bool.{true}
 use mathlib.Core.List.{[], _∷_}
 use Prim.Native.Nat.{_≤_}
 use lib.IntN.{pos, negℤ}
 use lib.ListN.{replicate}
 use Rattle.rules.specs.Calls.{accepted}
-use Rattle.simplex.specs.Chain.{coefficient}
+use Rattle.simplex.specs.Chain.{countOn, coefficient}
 use Rattle.complex.proofs.Computing.{computing}
 use Rattle.wing.specs.Wing.{wingRules, wingOutcome, wingBuffer}
 use Rattle.sweep.specs.Sweep.{sweepRules, sweptWords, sweepOutcome, sweepBuffer}
 use Rattle.boundary.specs.Faces.{boundaryCells, facesRules, facesOutcome}
-use Rattle.third_term.specs.ThirdTerm.{Sitting, boundary, toFaces, BoundaryOf}
+use Rattle.third_term.specs.ThirdTerm.{Sitting, solid, boundary, toFaces, BoundaryOf}
+use Rattle.third_term.specs.Pairs.{circle, reversed}
 
 unfoldable opened : Unit {0}
 unfolding computing wingRules wingOutcome wingBuffer sweepRules sweptWords sweepOutcome sweepBuffer boundaryCells facesRules facesOutcome
@@ -42,3 +44,10 @@ bottom-of-a-segment r = r .sum (0 ∷ 1 ∷ [])
 pub side-of-a-segment : BoundaryOf 1 2 1 segment → coefficient (0 ∷ 2 ∷ []) (boundary 1 2 1 segment) ≡ negℤ (pos 1)
 unfolding opened
 side-of-a-segment r = r .sum (0 ∷ 2 ∷ [])
+
+-- the ring has the segment from 0 to 1, and its reverse does not
+pub once-in-circle : countOn true (0 ∷ 1 ∷ []) (solid 1 3 1 circle) ≡ 1
+once-in-circle = refl
+
+pub never-in-reverse : countOn true (0 ∷ 1 ∷ []) (solid 1 3 1 reversed) ≡ 0
+never-in-reverse = refl

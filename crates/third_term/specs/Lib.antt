@@ -1,2 +1,3 @@
 -- The third term, as a statement about what wing, sweep and faces answer and write.
 pub mod ThirdTerm
+pub mod Pairs
