@@ -26,7 +26,7 @@ use Rattle.simplex.proofs.Sorting.{sorted-ascends, sorted-length}
 use Rattle.simplex.proofs.Sums.{plusOn, sumChain}
 use Rattle.complex.specs.Accept.{Listed, acceptable, badSign, cellTwice, crowdedFace, equalSigns, listedCells, repeats, solidOf, solidRules, vertexBeyond, vertexTwice}
 use Rattle.simplex.specs.SignWords.{signWord}
-use Rattle.complex.specs.Layout.{cellOf, cellWords, cellsOf, listSize}
+use Rattle.records.specs.Layout.{cellOf, cellWords, cellsOf, listSize}
 use Rattle.complex.proofs.Codec.{cells-back, list-record, part-length}
 use Rattle.complex.proofs.Solid.{Solid}
 use Rattle.complex.proofs.Tables.{cellAt}

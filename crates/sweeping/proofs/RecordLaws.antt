@@ -17,7 +17,7 @@ use Rattle.words.specs.Records.{part, tabulate}
 use Rattle.words.proofs.Records.{tabulate-at, tabulate-length}
 use Rattle.simplex.specs.Cell.{Cell, Row, times, alternating}
 use Rattle.simplex.specs.SignWords.{signOf, signWord}
-use Rattle.complex.specs.Layout.{Entry, recordSize, listSize, tableLength, cellWords}
+use Rattle.records.specs.Layout.{Entry, recordSize, listSize, tableLength, cellWords}
 use Rattle.complex.specs.Table.{entryAt}
 use Rattle.prism.specs.Cells.{atLevel, lifted, dimension, prismCell}
 use Rattle.prism.specs.Wings.{sweptWing}

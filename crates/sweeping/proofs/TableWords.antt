@@ -13,9 +13,8 @@ use lib.ListN.{length, getD, take, drop, length-drop}
 use lib.Seq.{getD-take, getD-drop, length-take-le}
 use Rattle.words.specs.Records.{part}
 use Rattle.words.proofs.Records.{tabulate-at}
-use Rattle.rules.specs.Limits.{empty}
 use Rattle.simplex.specs.Cell.{cell}
-use Rattle.complex.specs.Layout.{Entry, recordSize, listSize, tableLength, entryOf}
+use Rattle.records.specs.Layout.{empty, Entry, recordSize, listSize, tableLength, entryOf}
 use Rattle.complex.specs.Table.{entryAt}
 use Rattle.sweeping.specs.Written.{solidEntries, solidVertex, solidWing}
 

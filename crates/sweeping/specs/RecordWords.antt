@@ -8,7 +8,7 @@ use Prim.Native.Nat.{ℕ, suc, _+_, _-_}
 use lib.Dec.{leb}
 use lib.ListN.{getD}
 use Rattle.words.specs.Records.{part}
-use Rattle.complex.specs.Layout.{recordSize}
+use Rattle.records.specs.Layout.{recordSize}
 use Rattle.prism.specs.Cells.{atLevel}
 use Rattle.sweeping.specs.Written.{solidVertex}
 

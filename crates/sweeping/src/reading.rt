@@ -3,7 +3,7 @@ ghost use mathlib.Core.Path.{_≡_};
 ghost use Prim.Native.Nat.{_+_, _<_, _≤_};
 ghost use lib.ListN.{length, getD};
 ghost use Rattle.words.specs.Records.{part};
-ghost use Rattle.complex.specs.Layout.{recordSize, tableLength};
+ghost use Rattle.records.specs.Layout.{recordSize, tableLength};
 ghost use Rattle.sweeping.specs.Written.{solidWing, solidVertex};
 ghost use Rattle.sweeping.specs.RecordWords.{solidSign};
 

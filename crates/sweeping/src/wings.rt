@@ -3,7 +3,7 @@ ghost use mathlib.Core.Path.{_≡_};
 ghost use Prim.Native.Nat.{suc, _<_, _≤_};
 ghost use lib.ListN.{length};
 ghost use Rattle.rules.specs.Limits.{maxCells};
-ghost use Rattle.complex.specs.Layout.{tableLength};
+ghost use Rattle.records.specs.Layout.{tableLength};
 ghost use Rattle.prism.specs.Swept.{sweptCells};
 ghost use Rattle.sweeping.specs.Across.{Holds, faceRow, faceFirst, sideCell};
 ghost use Rattle.prism.specs.Wings.{cellNumber, backTo, wingAbove, wingBelow};

@@ -2,7 +2,7 @@
 use mathlib.Core.Path.{_∙_, sym}
 use Prim.Native.Nat.{_+_}
 use native.Mathlib.Omega.{arith}
-use Rattle.complex.specs.Layout.{recordSize}
+use Rattle.records.specs.Layout.{recordSize}
 use Rattle.sweeping.proofs.TableWords.{inside, solid-vertex}
 use Rattle.sweeping.proofs.reading.vertex.Statement.{statement}
 use Rattle.sweeping.proofs.reading.vertex.Tie as tie

@@ -2,7 +2,7 @@
 use mathlib.Core.Path.{_∙_, sym}
 use Prim.Native.Nat.{_+_, _*_, _<_}
 use native.Mathlib.Omega.{arith}
-use Rattle.complex.specs.Layout.{recordSize}
+use Rattle.records.specs.Layout.{recordSize}
 use lib.ListN.{length}
 use Rattle.sweeping.proofs.TableWords.{inside, solid-wing}
 use Rattle.sweeping.proofs.reading.wing.Statement.{statement}

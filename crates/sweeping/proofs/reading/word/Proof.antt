@@ -3,7 +3,7 @@ use mathlib.Core.Path.{sym}
 use Prim.Native.Nat.{_+_, _*_, _<_, _≤_}
 use native.Mathlib.Omega.{arith}
 use lib.ListN.{length}
-use Rattle.complex.specs.Layout.{recordSize}
+use Rattle.records.specs.Layout.{recordSize}
 use Rattle.sweeping.proofs.TableWords.{inside, part-at}
 use Rattle.sweeping.proofs.reading.word.Statement.{statement}
 use Rattle.sweeping.proofs.reading.word.Tie as tie

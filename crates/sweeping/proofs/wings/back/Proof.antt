@@ -4,7 +4,7 @@ use Prim.Native.Nat.{_+_, _-_, _≤_, _<_}
 use native.Mathlib.Omega.{arith}
 use borrow.Author.Needs.{needs}
 use lib.ListN.{length}
-use Rattle.complex.specs.Layout.{recordSize}
+use Rattle.records.specs.Layout.{recordSize}
 use Rattle.prism.specs.Wings.{backFrom, backTo}
 use Rattle.sweeping.specs.Written.{solidWing}
 use Rattle.sweeping.proofs.TableWords.{inside}
