@@ -34,7 +34,7 @@ use Rattle.prism.specs.Wings.{backTo}
 use Rattle.sweeping.specs.Written.{solidEntries, solidVertex, solidWing, Ready}
 use Rattle.words.proofs.Placed.{concat-tabulate-length}
 use Rattle.prism.proofs.SweptWings.{back-is}
-use Rattle.sweeping.proofs.TableWords.{part-long}
+use Rattle.records.proofs.Parts.{part-long}
 
 -- the entries ws are those of the table of the cells of a solid
 pub record TableOf (d v s : ℕ) (ws : List ℕ) (cs : List Cell) : Type 0 where

@@ -35,7 +35,9 @@ wide-requires : tie.Need-wide-requires
 wide-requires c κs = search needs
 
 back-requires : tie.Need-back-requires
-back-requires c κs = (c .before .before .before .before .pre .0 .long, low c)
+back-requires c κs =
+    let ready = c .before .before .before .before .pre .0 in
+    record { dimension = omega (arith, ready .dimension); long = ready .long; number = low c }
 
 back-is : (c : tie.After-back) →
     c .back .result ≡ backTo (solidWing (c .before .before .before .before .before .args .d) (c .before .before .before .before .before .args .s) (c .before .before .before .before .before .args .table .now))
