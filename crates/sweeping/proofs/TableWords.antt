@@ -44,7 +44,8 @@ module _ (d s : ℕ) (ws : List ℕ) (p : ℕ) (hp : p < s) where
   solid-vertex k hk =
       let P = part (recordSize d) p ws in
       let one : 1 + k ≡ k + 1 = omega arith in
-      ap (λ (e : Entry). getD (e .cell .row) k 0) solid-entry ∙ getD-drop 1 (take (listSize d) P) k 0 ∙ getD-take (listSize d) P (1 + k) 0 (omega arith)
+      ap (λ (e : Entry). getD (e .cell .row) k 0) solid-entry
+      ∙ getD-drop 1 (take (listSize d) P) k 0 ∙ getD-take (listSize d) P (1 + k) 0 (omega arith)
       ∙ ap (λ n. getD P n 0) one
 
   pub solid-wing : (a : ℕ) → a ≤ d → length ws ≡ tableLength d s → solidWing d s ws p a ≡ getD (part (recordSize d) p ws) (d + 2 + a) 0

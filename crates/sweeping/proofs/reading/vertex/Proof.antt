@@ -8,7 +8,10 @@ use Rattle.sweeping.proofs.reading.vertex.Statement.{statement}
 use Rattle.sweeping.proofs.reading.vertex.Tie as tie
 
 add-word : tie.Need-add-word
-add-word c = omega (arith, inside (c .before .args .s) (recordSize (c .before .args .d)) (c .before .args .p) (c .before .args .k + 1) (c .before .pre .1) (omega arith))
+add-word c = omega (
+  arith,
+  inside (c .before .args .s) (recordSize (c .before .args .d)) (c .before .args .p) (c .before .args .k + 1) (c .before .pre .1) (omega arith),
+)
 
 word-requires : tie.Need-word-requires
 word-requires c κs = (c .before .pre .0, c .before .pre .1, omega arith)

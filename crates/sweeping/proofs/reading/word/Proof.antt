@@ -33,7 +33,8 @@ shared-slice-read-result : tie.Need-shared-slice-read-result
 shared-slice-read-result c = index (c .before)
 
 returns : tie.Need-returns
-returns c = sym (part-at (recordSize (c .before .args .d)) (c .before .args .p) (c .before .args .j) (c .before .args .table .now) (c .before .pre .2))
+returns c =
+    sym (part-at (recordSize (c .before .args .d)) (c .before .args .p) (c .before .args .j) (c .before .args .table .now) (c .before .pre .2))
 
 pub word-spec : {M : Type 1} → statement M
 word-spec =
