@@ -66,7 +66,8 @@ pub record MarkedKeys : Type 0 where
       ≡ cellOf "-024" ∷ cellOf "+014" ∷ cellOf "-012" ∷ cellOf "-145" ∷ cellOf "+456" ∷ cellOf "+246" ∷ cellOf "+135" ∷ cellOf "+123"
       ∷ cellOf "-236" ∷ cellOf "-567" ∷ cellOf "+367" ∷ cellOf "-357" ∷ []
   pub k2-calls :
-      (wingOutcome (toWing k2Solid) ≡ accepted 14) × (sweepOutcome (swept 1 k2Solid) ≡ accepted 54) × (facesOutcome (facesOfSwept 1 k2Solid) ≡ accepted 12)
+      (wingOutcome (toWing k2Solid) ≡ accepted 14) × (sweepOutcome (swept 1 k2Solid) ≡ accepted 54)
+      × (facesOutcome (facesOfSwept 1 k2Solid) ≡ accepted 12)
   pub k3-cells : sweptEntries 3 point ≡ entry "+01" "1." ∷ entry "+12" "20" ∷ entry "+23" ".1" ∷ []
   pub k3-faces : boundaryCells (facesOfSwept 3 point) ≡ cellOf "-0" ∷ cellOf "+3" ∷ []
   pub k4 : ascending (cellOf "+210") ≡ cellOf "-012"

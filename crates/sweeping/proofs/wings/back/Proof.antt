@@ -45,8 +45,11 @@ loop-again c =
     let at = c .before .before .before .before in
     let a = at .before .before .args in
     let b = at .loop .b in
-    let n : solidWing (a .d) (a .s) (a .table .now) (a .q) b ≡ a .p → ⊥ = λ e. c .if1 .left (c .before .wide .ensures ∙ c .before .before .wing .ensures ∙ e) in
-    (omega arith, at .loop .inv .1 ∙ back-next (solidWing (a .d) (a .s) (a .table .now)) (a .p) (a .q) (a .d) b (c .before .before .before .loop-test .taken) n)
+    let n : solidWing (a .d) (a .s) (a .table .now) (a .q) b ≡ a .p → ⊥ =
+    λ e. c .if1 .left (c .before .wide .ensures ∙ c .before .before .wing .ensures ∙ e) in (
+      omega arith,
+      at .loop .inv .1 ∙ back-next (solidWing (a .d) (a .s) (a .table .now)) (a .p) (a .q) (a .d) b (c .before .before .before .loop-test .taken) n,
+    )
 
 returns-2 : tie.Need-returns-2 Inv-loop μ-loop
 returns-2 c =
