@@ -3,3 +3,4 @@ pub mod Records
 pub mod Loops
 pub mod Bytes
 pub mod Placed
+pub mod Writing
