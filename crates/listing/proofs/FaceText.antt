@@ -20,7 +20,7 @@ use Rattle.simplex.specs.SignWords.{signOf}
 use Rattle.complex.specs.Layout.{recordSize}
 use Rattle.printing.specs.Decimal.{digits}
 use Rattle.printing.specs.Fields.{fields, restOfLine, line}
-use Rattle.printing.specs.Put.{Put}
+use Rattle.words.specs.Placed.{Put}
 use Rattle.printing.proofs.Bounds.{fields-length}
 use Rattle.printing.proofs.FieldText.{fields-append, rest-of-numbers}
 use Rattle.listing.specs.Lines.{signText, faceLine}

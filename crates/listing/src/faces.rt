@@ -9,7 +9,7 @@ ghost use lib.ListN.{length};
 ghost use Rattle.simplex.specs.Cell.{times, alternating};
 ghost use Rattle.simplex.specs.Faces.{face};
 ghost use Rattle.simplex.specs.SignWords.{signOf};
-ghost use Rattle.printing.specs.Put.{Put};
+ghost use Rattle.words.specs.Placed.{Put};
 ghost use Rattle.listing.specs.Lines.{signText, faceLine, faceLines};
 ghost use Rattle.listing.specs.Parts.{recordAt, boundaryFaces, RecordOf, FaceOf, SizeOf, Table, facesOf};
 

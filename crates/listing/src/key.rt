@@ -9,7 +9,7 @@ use printing::lines::first_line;
 ghost use mathlib.Core.Path.{_≡_};
 ghost use Prim.Native.Nat.{_≤_};
 ghost use lib.ListN.{length};
-ghost use Rattle.printing.specs.Put.{Put};
+ghost use Rattle.words.specs.Placed.{Put};
 ghost use Rattle.listing.specs.Lines.{firstLine, keyText};
 ghost use Rattle.listing.specs.Parts.{Points, Table, facesOf, KeySize};
 

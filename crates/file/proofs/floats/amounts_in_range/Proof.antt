@@ -5,15 +5,6 @@ use borrow.Author.Needs.{needs}
 use Rattle.file.proofs.floats.amounts_in_range.Statement.{statement}
 use Rattle.file.proofs.floats.amounts_in_range.Tie as tie
 
-in-range-requires : tie.Need-in-range-requires
-in-range-requires c κs = search needs
-
-in-range-requires-2 : tie.Need-in-range-requires-2
-in-range-requires-2 c κs = search needs
-
-in-range-requires-3 : tie.Need-in-range-requires-3
-in-range-requires-3 c κs = search needs
-
 returns : tie.Need-returns
 returns c =
     rw (sym (c .before .before .before .before .in-range .ensures) ∙ c .before .before .before .if1 .taken, sym (c .before .before .in-range2 .ensures) ∙ c .before .if2 .taken)
@@ -30,9 +21,9 @@ pub amounts-in-range-spec : {M : Type 1} → statement M
 amounts-in-range-spec =
     tie.close
     (tie.spec
-    in-range-requires
-    in-range-requires-2
-    in-range-requires-3
+    (λ c κs. search needs)
+    (λ c κs. search needs)
+    (λ c κs. search needs)
     returns
     returns-2
     returns-3)

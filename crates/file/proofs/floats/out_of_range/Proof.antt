@@ -5,12 +5,6 @@ use borrow.Author.Needs.{needs}
 use Rattle.file.proofs.floats.out_of_range.Statement.{statement}
 use Rattle.file.proofs.floats.out_of_range.Tie as tie
 
-amounts-in-range-requires : tie.Need-amounts-in-range-requires
-amounts-in-range-requires c κs = search needs
-
-points-in-range-requires : tie.Need-points-in-range-requires
-points-in-range-requires c κs = search needs
-
 returns : tie.Need-returns
 returns c =
     rw (sym (c .before .before .amounts-in-range .ensures) ∙ c .before .if1 .taken) (ap not (c .points-in-range .ensures))
@@ -20,4 +14,4 @@ returns-2 c = rw (sym (c .before .amounts-in-range .ensures) ∙ c .if1 .left) r
 
 pub out-of-range-spec : {M : Type 1} → statement M
 out-of-range-spec =
-    tie.close (tie.spec amounts-in-range-requires points-in-range-requires returns returns-2)
+    tie.close (tie.spec (λ c κs. search needs) (λ c κs. search needs) returns returns-2)

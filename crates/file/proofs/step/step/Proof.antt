@@ -22,12 +22,6 @@ amounts c =
     λ k. all-at inRange nan (tabulate 3 (amountOf (c .args .b .now))) k (c .pre .1) in
     (at 0 (omega arith), at 1 (omega arith), at 2 (omega arith))
 
-byte-at-requires : tie.Need-byte-at-requires
-byte-at-requires c κs = search needs
-
-byte-at-requires-2 : tie.Need-byte-at-requires-2
-byte-at-requires-2 c κs = search needs
-
 float-at-requires : tie.Need-float-at-requires
 float-at-requires c κs = (omega (arith, c .before .before .before .pre .0), amounts (c .before .before .before) .0)
 
@@ -38,9 +32,6 @@ returns c =
 
 float-at-requires-2 : tie.Need-float-at-requires-2
 float-at-requires-2 c κs = (omega (arith, c .before .before .before .before .before .pre .0), amounts (c .before .before .before .before .before) .1)
-
-byte-at-requires-3 : tie.Need-byte-at-requires-3
-byte-at-requires-3 c κs = search needs
 
 returns-2 : tie.Need-returns-2
 returns-2 c =
@@ -61,12 +52,12 @@ pub step-spec : {M : Type 1} → statement M
 step-spec =
     tie.close
     (tie.spec
-    byte-at-requires
-    byte-at-requires-2
+    (λ c κs. search needs)
+    (λ c κs. search needs)
     float-at-requires
     returns
     float-at-requires-2
-    byte-at-requires-3
+    (λ c κs. search needs)
     returns-2
     float-at-requires-3
     returns-3)

@@ -4,7 +4,7 @@ use Prim.Native.Nat.{_≤_, _-_, _+_}
 use native.Mathlib.Omega.{arith}
 use borrow.Author.Needs.{needs}
 use Rattle.simplex.specs.Faces.{face}
-use Rattle.printing.proofs.Placing.{Left, left-start, left-step, left-fits, left-done, left-as, put-as}
+use Rattle.words.proofs.Writing.{Left, left-starts, left-goes, left-fits, left-ends, left-as, put-as}
 use Rattle.listing.specs.Parts.{recordAt, boundaryFaces}
 use Rattle.listing.specs.Lines.{faceLine, faceLines}
 use Rattle.listing.proofs.TableFaces.{facesLeft, face-here, face-skipped, faces-over}
@@ -26,7 +26,7 @@ add-wings-2 c = omega (arith, c .before .before .pre .0 .within)
 loop-holds : tie.Need-loop-holds Inv-loop μ-loop
 loop-holds c =
     let start = c .before .before in
-    (omega arith, left-start (start .args .at) (faceLines (boundaryFaces (recordAt (start .args .d) (start .args .base) (start .args .table .now)))) (start .args .buf .now) (start .pre .1))
+    (omega arith, left-starts (start .args .at) (faceLines (boundaryFaces (recordAt (start .args .d) (start .args .base) (start .args .table .now)))) (start .args .buf .now) (start .pre .1))
 
 add-if1 : tie.Need-add-if1 Inv-loop μ-loop
 add-if1 c = omega (arith, c .before .before .before .before .pre .0 .within)
@@ -73,7 +73,7 @@ loop-again c =
     (λ w.
     let here = face-here d base ws r i at-most (w .0 .taken) in (
       omega arith,
-      left-step (faceLine (face i (e .cell))) (faceLines (facesLeft e (i + 1))) _ _ (rw here at (turn .loop .inv .1)) (put-as (w .2 .ensures) (w .6) (w .5)),
+      left-goes (faceLine (face i (e .cell))) (faceLines (facesLeft e (i + 1))) _ _ (rw here at (turn .loop .inv .1)) (put-as (w .2 .ensures) (w .6) (w .5)),
     ))
     (λ w. (omega arith, left-as (rw (face-skipped d base ws r i at-most (w .0 .left)) at (turn .loop .inv .1)) (w .2) (w .1)))
     (c .if1 .came)
@@ -84,7 +84,7 @@ same-length c = c .before .loop .inv .1 .same
 returns : tie.Need-returns Inv-loop μ-loop
 returns c =
     let start = c .before .before .before .before in
-    left-done (rw (faces-over (start .args .d) (start .args .base) (start .args .table .now) (start .pre .0) (c .before .loop .i) (c .loop-test .left)) at (c .before .loop .inv .1))
+    left-ends (rw (faces-over (start .args .d) (start .args .base) (start .args .table .now) (start .pre .0) (c .before .loop .i) (c .loop-test .left)) at (c .before .loop .inv .1))
 
 pub put-cell-spec : {M : Type 1} → statement M
 put-cell-spec =

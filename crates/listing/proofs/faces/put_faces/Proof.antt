@@ -5,7 +5,7 @@ use lib.ListN.{drop}
 use borrow.Author.Needs.{needs}
 use Rattle.complex.specs.Layout.{recordSize, entriesOf}
 use Rattle.boundary.specs.Boundary.{boundaryOf}
-use Rattle.printing.proofs.Placing.{Left, left-start, left-step, left-fits, left-done, put-nothing}
+use Rattle.words.proofs.Writing.{Left, left-starts, left-goes, left-fits, left-ends, put-nothing}
 use Rattle.listing.specs.Parts.{recordAt, boundaryFaces, facesOf}
 use Rattle.listing.specs.Lines.{faceLines}
 use Rattle.listing.proofs.TableFaces.{entries-rest, entries-over, flat-none, lines-append, record-within}
@@ -32,7 +32,7 @@ add-size-2 c = search needs
 loop-holds : tie.Need-loop-holds Inv-loop μ-loop
 loop-holds c =
     let start = c .before .before .before in
-    (omega arith, left-start (start .args .at) (faceLines (facesOf (start .args .d) (start .args .s) (start .args .table .now))) (start .args .buf .now) (start .pre .1))
+    (omega arith, left-starts (start .args .at) (faceLines (facesOf (start .args .d) (start .args .s) (start .args .table .now))) (start .args .buf .now) (start .pre .1))
 
 mul-put-cell : tie.Need-mul-put-cell Inv-loop μ-loop
 mul-put-cell c =
@@ -71,7 +71,7 @@ loop-again c =
     let rest = entries-rest d s ws p (c .before .before .before .before .loop-test .taken) in
     let here = boundaryFaces (recordAt d (p * recordSize d) ws) in
     let later = boundaryOf (drop (p + 1) (entriesOf d s ws)) in
-    (omega arith, left-step (faceLines here) (faceLines later) _ _ (rw (rest, lines-append here later) at (turn .loop .inv .1)) (c .before .before .put-cell .ensures))
+    (omega arith, left-goes (faceLines here) (faceLines later) _ _ (rw (rest, lines-append here later) at (turn .loop .inv .1)) (c .before .before .put-cell .ensures))
 
 same-length : tie.Need-same-length Inv-loop μ-loop
 same-length c = c .before .loop .inv .1 .same
@@ -79,7 +79,7 @@ same-length c = c .before .loop .inv .1 .same
 returns-2 : tie.Need-returns-2 Inv-loop μ-loop
 returns-2 c =
     let start = c .before .before .before .before .before in
-    left-done (rw (entries-over (start .args .d) (start .args .s) (start .args .table .now) (c .before .loop .p) (c .loop-test .left)) at (c .before .loop .inv .1))
+    left-ends (rw (entries-over (start .args .d) (start .args .s) (start .args .table .now) (c .before .loop .p) (c .loop-test .left)) at (c .before .loop .inv .1))
 
 pub put-faces-spec : {M : Type 1} → statement M
 put-faces-spec =

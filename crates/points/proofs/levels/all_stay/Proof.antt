@@ -52,20 +52,8 @@ add-load c = omega (arith, fits c)
 mul-load : tie.Need-mul-load Inv-loop μ-loop
 mul-load c = omega (arith, fits c)
 
-sub-load : tie.Need-sub-load Inv-loop μ-loop
-sub-load c = search needs
-
-part-load-start : tie.Need-part-load-start Inv-loop μ-loop
-part-load-start c = search needs
-
 part-load-end : tie.Need-part-load-end Inv-loop μ-loop
 part-load-end c = omega (arith, fits c)
-
-load-requires : tie.Need-load-requires Inv-loop μ-loop
-load-requires c κs = search needs
-
-stays-requires : tie.Need-stays-requires Inv-loop μ-loop
-stays-requires c κs = search needs
 
 returns : tie.Need-returns Inv-loop μ-loop
 returns c =
@@ -74,12 +62,6 @@ returns c =
     sym
     (allOf-tabulate-false (staysIn (a .step) (a .n) (a .h)) (a .v) (λ k. part (a .n) k (now (a .points))) (t .before .loop .k) (t .loop-test .taken)
     (sym (answered (c .before)) ∙ not-true _ (c .if1 .taken)))
-
-add-k : tie.Need-add-k Inv-loop μ-loop
-add-k c = search needs
-
-loop-less : tie.Need-loop-less Inv-loop μ-loop
-loop-less c = search needs
 
 loop-again : tie.Need-loop-again Inv-loop μ-loop
 loop-again c = (omega arith, below-more _ _ (c .before .before .before .before .before .loop .inv .1) (sym (answered (c .before)) ∙ not-false _ (c .if1 .left)))
@@ -99,13 +81,13 @@ all-stay-spec =
     mul-a
     add-load
     mul-load
-    sub-load
-    part-load-start
+    (λ c. search needs)
+    (λ c. search needs)
     part-load-end
-    load-requires
-    stays-requires
+    (λ c κs. search needs)
+    (λ c κs. search needs)
     returns
-    add-k
-    loop-less
+    (λ c. search needs)
+    (λ c. search needs)
     loop-again
     returns-2)

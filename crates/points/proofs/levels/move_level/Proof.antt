@@ -43,23 +43,8 @@ add-move-point c = omega (arith, fits c)
 mul-move-point : tie.Need-mul-move-point Inv-loop μ-loop
 mul-move-point c = omega (arith, fits c)
 
-sub-move-point : tie.Need-sub-move-point Inv-loop μ-loop
-sub-move-point c = search needs
-
-part-move-point-start : tie.Need-part-move-point-start Inv-loop μ-loop
-part-move-point-start c = search needs
-
 part-move-point-end : tie.Need-part-move-point-end Inv-loop μ-loop
 part-move-point-end c = omega (arith, fits c)
-
-move-point-requires : tie.Need-move-point-requires Inv-loop μ-loop
-move-point-requires c κs = search needs
-
-add-k : tie.Need-add-k Inv-loop μ-loop
-add-k c = search needs
-
-loop-less : tie.Need-loop-less Inv-loop μ-loop
-loop-less c = search needs
 
 loop-again : tie.Need-loop-again Inv-loop μ-loop
 loop-again c =
@@ -71,9 +56,6 @@ loop-again c =
     level-more (a .step) (a .n) (a .v) (a .at) (now (a .out)) (s .pre .1) k (t .before .loop .out) (c .before .before .move-point .last .1 .1 .0) _
     (add-sub-cancel-left (a .at + k * a .n) (a .n)) (t .loop-test .taken) (t .before .loop .inv .2) (c .before .before .move-point .ensures) in
     (omega arith, ap length next ∙ level-length (a .step) (a .n) (a .v) (a .at) (now (a .out)) (s .pre .1) (k + 1) (omega arith), next)
-
-same-length : tie.Need-same-length Inv-loop μ-loop
-same-length c = search needs
 
 returns : tie.Need-returns Inv-loop μ-loop
 returns c = let all : c .before .loop .k ≡ c .before .before .before .args .v = omega arith in rw all at (c .before .loop .inv .2)
@@ -89,12 +71,12 @@ move-level-spec =
     add-a
     add-move-point
     mul-move-point
-    sub-move-point
-    part-move-point-start
+    (λ c. search needs)
+    (λ c. search needs)
     part-move-point-end
-    move-point-requires
-    add-k
-    loop-less
+    (λ c κs. search needs)
+    (λ c. search needs)
+    (λ c. search needs)
     loop-again
-    same-length
+    (λ c. search needs)
     returns)

@@ -12,18 +12,6 @@ use Rattle.points.proofs.Writing.{level-copied}
 use Rattle.points.proofs.levels.write_level.Statement.{statement}
 use Rattle.points.proofs.levels.write_level.Tie as tie
 
-mul-w : tie.Need-mul-w
-mul-w c = search needs
-
-copy-up-requires : tie.Need-copy-up-requires
-copy-up-requires c κs = search needs
-
-move-level-requires : tie.Need-move-level-requires
-move-level-requires c κs = search needs
-
-same-length : tie.Need-same-length
-same-length c = search needs
-
 returns : tie.Need-returns
 returns c =
     let s = c .before .before .before .before .before .before .before .before .before in
@@ -34,4 +22,4 @@ returns c =
 
 pub write-level-spec : {M : Type 1} → statement M
 write-level-spec =
-    tie.close (tie.spec mul-w copy-up-requires move-level-requires same-length returns)
+    tie.close (tie.spec (λ c. search needs) (λ c κs. search needs) (λ c κs. search needs) (λ c. search needs) returns)

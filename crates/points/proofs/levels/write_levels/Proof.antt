@@ -27,12 +27,6 @@ next : (c : tie.In-loop Inv-loop μ-loop) → let a = start (c .before) .args in
     (i * (a .v * a .n) + a .v * a .n ≤ (i + 1) * (a .v * a .n)) × ((i + 1) * (a .v * a .n) + a .v * a .n ≤ suc (a .h) * a .v * a .n)
 next c = let a = start (c .before) .args in inside (a .n) (a .v) (a .h) (c .before .loop .i) (c .loop-test .taken)
 
-mul-w : tie.Need-mul-w Inv-loop μ-loop
-mul-w c = search needs
-
-put-requires : tie.Need-put-requires Inv-loop μ-loop
-put-requires c κs = search needs
-
 loop-holds : tie.Need-loop-holds Inv-loop μ-loop
 loop-holds c =
     let s = c .before .before .before .before .before .before in
@@ -42,9 +36,6 @@ loop-holds c =
 mul-write-level : tie.Need-mul-write-level Inv-loop μ-loop
 mul-write-level c = omega (arith, next c, start (c .before) .pre .1 .1)
 
-add-write-level : tie.Need-add-write-level Inv-loop μ-loop
-add-write-level c = search needs
-
 mul-write-level-2 : tie.Need-mul-write-level-2 Inv-loop μ-loop
 mul-write-level-2 c = omega (arith, next c, start (c .before) .pre .1 .1)
 
@@ -52,12 +43,6 @@ write-level-requires : tie.Need-write-level-requires Inv-loop μ-loop
 write-level-requires c κs =
     let l = c .before .before in
     (start l .pre .0, (next (c .before) .0, omega (arith, next (c .before) .1, start l .pre .1 .1, l .loop .inv .1, l .before .before .before .put .kept .1 .0)))
-
-add-i : tie.Need-add-i Inv-loop μ-loop
-add-i c = search needs
-
-loop-less : tie.Need-loop-less Inv-loop μ-loop
-loop-less c = search needs
 
 loop-again : tie.Need-loop-again Inv-loop μ-loop
 loop-again c =
@@ -89,15 +74,15 @@ write-levels-spec =
     (tie.spec
     Inv-loop
     μ-loop
-    mul-w
-    put-requires
+    (λ c. search needs)
+    (λ c κs. search needs)
     loop-holds
     mul-write-level
-    add-write-level
+    (λ c. search needs)
     mul-write-level-2
     write-level-requires
-    add-i
-    loop-less
+    (λ c. search needs)
+    (λ c. search needs)
     loop-again
     same-length
     returns)

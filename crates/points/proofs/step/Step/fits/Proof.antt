@@ -6,12 +6,6 @@ use Rattle.points.specs.Step.{stepFits}
 use Rattle.points.proofs.step.Step.fits.Statement.{statement}
 use Rattle.points.proofs.step.Step.fits.Tie as tie
 
-enum-known-self : tie.Need-enum-known-self
-enum-known-self c = search needs
-
-enum-known-self-2 : tie.Need-enum-known-self-2
-enum-known-self-2 c = search needs
-
 returns : tie.Need-returns
 unfolding stepFits
 returns c = rw (c .before .before .self2 .given .1, eq-eqb _ _ (c .if1 .taken)) refl
@@ -20,15 +14,9 @@ returns-2 : tie.Need-returns-2
 unfolding stepFits
 returns-2 c = rw (c .before .before .before .self2 .given .1, ne-eqb _ _ (c .before .if1 .left), le-ltb _ _ (c .if2 .taken)) refl
 
-enum-known-self-3 : tie.Need-enum-known-self-3
-enum-known-self-3 c = search needs
-
 returns-3 : tie.Need-returns-3
 unfolding stepFits
 returns-3 c = rw (c .before .before .self3 .given .1, lt-leb _ _ (c .if3 .taken)) refl
-
-on-circle-requires : tie.Need-on-circle-requires
-on-circle-requires c κs = search needs
 
 returns-4 : tie.Need-returns-4
 unfolding stepFits
@@ -46,13 +34,13 @@ pub fits-spec : {M : Type 1} → statement M
 fits-spec =
     tie.close
     (tie.spec
-    enum-known-self
-    enum-known-self-2
+    (λ c. search needs)
+    (λ c. search needs)
     returns
     returns-2
-    enum-known-self-3
+    (λ c. search needs)
     returns-3
-    on-circle-requires
+    (λ c κs. search needs)
     returns-4
     returns-5
     returns-6)
