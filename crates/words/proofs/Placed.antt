@@ -2,7 +2,9 @@
 --   placed-first          from the start of the buffer
 --   placed-none, placed-length    nothing written; the buffer keeps its length
 --   placed-then           a second list behind the first
---   placed-behind         behind what was written the buffer is as it was
+--   placed-behind, placed-before  behind and before what was written the buffer is as it was
+--   placed-read           there it is what was written
+--   placed-over           a longer list over a list
 --   placed-one            one element
 --   placed-cons, placed-last      the first before the others; the last before the others
 --   placed-word           one word more of a list
@@ -13,12 +15,12 @@
 -- Assumes nothing.
 use mathlib.Core.Path.{_≡_, refl, sym, ap, ap₂, _∙_}
 use mathlib.Core.List.{List, [], _∷_, _++_, map, append-assoc, append-nil}
-use Prim.Native.Nat.{ℕ, zero, suc, _+_, _*_, _≤_, _<_}
+use Prim.Native.Nat.{ℕ, zero, suc, _+_, _-_, _*_, _≤_, _<_}
 use native.Mathlib.Nat.{zero-add, add-zero, zero-mul, suc-mul, not-suc-le-zero, le-of-suc-le-suc}
 use native.Mathlib.Numerals.{add-one}
 use native.Mathlib.Omega.{arith}
-use lib.ListN.{length, take, drop, getD, set, length-append, length-drop, take-append-drop}
-use lib.Seq.{length-take-le, take-set-le, take-suc, take-at, drop-at, drop-drop, set-split}
+use lib.ListN.{length, take, drop, getD, set, length-append, length-drop, take-append-drop, List·getD-append}
+use lib.Seq.{length-take-le, take-set-le, take-suc, take-at, drop-at, drop-drop, set-split, getD-take}
 use Rattle.words.specs.Records.{tabulate, concat}
 use Rattle.words.specs.Placed.{placed}
 
@@ -77,6 +79,33 @@ module _ {A : Type 0} where
       ap (drop (at + length xs)) (sym (append-assoc (take at buf) xs (drop (at + length xs) buf)))
       ∙ drop-at (take at buf ++ xs) (drop (at + length xs) buf) (at + length xs)
       (omega (arith, length-append (take at buf) xs, length-take-le at buf (omega arith)))
+
+  -- before it too
+  pub placed-before : (at : ℕ) (xs buf : List A) (i : ℕ) (z : A) → i < at → at ≤ length buf → getD (placed at xs buf) i z ≡ getD buf i z
+  unfolding placed
+  placed-before at xs buf i z h room =
+      List·getD-append (take at buf) (xs ++ drop (at + length xs) buf) z i (omega (arith, length-take-le at buf room)) ∙ getD-take at buf i z h
+
+  -- what was written is read there
+  pub placed-read : (at : ℕ) (xs buf : List A) → at ≤ length buf → take (length xs) (drop at (placed at xs buf)) ≡ xs
+  unfolding placed
+  placed-read at xs buf room =
+      ap (take (length xs)) (drop-at (take at buf) (xs ++ drop (at + length xs) buf) at (length-take-le at buf room)) ∙ take-at xs _ (length xs) refl
+
+  -- a longer list written over a list
+  pub placed-over : (at : ℕ) (xs ys buf : List A) → length xs ≤ length ys → at + length xs ≤ length buf → placed at ys (placed at xs buf) ≡ placed at ys buf
+  unfolding placed
+  placed-over at xs ys buf h room = ap₂ {C = List A} (λ a b. a ++ (ys ++ b)) front back
+    where
+      front : take at (placed at xs buf) ≡ take at buf
+      front = take-at (take at buf) (xs ++ drop (at + length xs) buf) at (length-take-le at buf (omega arith))
+
+      back : drop (at + length ys) (placed at xs buf) ≡ drop (at + length ys) buf
+      back =
+          let d = length ys - length xs in
+          let e : at + length ys ≡ at + length xs + d = omega arith in
+          rw e
+          (sym (drop-drop d (at + length xs) (placed at xs buf)) ∙ ap (drop d) (placed-behind at xs buf room) ∙ drop-drop d (at + length xs) buf)
 
   -- a store is a list of one word
   pub placed-one : (at : ℕ) (x : A) (buf : List A) → at < length buf → set buf at x ≡ placed at (x ∷ []) buf

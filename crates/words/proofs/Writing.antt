@@ -7,21 +7,24 @@
 --   left-item, left-items             of the lists of a list's elements: one less; none is left
 --   left-record, left-records         of tabulated lists: one less; none is left
 --   left-fits, left-item-fits, left-record-fits     the piece has room
---   left-ahead                        where nothing is written yet the buffer is as it was
+--   left-ahead, left-before           ahead and before `at` the buffer is as it was
+--   left-read                         and what is written is read
 --   put-nothing, put-as               nothing put; the same told of equal places and buffers
 --   put-first                         put at the start: the list, and the buffer's rest
+--   put-part                          put into a part that was lent to a call
 -- Assumes nothing.
 use mathlib.Core.Path.{_≡_, refl, sym, ap, _∙_}
 use mathlib.Core.List.{List, [], _∷_, _++_, map, append-assoc, append-nil}
 use Prim.Native.Nat.{ℕ, _+_, _≤_, _<_}
 use native.Mathlib.Nat.{add-zero}
 use native.Mathlib.Omega.{arith}
-use lib.ListN.{length, drop, getD, set, length-append, drop-of-length-le}
+use lib.ListN.{length, drop, getD, set, length-append, drop-of-length-le, take}
+use lib.Seq.{drop-drop}
 use Rattle.words.specs.Records.{tabulate, concat}
 use Rattle.words.specs.Placed.{placed, Put}
 use Rattle.words.proofs.Loops.{drop-next}
-use Rattle.words.proofs.Records.{tabulate-length, tabulate-at}
-use Rattle.words.proofs.Placed.{placed-first, placed-none, placed-length, placed-then, placed-one, placed-behind}
+use Rattle.words.proofs.Records.{tabulate-length, tabulate-at, read-front}
+use Rattle.words.proofs.Placed.{placed-first, placed-none, placed-length, placed-then, placed-one, placed-behind, placed-before}
 
 module _ {A : Type 0} where
   pub put-nothing : (at : ℕ) (old : List A) → Put at [] old at old
@@ -32,6 +35,11 @@ module _ {A : Type 0} where
 
   pub put-first : {xs old new : List A} {next : ℕ} → Put 0 xs old next new → new ≡ xs ++ drop (length xs) old
   put-first {xs} {old} p = p .content ∙ placed-first xs old
+
+  -- a part of a buffer after a call that was lent it
+  pub put-part : (at m : ℕ) (xs old : List A) (next : ℕ) → length xs ≡ m → next ≡ at + m → Put at xs old next (take at old ++ (xs ++ drop m (drop at old)))
+  unfolding placed
+  put-part at m xs old next e n = record { place = rw e n; content = rw (drop-drop m at old, e) }
 
   pub record Left (at : ℕ) (all old : List A) (cur : ℕ) (rest buf : List A) : Type 0 where
     pub done : List A
@@ -116,3 +124,14 @@ module _ {A : Type 0} where
 
     pub left-ahead : (rest : List A) → Left at all old cur rest buf → drop cur buf ≡ drop cur old
     left-ahead rest l = rw (l .put .place, l .put .content) (placed-behind at (l .done) old (omega (arith, l .put .place, l .room, l .same)))
+
+    -- before it too
+    pub left-before : (rest : List A) → Left at all old cur rest buf → (i : ℕ) (z : A) → i < at → at ≤ length old → getD buf i z ≡ getD old i z
+    left-before rest l i z h room = rw (l .put .content) (placed-before at (l .done) old i z h room)
+
+    -- what is written from the start on is read there
+    pub left-read : (rest : List A) → Left at all old cur rest buf → at ≡ 0 → (p n : ℕ) → p + n ≤ cur → take n (drop p buf) ≡ take n (drop p all)
+    left-read rest l e p n h =
+        let start : Put 0 (l .done) old cur buf = rw e at (l .put) in
+        rw (put-first start, sym (l .parts))
+        (read-front (l .done) (drop (length (l .done)) old) p n (omega arith) ∙ sym (read-front (l .done) rest p n (omega arith)))
