@@ -31,10 +31,7 @@ fn cell_at(b: &[u8], p: usize) -> usize
 fn no_sign(x: u8) -> bool
     ensures { λ r. ⌜ r ≡ not (eqb x 43 || eqb x 45) ⌝ }
 {
-    if x == 43 {
-        return false;
-    }
-    x != 45
+    !((x == 43) | (x == 45))
 }
 
 // Row 6: a sign byte that is neither plus nor minus.
