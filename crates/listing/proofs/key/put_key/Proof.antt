@@ -1,6 +1,6 @@
 -- `key::put_key` meets its contract: the first line, the vertices, the faces. Assumes nothing.
 use native.Mathlib.Omega.{arith}
-use Rattle.printing.proofs.Placing.{left-fits}
+use Rattle.words.proofs.Writing.{left-fits}
 use Rattle.listing.specs.Lines.{vertexLines}
 use Rattle.boundary.proofs.Sizes.{faces-few}
 use Rattle.listing.proofs.KeyText.{first-fits, vertices-left, faces-left, key-put}
