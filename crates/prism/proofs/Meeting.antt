@@ -1,7 +1,7 @@
 -- Which swept cells meet at which faces.
 use mathlib.Core.Path.{_≡_, refl, sym, ap, ap₂, _∙_, subst}
 use mathlib.Core.Logic.{_⊎_, inl, inr}
-use mathlib.Core.Bool.{Bool, true, false, false≢true}
+use mathlib.Core.Bool.{true, false≢true}
 use mathlib.Core.List.{List, [], _∷_, _++_, append-nil}
 use Prim.Native.Nat.{ℕ, zero, suc, _+_, _*_, _≤_, _<_}
 use native.Mathlib.Omega.{arith}
@@ -12,7 +12,7 @@ use borrow.Author.Tests.{eq-eqb}
 use Rattle.simplex.specs.Cell.{Cell, Row, filled, one}
 use Rattle.simplex.specs.Chain.{total}
 use Rattle.simplex.specs.Faces.{allFaces, facets, without}
-use Rattle.simplex.proofs.Counts.{All, sumRows-countFaces-zero, sumRows-zero}
+use Rattle.simplex.proofs.Counts.{All, one-le, sumRows-countFaces-zero, sumRows-zero}
 use Rattle.simplex.proofs.FaceCounts.{facets-le, without-filled}
 use Rattle.simplex.proofs.Rows.{Below, Filled, Good, Long}
 use Rattle.simplex.proofs.Without.{without-length}
@@ -254,10 +254,6 @@ module _ (nv d h : ℕ) (cs : List Cell) (s : Solid nv cs) (ln : All (Long (suc 
         neighbour-empty p 0 u cs (omega arith) e,
         one-le (hasFace u (rowAt cs p)),
       )
-    where
-      one-le : (t : Bool) → one t ≤ 1
-      one-le true = omega arith
-      one-le false = omega arith
 
   pub side-none : (i p a l : ℕ) → i < h → p < S → a ≤ d → l < d → S ≤ 65535 → neighbourFrom p 0 (without a (rowAt cs p)) cs ≡ 65535 →
       wing i p (sideCell a l) (sidePosition d a l) ≡ 65535

@@ -1,6 +1,6 @@
 -- The swept faces that do not stand alone cancel.
 use mathlib.Core.Path.{_≡_, refl, sym, ap₂, _∙_}
-use mathlib.Core.Bool.{Bool, true, false, not, cond, _&&_, false≢true}
+use mathlib.Core.Bool.{Bool, true, false, not, cond, false≢true}
 use mathlib.Core.List.{List, [], _∷_, _++_, map}
 use Prim.Native.Nat.{ℕ, zero, suc, _+_, _*_, _≤_, _<_}
 use native.Mathlib.Omega.{arith}
@@ -11,7 +11,7 @@ use Rattle.simplex.specs.Cell.{Cell, Row, filled, one, sameRow, times}
 use Rattle.simplex.specs.Chain.{sumRows, total}
 use Rattle.simplex.specs.Faces.{allFaces, faces, facets, prefixed}
 use Rattle.simplex.proofs.Cancel.{Balanced, Paired, count-keep, loneIn, on-bal, plus-minus, restricted}
-use Rattle.simplex.proofs.Counts.{All, All-append, sumChain-le, sumRows-allFaces}
+use Rattle.simplex.proofs.Counts.{All, All-append, cond-le, one-and, sumChain-le, sumRows-allFaces}
 use Rattle.simplex.proofs.Rows.{Below, Good, hits}
 use Rattle.simplex.proofs.Sums.{Functional, plusOn, sumChain, sumChain-allFaces, sumChain-append}
 use Rattle.complex.proofs.Solid.{Solid}
@@ -48,10 +48,6 @@ allFaces-below nv [] a = tt
 allFaces-below nv (c ∷ cs) a =
     All-append (Below nv) (faces (c .sign) (c .row)) (allFaces cs) (faces-below nv (c .sign) (c .row) (a .0 .1)) (allFaces-below nv cs (a .1))
 
-cond-le : (t : Bool) (n : ℕ) → cond t n 0 ≤ n
-cond-le true n = omega arith
-cond-le false n = omega arith
-
 overPrism-bound : (nv i : ℕ) (w : Row) (c : Bool) (y : Row) → Below nv y → overPrism (plusOn w) (i * nv) (suc i * nv) c y ≤ sideOn nv w y
 overPrism-bound nv i w c y b =
     omega (
@@ -87,11 +83,7 @@ sumChain-off nv r f b (c ∷ F) a h = ap₂ (λ m n. m + n)
     go true n l = refl
     go false n l = omega arith
 
-pub one-and : (s t : Bool) → one (s && t) ≤ one t
-one-and true t = omega arith
-one-and false t = omega arith
-
--- where the faces on the side's (baseIn nv w) row cancel, so do the swept ones
+-- where the faces on the side's base row cancel, so do the swept ones
 sweep-bal : (nv h : ℕ) (w : Row) (F : List Cell) → All (Below nv) F →
     Balanced (baseIn nv w) F → Balanced w (sweepOf nv h F)
 sweep-bal nv zero w F a e = refl

@@ -7,37 +7,32 @@ use native.Mathlib.Omega.{arith}
 use native.Mathlib.Nat.{suc-mul, mul-le-mul-right}
 use lib.Dec.{eqb}
 use lib.ListN.{length, take, drop}
-use Rattle.words.specs.Records.{tabulate}
 use Rattle.simplex.specs.Cell.{Cell, Row, sameRow}
 use Rattle.simplex.specs.Chain.{sumRows, total}
 use Rattle.simplex.specs.Faces.{allFaces, facets}
 use Rattle.simplex.specs.Sort.{Asc}
 use Rattle.simplex.proofs.Cancel.{Paired}
-use Rattle.simplex.proofs.Counts.{All, All-append, sumChain-le, sumChain-sumRows, sumRows-append, sumRows-cond, sumRows-le}
+use Rattle.simplex.proofs.Counts.{All, All-append, one-and, sumChain-le, sumChain-sumRows, sumRows-append, sumRows-cond, sumRows-le}
 use Rattle.simplex.proofs.FaceCounts.{All-both, facets-le, facets-same}
 use Rattle.simplex.proofs.Rows.{Below, Filled, Good, Long, hits}
-use Rattle.complex.proofs.Solid.{Solid}
+use Rattle.complex.proofs.Solid.{Solid, all-tabulated}
 use Rattle.prism.specs.Cells.{level, prism, prismCell, sweepOf}
 use Rattle.prism.proofs.Decode.{levelIn}
 use Rattle.prism.proofs.FaceBounds.{baseIn, acrossLevels, countPrism-bound, lowerIn, raisedRow, sideOn, upperIn}
 use Rattle.prism.proofs.FaceKinds.{acrossLevels-le, swept-meet}
 use Rattle.prism.proofs.Level.{dimensionSign, overPrism, raised}
-use Rattle.prism.proofs.Pairs.{one-and, swept-paired}
+use Rattle.prism.proofs.Pairs.{swept-paired}
 use Rattle.prism.proofs.PrismCounts.{doubled, sumPrism-countPrism}
 use Rattle.prism.proofs.SweptRows.{below-drop, below-take, drop-non, len-cell, prismRow}
 use Rattle.prism.proofs.SweptSums.{sumChain-level}
 
 -- what holds of each prism cell holds of each swept cell
-all-tabulate : (R : Row → Type 0) (n : ℕ) (f : ℕ → Cell) → ((k : ℕ) → k < n → R (f k .row)) → All R (tabulate n f)
-all-tabulate R zero f h = tt
-all-tabulate R (suc n) f h = (h 0 (omega arith), all-tabulate R n (λ k. f (suc k)) (λ k l. h (suc k) (omega arith)))
-
 all-level : (R Q : Row → Type 0) (nv i : ℕ) (cs : List Cell) → All Q cs →
     ((v : Row) → Q v → (k : ℕ) → k < length v → R (prismRow (i * nv) (suc i * nv) k v)) → All R (level nv i cs)
 all-level R Q nv i [] a h = tt
 all-level R Q nv i (c ∷ cs) a h =
     All-append R (prism nv i c) (level nv i cs)
-    (all-tabulate R (length (c .row)) (λ k. prismCell nv i k c) (h (c .row) (a .0))) (all-level R Q nv i cs (a .1) h)
+    (all-tabulated R (length (c .row)) (λ k. prismCell nv i k c) (h (c .row) (a .0))) (all-level R Q nv i cs (a .1) h)
 
 all-sweep : (R Q : Row → Type 0) (nv h : ℕ) (cs : List Cell) → All Q cs →
     ((i : ℕ) (v : Row) → i < h → Q v → (k : ℕ) → k < length v → R (prismRow (i * nv) (suc i * nv) k v)) → All R (sweepOf nv h cs)
