@@ -18,7 +18,7 @@ use Rattle.words.proofs.Records.{EachLong, part-concat, tabulate-at, tabulate-e
 use Rattle.simplex.specs.Cell.{Sign, sameRow}
 use Rattle.adjacency.specs.Held.{heldWords, recordHeld, run}
 use Rattle.simplex.specs.SignWords.{signWord}
-use Rattle.complex.specs.Layout.{recordSize, tableLength}
+use Rattle.records.specs.Layout.{recordSize, tableLength}
 use Rattle.complex.proofs.Codec.{part-length}
 use Rattle.matching.proofs.KeptRows.{same-false}
 use Rattle.adjacency.proofs.Repeats.{same-rows}

@@ -18,7 +18,7 @@ use Rattle.simplex.specs.Order.{ascending, sorted}
 use Rattle.simplex.proofs.Insert.{Each}
 use Rattle.complex.specs.Accept.{Listed, badSign, listedCells, repeats, solidOf, solidRules, vertexBeyond, vertexTwice}
 use Rattle.adjacency.specs.Held.{badAt, beyondAt, cellHeld, cellRead, falls, faults, heldCells, recordList}
-use Rattle.complex.specs.Layout.{cellOf, listSize}
+use Rattle.records.specs.Layout.{cellOf, listSize}
 use Rattle.adjacency.specs.Scan.{anyBelow}
 use Rattle.adjacency.proofs.Adjacent.{held-falls, held-vertex}
 use Rattle.adjacency.proofs.Below.{below-not, some-below, true-unless}

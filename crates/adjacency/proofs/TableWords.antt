@@ -14,7 +14,7 @@ use Rattle.simplex.proofs.Counts.{All}
 use Rattle.simplex.proofs.Rows.{Long}
 use Rattle.adjacency.specs.Held.{Winged, cellHeld, heldCells, heldWords, recordHeld, run}
 use Rattle.simplex.specs.SignWords.{signWord}
-use Rattle.complex.specs.Layout.{Entry, entryWords, tableWords}
+use Rattle.records.specs.Layout.{Entry, entryWords, tableWords}
 use Rattle.complex.specs.Table.{entryAt, tableOf}
 use Rattle.complex.specs.Wings.{neighbour, wingsOf}
 use Rattle.adjacency.proofs.Adjacent.{held-at, held-length, held-long, held-vertex}

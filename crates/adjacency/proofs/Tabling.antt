@@ -15,7 +15,7 @@ use borrow.Author.Tests.{lt-ltb, le-ltb}
 use Rattle.rules.specs.Calls.{Rule, firstRefusal, refuse, written}
 use Rattle.rules.proofs.Answers.{allNumbered, orElse, firstRefusal-append, firstRefusal-passed, firstRefusal-refused}
 use Rattle.complex.specs.Accept.{Listed, solidRules}
-use Rattle.complex.specs.Layout.{listSize, tableLength}
+use Rattle.records.specs.Layout.{listSize, tableLength}
 use Rattle.complex.specs.Table.{tableOfList}
 use Rattle.adjacency.specs.Held.{recordList}
 use Rattle.adjacency.specs.Tabled.{listWith, tableRefusal, tableAfter}

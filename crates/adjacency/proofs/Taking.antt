@@ -21,7 +21,7 @@ use Rattle.simplex.specs.Cell.{Sign}
 use Rattle.simplex.specs.Faces.{facets}
 use Rattle.complex.specs.Accept.{Listed, badSign, cellTwice, crowdedFace, equalSigns, listedCells, solidOf, solidRules, vertexBeyond, vertexTwice}
 use Rattle.adjacency.specs.Held.{Taken, heldWords, recordList}
-use Rattle.complex.specs.Layout.{listSize, tableWords}
+use Rattle.records.specs.Layout.{listSize, tableWords}
 use Rattle.complex.specs.Table.{tableOf, tableOfList}
 use Rattle.adjacency.proofs.Filling.{parts-of}
 use Rattle.adjacency.proofs.TableWords.{table-words}

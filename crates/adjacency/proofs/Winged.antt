@@ -9,7 +9,7 @@ use native.Mathlib.Nat.{zero-add, div-add-mod', mod-lt}
 use lib.ListN.{length, getD}
 use lib.Dec.{eqb}
 use borrow.Author.Tests.{eqb-true, eqb-false}
-use Rattle.rules.specs.Limits.{empty}
+use Rattle.records.specs.Layout.{empty}
 use Rattle.simplex.specs.Cell.{Cell, Row, one}
 use Rattle.simplex.specs.Chain.{total}
 use Rattle.simplex.specs.Faces.{face, facets, without}

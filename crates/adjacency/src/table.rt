@@ -4,7 +4,7 @@ ghost use Prim.Native.Nat.{_+_, _*_, _<_, _≤_};
 ghost use lib.ListN.{length};
 ghost use Rattle.words.specs.Placed.{placed};
 ghost use Rattle.simplex.specs.Cell.{sameRow};
-ghost use Rattle.complex.specs.Layout.{recordSize, tableLength};
+ghost use Rattle.records.specs.Layout.{recordSize, tableLength};
 ghost use Rattle.adjacency.specs.Held.{run, recordHeld, heldWords};
 use simplex::sign_words::sign_word;
 

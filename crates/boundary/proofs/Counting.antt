@@ -16,11 +16,10 @@ use lib.Dec.{eqb}
 use lib.ListN.{length, getD, length-append, length-drop}
 use Rattle.words.specs.Records.{tabulate, concat, part}
 use Rattle.words.proofs.Records.{tabulate-ext}
-use Rattle.rules.specs.Limits.{empty}
 use Rattle.simplex.specs.Cell.{Cell, cell, filled}
 use Rattle.simplex.specs.Faces.{face, faces, keep}
 use Rattle.simplex.proofs.Faces.{faces-length, face-at}
-use Rattle.complex.specs.Layout.{Entry, entriesOf, recordSize, listSize, tableLength, cellWords}
+use Rattle.records.specs.Layout.{empty, Entry, entriesOf, recordSize, listSize, tableLength, cellWords}
 use Rattle.boundary.specs.Boundary.{atEmpty, boundaryOf}
 use Rattle.boundary.proofs.EntryWords.{row-long, face-long, part-long}
 use Rattle.words.proofs.Placed.{words-concat}

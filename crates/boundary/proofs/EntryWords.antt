@@ -13,12 +13,11 @@ use lib.Dec.{eqb}
 use lib.ListN.{length, getD, take, drop, length-drop}
 use lib.Seq.{getD-take, getD-drop, length-take-le}
 use Rattle.words.specs.Records.{part}
-use Rattle.rules.specs.Limits.{empty}
 use Rattle.simplex.specs.Cell.{Cell, Row, filled, times, alternating}
 use Rattle.simplex.specs.Faces.{face, without}
 use Rattle.simplex.proofs.FaceCounts.{without-filled}
 use Rattle.simplex.specs.SignWords.{signOf, signWord}
-use Rattle.complex.specs.Layout.{recordSize, listSize, entryOf, cellWords}
+use Rattle.records.specs.Layout.{empty, recordSize, listSize, entryOf, cellWords}
 use Rattle.simplex.specs.SignWords.{turnedSign}
 use Rattle.boundary.specs.Written.{onBoundary}
 

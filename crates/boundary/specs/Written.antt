@@ -11,10 +11,9 @@ use Prim.Native.Nat.{ℕ, suc, _+_}
 use lib.Dec.{eqb}
 use lib.ListN.{getD}
 use Rattle.words.specs.Records.{tabulate, concat, part}
-use Rattle.rules.specs.Limits.{empty}
 use Rattle.simplex.specs.Cell.{Cell, filled}
 use Rattle.simplex.specs.Faces.{face, without}
-use Rattle.complex.specs.Layout.{Entry, entryOf, recordSize, cellWords}
+use Rattle.records.specs.Layout.{empty, Entry, entryOf, recordSize, cellWords}
 use Rattle.boundary.specs.Faces.{FacesInput}
 
 abbrev pub facesInput : ℕ → ℕ → ℕ → List ℕ → ℕ → FacesInput

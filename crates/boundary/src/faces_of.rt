@@ -3,7 +3,7 @@ ghost use mathlib.Core.Path.{_≡_};
 ghost use Prim.Native.Nat.{_+_, _<_, _≤_};
 ghost use lib.ListN.{length, getD};
 ghost use Rattle.simplex.specs.Faces.{face};
-ghost use Rattle.complex.specs.Layout.{recordSize, entryOf, cellWords};
+ghost use Rattle.records.specs.Layout.{recordSize, entryOf, cellWords};
 ghost use Rattle.boundary.specs.Written.{onBoundary, facesAt, cellFaces};
 use simplex::sign_words::turned;
 

@@ -3,7 +3,7 @@ ghost use mathlib.Core.Path.{_≡_};
 ghost use Prim.Native.Nat.{_+_, _*_, _<_, _≤_};
 ghost use lib.ListN.{length};
 ghost use Rattle.simplex.specs.Faces.{face};
-ghost use Rattle.complex.specs.Layout.{recordSize, tableLength, entryOf, cellWords};
+ghost use Rattle.records.specs.Layout.{recordSize, tableLength, entryOf, cellWords};
 ghost use Rattle.words.specs.Placed.{placed};
 ghost use Rattle.boundary.specs.Written.{faceWords, cellWordsOf, tableFaces, allWords};
 use crate::faces_of::count_cell;

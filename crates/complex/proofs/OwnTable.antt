@@ -12,7 +12,7 @@ use Rattle.simplex.specs.Cell.{Cell}
 use Rattle.simplex.proofs.Counts.{All}
 use Rattle.simplex.proofs.Rows.{Long, same-rows}
 use Rattle.complex.specs.Accept.{acceptable, solidOf}
-use Rattle.complex.specs.Layout.{cellWords, entriesOf, ownList, recordSize, tableLength, tableWords}
+use Rattle.records.specs.Layout.{cellWords, entriesOf, ownList, recordSize, tableLength, tableWords}
 use Rattle.complex.specs.Table.{listed, ownTable, sound, tableOf, tableOfList}
 use Rattle.complex.proofs.Accepted.{listOf, solid-accepted, solid-back}
 use Rattle.complex.proofs.Codec.{Sized, entries-back, own-list, table-length, table-sized}

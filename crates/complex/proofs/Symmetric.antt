@@ -8,7 +8,7 @@ use native.Mathlib.Decide.{decLt}
 use mathlib.Core.Bool.{false≢true, true}
 use native.Mathlib.Nat.{le-of-suc-le-suc, not-suc-le-zero, zero-add}
 use lib.ListN.{length}
-use Rattle.rules.specs.Limits.{empty}
+use Rattle.records.specs.Layout.{empty}
 use Rattle.simplex.specs.Cell.{Cell, Row, filled, one, sameRow}
 use Rattle.simplex.specs.Chain.{sumRows}
 use Rattle.simplex.specs.Faces.{without}

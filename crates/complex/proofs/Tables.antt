@@ -12,13 +12,12 @@ use lib.Dec.{eqb}
 use borrow.Author.Tests.{eqb-false, eqb-true}
 use Rattle.words.specs.Records.{tabulate}
 use Rattle.words.proofs.Records.{tabulate-at, tabulate-length}
-use Rattle.rules.specs.Limits.{empty}
 use Rattle.simplex.specs.Cell.{Cell, Row, Sign, cell}
 use Rattle.simplex.specs.Faces.{faces, prefixed, without}
 use Rattle.simplex.proofs.Counts.{All}
 use Rattle.simplex.proofs.Rows.{Long}
 use Rattle.simplex.proofs.Without.{without-length}
-use Rattle.complex.specs.Layout.{Entry}
+use Rattle.records.specs.Layout.{empty, Entry}
 use Rattle.complex.specs.Table.{entriesFrom, entryAt, tableOf, wingAt}
 use Rattle.complex.specs.Wings.{neighbour, neighbourFrom, wingsOf}
 use Rattle.complex.proofs.Neighbours.{Wing, has-is, neighbour-is}

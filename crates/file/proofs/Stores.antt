@@ -19,7 +19,7 @@ use Rattle.words.proofs.Bytes.{words-length}
 use Rattle.words.proofs.Loops.{drop-next, sets-append}
 use Rattle.simplex.specs.Cell.{Cell}
 use Rattle.simplex.specs.SignWords.{signWord}
-use Rattle.complex.specs.Layout.{listSize, cellWords}
+use Rattle.records.specs.Layout.{listSize, cellWords}
 use Rattle.file.specs.File.{dimensionOf, cellCountOf, fileLength, fileCells}
 use Rattle.file.specs.Tests.{cellsLength, fileWords}
 use Rattle.file.proofs.Parts.{cellPlace, noCell, cells-length, words-at}

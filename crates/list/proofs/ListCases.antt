@@ -17,7 +17,7 @@ use Rattle.rules.specs.Limits.{axesOk, verticesOk, within, maxCells}
 use Rattle.rules.specs.Shapes.{shapeOk}
 use Rattle.rules.specs.Calls.{Outcome, accepted, refused, after}
 use Rattle.rules.proofs.Tests.{and-parts}
-use Rattle.complex.specs.Layout.{tableLength}
+use Rattle.records.specs.Layout.{tableLength}
 use Rattle.complex.specs.Table.{sound}
 use Rattle.points.specs.Step.{inRange}
 use Rattle.printing.specs.Put.{Put}

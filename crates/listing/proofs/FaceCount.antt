@@ -12,7 +12,7 @@ use Rattle.words.specs.Records.{tabulate, part}
 use Rattle.simplex.specs.Cell.{Cell, filled}
 use Rattle.simplex.specs.Faces.{faces, keep}
 use Rattle.simplex.proofs.Faces.{faces-length}
-use Rattle.complex.specs.Layout.{Entry, entryOf, recordSize}
+use Rattle.records.specs.Layout.{Entry, entryOf, recordSize}
 use Rattle.boundary.specs.Boundary.{atEmpty, boundaryOf}
 use Rattle.listing.specs.Parts.{boundaryFaces, facesOf}
 

@@ -17,7 +17,7 @@ use lib.Seq.{take-nil, slice, take-take, drop-drop, getD-take, getD-drop}
 use Rattle.simplex.specs.Cell.{Row, Sign, times, alternating}
 use Rattle.simplex.specs.Faces.{without, face}
 use Rattle.simplex.specs.SignWords.{signOf}
-use Rattle.complex.specs.Layout.{recordSize}
+use Rattle.records.specs.Layout.{recordSize}
 use Rattle.printing.specs.Decimal.{digits}
 use Rattle.printing.specs.Fields.{fields, restOfLine, line}
 use Rattle.printing.specs.Put.{Put}

@@ -22,7 +22,7 @@ use Rattle.words.proofs.Records.{tabulate-length, tabulate-at}
 use Rattle.simplex.specs.Cell.{Row, Sign, Cell, cell, filled}
 use Rattle.simplex.specs.Faces.{without, face, faces, keep}
 use Rattle.simplex.proofs.Faces.{faces-length, face-at}
-use Rattle.complex.specs.Layout.{Entry, entryOf, entriesOf, recordSize}
+use Rattle.records.specs.Layout.{Entry, entryOf, entriesOf, recordSize}
 use Rattle.boundary.specs.Boundary.{atEmpty, boundaryOf}
 use Rattle.listing.specs.Lines.{faceLine, faceLines}
 use Rattle.listing.specs.Parts.{recordAt, RecordOf, boundaryFaces, facesOf, Table}

@@ -18,7 +18,7 @@ use lib.ListN.{length, take, drop}
 use Rattle.words.specs.Records.{allOf}
 use Rattle.simplex.specs.Cell.{Cell, filled}
 use Rattle.simplex.specs.Faces.{faces, keep}
-use Rattle.complex.specs.Layout.{Entry, entryOf, entriesOf, recordSize, tableLength}
+use Rattle.records.specs.Layout.{Entry, entryOf, entriesOf, recordSize, tableLength}
 use Rattle.boundary.specs.Boundary.{atEmpty, boundaryOf}
 use Rattle.points.specs.Step.{inRange}
 use Rattle.listing.specs.Lines.{faceLines, keyText}

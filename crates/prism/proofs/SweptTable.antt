@@ -10,12 +10,11 @@ use lib.Seq.{ext-getD, getD-append-add}
 use mathlib.Core.Bool.{true}
 use Rattle.words.specs.Records.{concat, tabulate}
 use Rattle.words.proofs.Records.{EachLong, concat-length, tabulate-at, tabulate-ext, tabulate-length}
-use Rattle.rules.specs.Limits.{empty}
 use Rattle.simplex.specs.Cell.{Cell, cell}
 use Rattle.simplex.specs.Faces.{without}
 use Rattle.simplex.proofs.Counts.{All}
 use Rattle.simplex.proofs.Rows.{Long}
-use Rattle.complex.specs.Layout.{Entry}
+use Rattle.records.specs.Layout.{empty, Entry}
 use Rattle.complex.specs.Table.{entryAt, tableOf, wingAt}
 use Rattle.complex.specs.Wings.{neighbour, wingsOf}
 use Rattle.complex.proofs.Solid.{Solid, all-at, rowAt}

@@ -11,7 +11,7 @@ use native.Mathlib.Omega.{arith}
 use lib.Dec.{eqb}
 use lib.ListN.{getD}
 use borrow.Author.Tests.{eq-eqb, ne-eqb, le-ltb, lt-ltb, le-leb, lt-leb, eqb-true, eqb-false}
-use Rattle.rules.specs.Limits.{empty}
+use Rattle.records.specs.Layout.{empty}
 use Rattle.prism.specs.Sides.{sidePair, sideFace, sidePlace}
 use Rattle.sweeping.specs.SideTable.{sidePairOf}
 use Rattle.prism.specs.Wings.{cellNumber, backTo, wingAside, wingAbove, wingBelow, sweptWing}

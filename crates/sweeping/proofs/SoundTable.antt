@@ -14,7 +14,7 @@ use lib.Seq.{length-take-le}
 use borrow.Author.Tests.{eqb-true, leb-true}
 use Rattle.words.specs.Records.{part}
 use Rattle.words.proofs.Records.{tabulate-length}
-use Rattle.rules.specs.Limits.{empty, maxSource, maxVertices, maxCells, maxDimension, within, sizesOk, verticesOk, sweptVertices}
+use Rattle.rules.specs.Limits.{maxSource, maxVertices, maxCells, maxDimension, within, sizesOk, verticesOk, sweptVertices}
 use Rattle.rules.specs.Shapes.{shapeOk}
 use Rattle.rules.proofs.Tests.{and-parts}
 use Rattle.simplex.specs.Cell.{Cell, Row, sameRow}
@@ -22,7 +22,7 @@ use Rattle.simplex.specs.Order.{ascending}
 use Rattle.simplex.proofs.Counts.{All}
 use Rattle.simplex.proofs.Rows.{Below, Good, Long, sameRow-true}
 use Rattle.complex.specs.Accept.{Listed, acceptable, solidOf, listedCells}
-use Rattle.complex.specs.Layout.{Entry, cellOf, entriesOf, listSize, ownList, recordSize, tableLength, tableWords}
+use Rattle.records.specs.Layout.{empty, Entry, cellOf, entriesOf, listSize, ownList, recordSize, tableLength, tableWords}
 use Rattle.complex.specs.Table.{entryAt, listed, ownTable, sound, tableOf, tableOfList, wingAt}
 use Rattle.complex.proofs.Accepted.{accepted-solid}
 use Rattle.complex.proofs.OwnTable.{entries-of-words}
@@ -34,7 +34,7 @@ use Rattle.prism.specs.Wings.{backTo}
 use Rattle.sweeping.specs.Written.{solidEntries, solidVertex, solidWing, Ready}
 use Rattle.words.proofs.Placed.{concat-tabulate-length}
 use Rattle.prism.proofs.SweptWings.{back-is}
-use Rattle.sweeping.proofs.TableWords.{part-long}
+use Rattle.records.proofs.Parts.{part-long}
 
 -- the entries ws are those of the table of the cells of a solid
 pub record TableOf (d v s : ℕ) (ws : List ℕ) (cs : List Cell) : Type 0 where

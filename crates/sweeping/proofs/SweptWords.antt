@@ -12,7 +12,7 @@ use native.Mathlib.Omega.{arith}
 use lib.ListN.{length}
 use Rattle.words.specs.Records.{tabulate, concat}
 use Rattle.words.proofs.Records.{tabulate-ext, tabulate-map}
-use Rattle.complex.specs.Layout.{entriesOf, entryWords, tableWords, tableLength, recordSize}
+use Rattle.records.specs.Layout.{entriesOf, entryWords, tableWords, tableLength, recordSize}
 use Rattle.prism.specs.Swept.{sweptEntry, sweptTable, sweptCells}
 use Rattle.sweeping.specs.Written.{solidEntries, recordWords, prismWords, levelWords, allWords}
 use Rattle.words.proofs.Placed.{concat-tabulate-length, words-concat}

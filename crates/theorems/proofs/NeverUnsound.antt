@@ -20,7 +20,7 @@ use Rattle.rules.specs.Calls.{Rule, firstRefusal, Outcome, accepted, refused, o
 use Rattle.rules.proofs.Accepting.{accepted-by}
 use Rattle.simplex.specs.Order.{ascending}
 use Rattle.complex.specs.Accept.{listedCells, solidOf, solidRules}
-use Rattle.complex.specs.Layout.{cellOf, listSize, tableLength, tableWords}
+use Rattle.records.specs.Layout.{cellOf, listSize, tableLength, tableWords}
 use Rattle.complex.specs.Table.{sound, tableOf, tableOfList}
 use Rattle.wing.specs.Wing.{WingInput, wingInput, wingOutcome, wingBuffer, wingRules}
 use Rattle.complex.proofs.Accepted.{accepted-solid}

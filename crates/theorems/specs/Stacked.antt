@@ -11,11 +11,10 @@ use mathlib.Core.Bool.{Bool, true, false, cond, _&&_}
 use mathlib.Core.List.{List, [], _∷_, map}
 use Prim.Native.Nat.{ℕ, suc, _/_, _≤_}
 use lib.Dec.{eqb, ltb}
-use Rattle.rules.specs.Limits.{empty}
 use Rattle.rules.specs.Calls.{accepted, refused}
 use Rattle.simplex.specs.Cell.{Row}
 use Rattle.simplex.specs.Chain.{countOn, total, coefficient}
-use Rattle.complex.specs.Layout.{Entry, tableWords}
+use Rattle.records.specs.Layout.{empty, Entry, tableWords}
 use Rattle.boundary.specs.Boundary.{boundaryOf}
 use Rattle.boundary.specs.Faces.{FacesInput, facesOutcome}
 use Rattle.theorems.specs.Shorthand.{sweptEntries, ample}

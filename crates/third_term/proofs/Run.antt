@@ -11,7 +11,7 @@ use mathlib.Core.Bool.{true}
 use Rattle.words.specs.Records.{part}
 use Rattle.words.proofs.Records.{tabulate-length}
 use Rattle.rules.specs.Calls.{accepted, written}
-use Rattle.rules.specs.Limits.{empty, maxCells, maxDimension, maxSource, maxSteps, maxVertices, sizesOk, sweptVertices, verticesOk, within}
+use Rattle.rules.specs.Limits.{maxCells, maxDimension, maxSource, maxSteps, maxVertices, sizesOk, sweptVertices, verticesOk, within}
 use Rattle.rules.specs.Shapes.{shapeOk}
 use Rattle.rules.proofs.Tests.{and-parts}
 use Rattle.rules.proofs.Accepting.{front-of}
@@ -20,7 +20,7 @@ use Rattle.simplex.specs.Order.{ascending}
 use Rattle.simplex.proofs.Counts.{All}
 use Rattle.simplex.proofs.Rows.{Long}
 use Rattle.complex.specs.Accept.{listedCells}
-use Rattle.complex.specs.Layout.{Entry, cellOf, entriesOf, listSize, tableLength, tableWords}
+use Rattle.records.specs.Layout.{faceSize, empty, Entry, cellOf, entriesOf, listSize, tableLength, tableWords}
 use Rattle.complex.specs.Table.{sound, tableOf, tableOfList}
 use Rattle.wing.specs.Wing.{wingBuffer}
 use Rattle.complex.proofs.Accepted.{accepted-solid}
@@ -33,7 +33,7 @@ use Rattle.prism.proofs.SweptRows.{len-sweep}
 use Rattle.prism.proofs.SweptSolid.{swept-long, swept-solid}
 use Rattle.prism.proofs.SweptTable.{swept-table}
 use Rattle.boundary.specs.Boundary.{boundaryOf, ownBoundary}
-use Rattle.boundary.specs.Faces.{boundaryCells, faceSize, facesBuffer, facesOutcome, facesRules}
+use Rattle.boundary.specs.Faces.{boundaryCells, facesBuffer, facesOutcome, facesRules}
 use Rattle.boundary.proofs.EmptyWings.{boundary-own}
 use Rattle.third_term.specs.ThirdTerm.{Sitting, Unrefused, boundary, boundaryWords, list, solid, sweptWritten, tableWritten, toFaces, toSweep}
 use Rattle.third_term.specs.ThirdTerm.{toWing}

@@ -15,7 +15,7 @@ use lib.Seq.{drop-drop, length-take-le, take-at}
 use Rattle.words.specs.Bytes.{bytesOf}
 use Rattle.words.proofs.Bytes.{bytes-length}
 use Rattle.words.specs.Records.{tabulate, concat}
-use Rattle.complex.specs.Layout.{entryOf, recordSize}
+use Rattle.records.specs.Layout.{entryOf, recordSize}
 use Rattle.words.specs.Placed.{placed}
 use Rattle.boundary.specs.Written.{onBoundary, faceWords, cellWordsOf, entryIn, allWords}
 use Rattle.boundary.proofs.Counting.{all-words-are, on-words, off-words, words-of-cell}

@@ -14,8 +14,8 @@ use Rattle.words.specs.Records.{concat}
 use Rattle.rules.specs.Limits.{maxDimension}
 use Rattle.rules.specs.Shapes.{shapeOk}
 use Rattle.rules.specs.Calls.{Outcome, accepted, refused, after}
-use Rattle.complex.specs.Layout.{cellWords, tableLength}
-use Rattle.boundary.specs.Faces.{boundaryCells, faceSize, facesOutcome}
+use Rattle.records.specs.Layout.{faceSize, cellWords, tableLength}
+use Rattle.boundary.specs.Faces.{boundaryCells, facesOutcome}
 use Rattle.boundary.proofs.Outcomes.{refused-at-2, refused-at-3}
 use Rattle.winged.specs.Host.{hosted, hostAnswer, inWords, hostFacesInput, hostFacesOutcome, hostFaces, hostFacesBuffer}
 use Rattle.winged.specs.Sent.{facesIn, facesAnswer, facesAfter}

@@ -16,7 +16,7 @@ use Rattle.words.specs.Bytes.{words16, bytesOf}
 use Rattle.rules.specs.Limits.{maxDimension, maxSource, stepsOk}
 use Rattle.rules.specs.Shapes.{shapeOk}
 use Rattle.rules.specs.Calls.{Outcome, accepted, refused, after}
-use Rattle.complex.specs.Layout.{cellWords}
+use Rattle.records.specs.Layout.{cellWords}
 use Rattle.wing.specs.Wing.{wingInput, wingOutcome}
 use Rattle.sweep.specs.Sweep.{sweepOutcome, sweepInput}
 use Rattle.boundary.specs.Faces.{FacesInput, boundaryCells, facesOutcome}

@@ -6,7 +6,7 @@ ghost use lib.ListN.{length};
 ghost use Rattle.words.specs.Bytes.{bytesOf};
 ghost use Rattle.rules.specs.Limits.{maxDimension};
 ghost use Rattle.rules.specs.Shapes.{shapeOk};
-ghost use Rattle.complex.specs.Layout.{recordSize, tableLength, entryOf};
+ghost use Rattle.records.specs.Layout.{recordSize, tableLength, entryOf};
 ghost use Rattle.words.specs.Placed.{placed};
 ghost use Rattle.boundary.specs.Written.{cellWordsOf, allWords};
 ghost use Rattle.winged.specs.Host.{hostFaces, hostFacesBuffer};

@@ -11,7 +11,7 @@ use borrow.Author.Tests.{not-true, not-false, eq-eqb, ne-eqb, lt-ltb, le-ltb}
 use lib.ListN.{length, drop}
 use Rattle.words.specs.Records.{concat}
 use Rattle.rules.specs.Calls.{accepted}
-use Rattle.complex.specs.Layout.{tableLength, cellWords}
+use Rattle.records.specs.Layout.{tableLength, cellWords}
 use Rattle.boundary.specs.Faces.{FacesInput, boundaryCells, facesLength}
 use Rattle.boundary.specs.Written.{facesInput, tableFaces, allWords}
 use Rattle.boundary.proofs.Counting.{boundary-is, words-are, words-long}

@@ -8,7 +8,7 @@ use Rattle.words.specs.Placed.{placed}
 use Rattle.words.specs.Records.{concat, tabulate}
 use Rattle.words.proofs.Placed.{placed-none, placed-record}
 use Rattle.adjacency.specs.Held.{heldWords, recordHeld}
-use Rattle.complex.specs.Layout.{recordSize}
+use Rattle.records.specs.Layout.{recordSize}
 use Rattle.adjacency.proofs.Filling.{record-fits, record-long, record-next, records-length}
 use Rattle.adjacency.proofs.table.fill.Statement.{statement}
 use Rattle.adjacency.proofs.table.fill.Tie as tie

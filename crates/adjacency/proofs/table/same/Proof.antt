@@ -7,7 +7,7 @@ use borrow.Author.Tests.{not-true, not-false}
 use Rattle.simplex.proofs.Rows.{sameRow-true}
 use Rattle.simplex.specs.Cell.{sameRow}
 use Rattle.adjacency.specs.Held.{recordHeld, run}
-use Rattle.complex.specs.Layout.{recordSize}
+use Rattle.records.specs.Layout.{recordSize}
 use Rattle.adjacency.proofs.Filling.{record-fits, record-next, table-other, table-same}
 use Rattle.adjacency.proofs.table.same.Statement.{statement}
 use Rattle.adjacency.proofs.table.same.Tie as tie

@@ -1,7 +1,7 @@
 -- One face is counted if it is on the boundary. Assumes nothing.
 use mathlib.Core.Path.{sym, _∙_}
 use borrow.Author.Needs.{needs}
-use Rattle.complex.specs.Layout.{entryOf}
+use Rattle.records.specs.Layout.{entryOf}
 use Rattle.boundary.proofs.Counting.{counted, skipped}
 use Rattle.boundary.proofs.faces_of.count_at.Statement.{statement}
 use Rattle.boundary.proofs.faces_of.count_at.Tie as tie

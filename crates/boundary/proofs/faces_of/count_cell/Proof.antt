@@ -5,7 +5,7 @@ use native.Mathlib.Omega.{arith}
 use borrow.Author.Needs.{needs}
 use lib.ListN.{length}
 use Rattle.words.specs.Records.{tabulate, concat}
-use Rattle.complex.specs.Layout.{entryOf}
+use Rattle.records.specs.Layout.{entryOf}
 use Rattle.boundary.specs.Written.{facesAt}
 use Rattle.boundary.proofs.Counting.{faces-of-cell, at-most-one}
 use Rattle.words.proofs.Placed.{concat-more-long}

@@ -5,7 +5,7 @@ use native.Mathlib.Omega.{arith}
 use borrow.Author.Needs.{needs}
 use lib.ListN.{getD}
 use Rattle.simplex.specs.Faces.{face}
-use Rattle.complex.specs.Layout.{cellWords, entryOf}
+use Rattle.records.specs.Layout.{cellWords, entryOf}
 use Rattle.boundary.proofs.EntryWords.{face-sign, face-before, face-behind}
 use Rattle.boundary.proofs.faces_of.face_word.Statement.{statement}
 use Rattle.boundary.proofs.faces_of.face_word.Tie as tie

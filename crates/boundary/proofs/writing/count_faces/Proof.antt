@@ -6,7 +6,7 @@ use native.Mathlib.Omega.{arith}
 use borrow.Author.Needs.{needs}
 use lib.ListN.{length}
 use Rattle.words.specs.Records.{tabulate, concat}
-use Rattle.complex.specs.Layout.{entryOf, recordSize}
+use Rattle.records.specs.Layout.{entryOf, recordSize}
 use Rattle.boundary.specs.Written.{cellFaces, entryIn}
 use Rattle.boundary.proofs.Counting.{table-faces-are}
 use Rattle.boundary.proofs.EntryWords.{part-long, lent-is}

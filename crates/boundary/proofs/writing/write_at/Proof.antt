@@ -5,7 +5,7 @@ use Prim.Native.Nat.{ℕ, _+_}
 use native.Mathlib.Omega.{arith}
 use borrow.Author.Needs.{needs}
 use lib.ListN.{length}
-use Rattle.complex.specs.Layout.{entryOf}
+use Rattle.records.specs.Layout.{entryOf}
 use Rattle.words.specs.Placed.{placed}
 use Rattle.boundary.proofs.Counting.{on-words, off-words}
 use Rattle.words.proofs.Placed.{placed-none}

@@ -6,7 +6,7 @@ use native.Mathlib.Omega.{arith}
 use borrow.Author.Needs.{needs}
 use lib.ListN.{length}
 use Rattle.words.specs.Records.{tabulate, concat}
-use Rattle.complex.specs.Layout.{entryOf}
+use Rattle.records.specs.Layout.{entryOf}
 use Rattle.words.specs.Placed.{placed}
 use Rattle.boundary.specs.Written.{faceWords}
 use Rattle.boundary.proofs.Counting.{words-of-cell}

@@ -7,7 +7,7 @@ use borrow.Author.Needs.{needs}
 use lib.ListN.{length, take, length-set}
 use lib.Seq.{take-length}
 use Rattle.simplex.specs.Faces.{face}
-use Rattle.complex.specs.Layout.{cellWords, entryOf}
+use Rattle.records.specs.Layout.{cellWords, entryOf}
 use Rattle.words.specs.Placed.{placed}
 use Rattle.boundary.proofs.EntryWords.{face-long}
 use Rattle.words.proofs.Placed.{placed-none, placed-word}

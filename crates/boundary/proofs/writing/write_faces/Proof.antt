@@ -7,7 +7,7 @@ use native.Mathlib.Omega.{arith}
 use borrow.Author.Needs.{needs}
 use lib.ListN.{length}
 use Rattle.words.specs.Records.{tabulate, concat}
-use Rattle.complex.specs.Layout.{entryOf, recordSize}
+use Rattle.records.specs.Layout.{entryOf, recordSize}
 use Rattle.words.specs.Placed.{placed}
 use Rattle.boundary.specs.Written.{cellWordsOf, entryIn}
 use Rattle.boundary.proofs.Counting.{all-words-are}

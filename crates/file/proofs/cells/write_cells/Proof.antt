@@ -9,7 +9,7 @@ use lib.ListN.{length, drop}
 use borrow.Author.Needs.{needs}
 use Rattle.words.specs.Records.{concat}
 use Rattle.words.proofs.Loops.{sets-front}
-use Rattle.complex.specs.Layout.{listSize, cellWords}
+use Rattle.records.specs.Layout.{listSize, cellWords}
 use Rattle.file.specs.File.{dimensionOf, cellCountOf, fileCells}
 use Rattle.file.specs.Tests.{cellsLength, fileWords}
 use Rattle.file.proofs.Parts.{within-records}

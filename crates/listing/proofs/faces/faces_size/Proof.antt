@@ -6,7 +6,7 @@ use native.Mathlib.Omega.{arith}
 use lib.ListN.{drop, length-append, length}
 use borrow.Author.Needs.{needs}
 use Rattle.simplex.specs.Cell.{Cell}
-use Rattle.complex.specs.Layout.{recordSize, entriesOf}
+use Rattle.records.specs.Layout.{recordSize, entriesOf}
 use Rattle.boundary.specs.Boundary.{boundaryOf}
 use Rattle.listing.specs.Parts.{recordAt, boundaryFaces, facesOf}
 use Rattle.listing.specs.Lines.{faceLines}

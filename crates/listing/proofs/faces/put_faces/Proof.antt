@@ -3,7 +3,7 @@ use Prim.Native.Nat.{_≤_, _-_, _+_, _*_}
 use native.Mathlib.Omega.{arith}
 use lib.ListN.{drop}
 use borrow.Author.Needs.{needs}
-use Rattle.complex.specs.Layout.{recordSize, entriesOf}
+use Rattle.records.specs.Layout.{recordSize, entriesOf}
 use Rattle.boundary.specs.Boundary.{boundaryOf}
 use Rattle.printing.proofs.Placing.{Left, left-start, left-step, left-fits, left-done, put-nothing}
 use Rattle.listing.specs.Parts.{recordAt, boundaryFaces, facesOf}

@@ -1,13 +1,10 @@
 -- The search for the position back. The loop has found no such position below b. Assumes nothing.
 use mathlib.Core.Path.{_≡_, _∙_, sym}
-use Prim.Native.Nat.{_+_, _-_, _≤_, _<_}
+use Prim.Native.Nat.{_+_, _-_, _≤_}
 use native.Mathlib.Omega.{arith}
 use borrow.Author.Needs.{needs}
-use lib.ListN.{length}
-use Rattle.complex.specs.Layout.{recordSize}
 use Rattle.prism.specs.Wings.{backFrom, backTo}
 use Rattle.sweeping.specs.Written.{solidWing}
-use Rattle.sweeping.proofs.TableWords.{inside}
 use Rattle.sweeping.proofs.WingWords.{back-here, back-next, back-end, back-start}
 use Rattle.sweeping.proofs.wings.back.Statement.{statement}
 use Rattle.sweeping.proofs.wings.back.Tie as tie
@@ -17,10 +14,6 @@ Inv-loop d s table p q b₀ b = (b ≤ d + 1) × (backTo (solidWing d s table) p
 
 abbrev μ-loop : tie.MeasureT-loop
 μ-loop d s table p q b₀ b = d + 1 - b
-
-small : (c : tie.Start Inv-loop μ-loop) → c .args .d < length (c .args .table .now)
-small c =
-    omega (arith, c .pre .0, inside (c .args .s) (recordSize (c .args .d)) (c .args .q) (c .args .d) (c .pre .1) (omega arith))
 
 loop-holds : tie.Need-loop-holds Inv-loop μ-loop
 loop-holds c =
@@ -42,7 +35,7 @@ returns c =
     (sym (c .before .before .wing .ensures) ∙ sym (c .before .wide .ensures) ∙ c .if1 .taken))
 
 add-b : tie.Need-add-b Inv-loop μ-loop
-add-b c = omega (arith, small (c .before .before .before .before .before .before))
+add-b c = search needs
 
 loop-less : tie.Need-loop-less Inv-loop μ-loop
 loop-less c = search needs

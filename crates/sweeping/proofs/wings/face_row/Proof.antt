@@ -4,7 +4,7 @@ use Prim.Native.Nat.{ℕ, _*_, _<_}
 use native.Mathlib.Omega.{arith}
 use borrow.Author.Needs.{needs}
 use borrow.Author.Tests.{eq-eqb, ne-eqb}
-use Rattle.rules.specs.Limits.{empty}
+use Rattle.records.specs.Layout.{empty}
 use Rattle.prism.specs.Wings.{backTo}
 use Rattle.sweeping.specs.Written.{solidWing}
 use Rattle.sweeping.proofs.wings.face_row.Statement.{statement}
@@ -35,7 +35,9 @@ wide-requires : tie.Need-wide-requires
 wide-requires c κs = search needs
 
 back-requires : tie.Need-back-requires
-back-requires c κs = (c .before .before .before .before .pre .0 .long, low c)
+back-requires c κs =
+    let ready = c .before .before .before .before .pre .0 in
+    record { dimension = omega (arith, ready .dimension); long = ready .long; number = low c }
 
 back-is : (c : tie.After-back) →
     c .back .result ≡ backTo (solidWing (c .before .before .before .before .before .args .d)

@@ -8,7 +8,7 @@ use lib.ListN.{length, take, drop, length-drop}
 use lib.Seq.{length-take-le}
 use Rattle.words.specs.Bytes.{bytesOf}
 use Rattle.words.proofs.Bytes.{bytes-length}
-use Rattle.complex.specs.Layout.{entryOf}
+use Rattle.records.specs.Layout.{entryOf}
 use Rattle.boundary.specs.Written.{cellWordsOf}
 use Rattle.winged.proofs.FaceBytes.{cell-few, row-fits, row-is, part-placed}
 use Rattle.winged.proofs.faces.cell_bytes.Statement.{statement}

@@ -15,7 +15,7 @@ use mir.ValLaws.{toZ-pos, toZ-ofZ}
 use Rattle.words.specs.Bytes.{bytesOf}
 use Rattle.words.specs.Records.{concat}
 use Rattle.words.proofs.Bytes.{bytes-length}
-use Rattle.complex.specs.Layout.{tableLength, cellWords}
+use Rattle.records.specs.Layout.{tableLength, cellWords}
 use Rattle.boundary.specs.Faces.{FacesInput, boundaryCells, facesLength}
 use Rattle.boundary.specs.Written.{tableFaces, allWords}
 use Rattle.boundary.proofs.Counting.{boundary-is, words-are, words-long}

@@ -8,7 +8,7 @@ use borrow.Author.Needs.{needs}
 use lib.ListN.{length}
 use Rattle.words.specs.Bytes.{bytesOf}
 use Rattle.words.specs.Records.{tabulate, concat}
-use Rattle.complex.specs.Layout.{entryOf, recordSize}
+use Rattle.records.specs.Layout.{entryOf, recordSize}
 use Rattle.words.specs.Placed.{placed}
 use Rattle.boundary.specs.Written.{cellWordsOf, entryIn}
 use Rattle.boundary.proofs.EntryWords.{part-long, lent-is}

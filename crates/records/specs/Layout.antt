@@ -1,27 +1,45 @@
--- Cells and tables as 16-bit words. Paper, section 3.
+-- Cells, tables and faces as 16-bit words. Paper, sections 3 and 5. All that depends on where a word stands is here.
 --   a list cell       sign word, d + 1 vertices
 --   a table record    sign word, d + 1 ascending vertices, d + 1 wings
+--   a face record     sign word, d vertices: a face of a cell of dimension d
+--   empty             the wing word for no neighbour
 --   Entry             a table record: the cell and its wings
 --   cellsOf d s ws    the s cells of a list of words, as they stand there
---   entriesOf d s ws  the s entries of a table's words
+--   entryIn d ws p    entry p of a table's words; entriesOf d s ws are its s entries
 --   ownList d s ws    a table without its wings: the list of its cells
---   tableWords es     the words of a table
+--   cellWords, entryWords, faceWords       the words of a cell of a list, of an entry, of a face
+--   tableWords, facesWords                 those of a table, and of a list of faces
 use mathlib.Core.List.{List, [], _∷_, _++_, map}
-use Prim.Native.Nat.{ℕ, _+_, _*_}
-use lib.Dec.{eqb}
+use Prim.Native.Nat.{ℕ, suc, _+_, _*_}
 use lib.ListN.{take, drop, getD}
 use Rattle.words.specs.Records.{tabulate, part, concat}
-use Rattle.simplex.specs.Cell.{Row, Cell, cell}
+use Rattle.simplex.specs.Cell.{Cell, cell}
 use Rattle.simplex.specs.SignWords.{signOf, signWord}
 
--- words of a list cell, and of a table record
+abbrev pub empty : ℕ
+empty = 65535
+
+-- words of a list cell, of a table record, and of a face record
 abbrev pub listSize : ℕ → ℕ
 listSize d = d + 2
 
 abbrev pub recordSize : ℕ → ℕ
 recordSize d = d + d + 3
 
--- words of a table of s cells
+abbrev pub faceSize : ℕ → ℕ
+faceSize d = suc d
+
+-- where vertex k and wing a stand in a record
+abbrev pub vertexPlace : ℕ → ℕ
+vertexPlace k = k + 1
+
+abbrev pub wingPlace : ℕ → ℕ → ℕ
+wingPlace d a = d + 2 + a
+
+-- words of a list, and of a table, of s cells
+abbrev pub listLength : ℕ → ℕ → ℕ
+listLength d s = s * listSize d
+
 abbrev pub tableLength : ℕ → ℕ → ℕ
 tableLength d s = s * recordSize d
 
@@ -40,8 +58,11 @@ pub record Entry : Type 0 where
 abbrev pub entryOf : ℕ → List ℕ → Entry
 entryOf d r = record { cell = cellOf (take (listSize d) r); wings = drop (listSize d) r }
 
+abbrev pub entryIn : ℕ → List ℕ → ℕ → Entry
+entryIn d ws p = entryOf d (part (recordSize d) p ws)
+
 abbrev pub entriesOf : ℕ → ℕ → List ℕ → List Entry
-entriesOf d s ws = tabulate s (λ p. entryOf d (part (recordSize d) p ws))
+entriesOf d s ws = tabulate s (entryIn d ws)
 
 abbrev pub ownList : ℕ → ℕ → List ℕ → List ℕ
 ownList d s ws = concat (tabulate s (λ p. take (listSize d) (part (recordSize d) p ws)))
@@ -54,3 +75,9 @@ entryWords e = cellWords (e .cell) ++ e .wings
 
 abbrev pub tableWords : List Entry → List ℕ
 tableWords es = concat (map entryWords es)
+
+abbrev pub faceWords : Cell → List ℕ
+faceWords f = signWord (f .sign) ∷ f .row
+
+abbrev pub facesWords : List Cell → List ℕ
+facesWords fs = concat (map faceWords fs)
