@@ -16,7 +16,7 @@ use Rattle.simplex.specs.Chain.{total}
 use Rattle.simplex.specs.Faces.{facets}
 use Rattle.simplex.specs.Order.{ascending, itself, sorted}
 use Rattle.simplex.specs.Sort.{Asc}
-use Rattle.simplex.proofs.Cancel.{loneIn, plus-minus}
+use Rattle.simplex.proofs.Cancel.{Paired, loneIn, plus-minus}
 use Rattle.simplex.proofs.Counts.{All}
 use Rattle.simplex.proofs.FaceCounts.{All-both, All-map}
 use Rattle.simplex.proofs.Insert.{Each, sortBy-all}
@@ -29,7 +29,7 @@ use Rattle.complex.specs.Accept.{vertexBeyond, vertexTwice}
 use Rattle.simplex.specs.SignWords.{signWord}
 use Rattle.records.specs.Layout.{cellOf, cellWords, cellsOf, listSize}
 use Rattle.complex.proofs.Codec.{cells-back, list-record, part-length}
-use Rattle.complex.proofs.Solid.{Solid}
+use Rattle.complex.proofs.Solid.{Solid, all-tabulated}
 use Rattle.complex.proofs.Tables.{cellAt}
 use Rattle.complex.proofs.Tests.{all-below, asc-once, below-all, each-row, few-of, none-of, of-few, of-none, once-each, once-signs, row-each}
 use Rattle.complex.proofs.Tests.{signs-once}
@@ -65,12 +65,8 @@ passes l p = rw (p .sign, p .vertex, p .twice, p .cell, p .crowded, p .equal) re
 
 -- rows of records
 listed-long : (d s : ℕ) (ws : List ℕ) → length ws ≡ s * listSize d → All (Long (suc d)) (cellsOf d s ws)
-listed-long d s ws e = go s (λ p. cellOf (part (listSize d) p ws))
+listed-long d s ws e = all-tabulated (Long (suc d)) s (λ p. cellOf (part (listSize d) p ws))
     (λ p h. rw (length-drop 1 (part (listSize d) p ws), part-length (listSize d) p s ws h (omega arith)) (omega arith))
-  where
-    go : (n : ℕ) (f : ℕ → Cell) → ((p : ℕ) → p < n → length (f p .row) ≡ suc d) → All (Long (suc d)) (tabulate n f)
-    go zero f h = tt
-    go (suc n) f h = (h 0 (omega arith), go n (λ p. f (suc p)) (λ p l. h (suc p) (omega arith)))
 
 -- what holds of the rows holds of the sorted rows
 all-sorted : (R Q : Row → Type 0) (cs : List Cell) → ((w : Row) → R w → Q (sorted w)) → All R cs → All Q (map ascending cs)
@@ -104,7 +100,7 @@ accepted-solid l e k = (
         (each-row (λ w. repeats w ≡ false) (λ c. repeats (c .row) ≡ false) cells (λ c r. r) (none-of (λ c. repeats (c .row)) cells (p .twice)));
     distinct = few-of 1 (solidOf l) (p .cell);
     meet = few-of 2 (facets (solidOf l)) (p .crowded);
-    paired = λ w n. paired w n;
+    paired = paired;
   },
   all-sorted (Long (suc (l .d))) (Long (suc (l .d))) cells (λ w r. sorted-length w ∙ r) long,
 )
@@ -121,7 +117,7 @@ accepted-solid l e k = (
     F : List Cell
     F = facets (solidOf l)
 
-    paired : (w : Row) → loneIn F w ≡ false → sumChain (plusOn w) true F ≡ sumChain (plusOn w) false F
+    paired : Paired F
     paired w n =
         let not-one : total w F ≢ 1 = eqb-false (total w F) 1 n in
         omega (arith, plus-minus w F, signs-once F (p .equal) true w, signs-once F (p .equal) false w)

@@ -16,7 +16,7 @@ use Rattle.simplex.specs.Chain.{sumRows, total}
 use Rattle.simplex.specs.Faces.{allFaces, faces, facets, without}
 use Rattle.simplex.specs.Sort.{Asc}
 use Rattle.simplex.proofs.Cancel.{total-keep}
-use Rattle.simplex.proofs.Counts.{All, countFaces, sumRows-allFaces, sumRows-le}
+use Rattle.simplex.proofs.Counts.{All, countFaces, one-and, sumRows-allFaces, sumRows-le}
 use Rattle.simplex.proofs.FaceCounts.{countFaces-face, countFaces-find, countFaces-once, total-faces, without-filled}
 use Rattle.simplex.proofs.Rows.{hits, sameRow-refl, sameRow-true}
 use Rattle.complex.specs.Wings.{hasFace, neighbourFrom}
@@ -25,10 +25,6 @@ use Rattle.complex.proofs.Solid.{rowAt}
 -- has, as a number
 abbrev pub faceIn : Row → Row → ℕ
 faceIn w v = one (hasFace w v)
-
-one-and : (s t : Bool) → one (s && t) ≤ one t
-one-and true t = omega arith
-one-and false t = omega arith
 
 pub faceIn-le : (w v : Row) → faceIn w v ≤ countFaces (hits w) v
 faceIn-le w v = omega (arith, total-faces w true v, go (ltb 0 (total w (faces true v))) refl, one-and (filled w) (ltb 0 (total w (faces true v))))

@@ -1,18 +1,20 @@
 -- The rows of swept cells, by number, and their faces, by position.
 use mathlib.Core.Path.{_≡_, refl, sym, ap, ap₂, _∙_}
-use mathlib.Core.Bool.{true}
+use mathlib.Core.Bool.{Bool, true, false, cond}
 use mathlib.Core.List.{List, [], _∷_, _++_, append-nil}
-use Prim.Native.Nat.{ℕ, zero, suc, _+_, _*_, _≤_, _<_}
+use Prim.Native.Nat.{ℕ, zero, suc, _+_, _*_, _-_, _≤_, _<_}
 use native.Mathlib.Omega.{arith}
 use native.Mathlib.Nat.{suc-mul, zero-mul, mul-le-mul-right, le-of-suc-le-suc, not-suc-le-zero}
 use native.Mathlib.Decide.{ℕ-discrete}
+use lib.Dec.{ltb}
 use lib.ListN.{length, take, drop, length-append, length-map, length-drop, List·getD-append}
-use lib.Seq.{drop-cons, drop-length, take-length, getD-append-add}
+use lib.Seq.{length-take-le, drop-cons, drop-length, take-length, getD-append-add}
+use borrow.Author.Tests.{ltb-true, ltb-false}
 use Rattle.words.proofs.Records.{tabulate-at, tabulate-length}
 use Rattle.simplex.specs.Cell.{Cell, Row, cell}
 use Rattle.simplex.specs.Faces.{without}
 use Rattle.simplex.proofs.Counts.{All}
-use Rattle.simplex.proofs.Rows.{Long}
+use Rattle.simplex.proofs.Rows.{Below, Filled, Long}
 use Rattle.simplex.proofs.Without.{drop-face, drop-face-ge, take-face-ge, take-face-lt, without-left, without-map, without-right}
 use Rattle.complex.proofs.Solid.{rowAt}
 use Rattle.complex.proofs.Tables.{cellAt}
@@ -58,6 +60,55 @@ mid-top lo hi v = rw (drop-length v, take-length v) refl
 
 pub mid-bottom : (lo hi : ℕ) (v : Row) → between lo hi zero v ≡ raised lo v
 mid-bottom lo hi v = append-nil (raised lo v)
+
+pub len-cell : (lo hi k n : ℕ) (v : Row) → length v ≡ n → k < n → length (prismRow lo hi k v) ≡ suc n
+len-cell lo hi k n v l h =
+    length-append (raised lo (drop k v)) (raised hi (take (suc k) v))
+    ∙ rw (length-map, length-map, length-drop, length-take-le (suc k) v (omega arith)) (omega arith)
+
+pub below-drop : (nv k : ℕ) (v : Row) → Below nv v → Below nv (drop k v)
+below-drop nv zero v b = b
+below-drop nv (suc k) [] b = tt
+below-drop nv (suc k) (x ∷ v) b = below-drop nv k v (b .1)
+
+pub below-take : (nv k : ℕ) (v : Row) → Below nv v → Below nv (take k v)
+below-take nv zero v b = tt
+below-take nv (suc k) [] b = tt
+below-take nv (suc k) (x ∷ v) b = (b .0, below-take nv k v (b .1))
+
+pub below-face : (nv k : ℕ) (v : Row) → Below nv v → Below nv (without k v)
+below-face nv k [] b = tt
+below-face nv zero (x ∷ v) b = b .1
+below-face nv (suc k) (x ∷ v) b = (b .0, below-face nv k v (b .1))
+
+pub drop-non : (k : ℕ) (v : Row) → k < length v → Filled (drop k v)
+drop-non k [] h = absurd (not-suc-le-zero h)
+drop-non zero (x ∷ v) h = tt
+drop-non (suc k) (x ∷ v) h = drop-non k v (le-of-suc-le-suc h)
+
+-- the l-th side pair of face a, l from 0: cell and position
+abbrev pub sideCell : ℕ → ℕ → ℕ
+sideCell a l = cond (ltb l a) l (suc l)
+
+abbrev pub sidePosition : ℕ → ℕ → ℕ → ℕ
+sidePosition d a l = cond (ltb l a) (a - l) (d - l + a)
+
+pub pair-face : (lo hi d a l : ℕ) (v : Row) → length v ≡ suc d → a ≤ d → l < d →
+    without (sidePosition d a l) (prismRow lo hi (sideCell a l) v) ≡ prismRow lo hi l (without a v)
+pair-face lo hi d a l v e ha hl = go (ltb l a) refl
+  where
+    go : (t : Bool) → ltb l a ≡ t → without (cond t (a - l) (d - l + a)) (prismRow lo hi (cond t l (suc l)) v) ≡ prismRow lo hi l (without a v)
+    go true z =
+        let y : l < a = ltb-true l a z in
+        side-low lo hi l (a - l) v (omega arith) (omega arith) ∙ ap (λ b. prismRow lo hi l (without b v)) (omega arith)
+    go false z = let y : a ≤ l = ltb-false l a z in side-high lo hi l a (d - l + a) v y (omega arith) (omega arith)
+
+pub pair-lt : (d a l : ℕ) → a ≤ d → l < d → (sideCell a l < suc d) × (sidePosition d a l < suc (suc d))
+pair-lt d a l ha hl = go (ltb l a) refl
+  where
+    go : (t : Bool) → ltb l a ≡ t → (cond t l (suc l) < suc d) × (cond t (a - l) (d - l + a) < suc (suc d))
+    go true z = omega arith
+    go false z = omega (arith, ltb-false l a z)
 
 cell-left : (xs ys : List Cell) (n : ℕ) → n < length xs → cellAt (xs ++ ys) n ≡ cellAt xs n
 cell-left xs ys n h = List·getD-append xs ys (cell true []) n h

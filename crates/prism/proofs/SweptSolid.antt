@@ -1,44 +1,38 @@
 -- The sweep of a solid is a solid.
 use mathlib.Core.Path.{_≡_, refl, sym, subst}
-use mathlib.Core.Bool.{Bool, true, false, cond, _&&_}
+use mathlib.Core.Bool.{true, cond}
 use mathlib.Core.List.{List, [], _∷_, _++_}
 use Prim.Native.Nat.{ℕ, zero, suc, _*_, _≤_, _<_}
 use native.Mathlib.Omega.{arith}
 use native.Mathlib.Nat.{suc-mul, mul-le-mul-right}
 use lib.Dec.{eqb}
 use lib.ListN.{length, take, drop}
-use Rattle.words.specs.Records.{tabulate}
-use Rattle.simplex.specs.Cell.{Cell, Row, one, sameRow}
+use Rattle.simplex.specs.Cell.{Cell, Row, sameRow}
 use Rattle.simplex.specs.Chain.{sumRows, total}
 use Rattle.simplex.specs.Faces.{allFaces, facets}
 use Rattle.simplex.specs.Sort.{Asc}
 use Rattle.simplex.proofs.Cancel.{Paired}
-use Rattle.simplex.proofs.Counts.{All, All-append, sumChain-le, sumChain-sumRows, sumRows-append, sumRows-cond, sumRows-le}
-use Rattle.simplex.proofs.FaceCounts.{facets-le, facets-same}
+use Rattle.simplex.proofs.Counts.{All, All-append, one-and, sumChain-le, sumChain-sumRows, sumRows-append, sumRows-cond, sumRows-le}
+use Rattle.simplex.proofs.FaceCounts.{All-both, facets-le, facets-same}
 use Rattle.simplex.proofs.Rows.{Below, Filled, Good, Long, hits}
-use Rattle.complex.proofs.Solid.{Solid}
+use Rattle.complex.proofs.Solid.{Solid, all-tabulated}
 use Rattle.prism.specs.Cells.{level, prism, prismCell, sweepOf}
 use Rattle.prism.proofs.Decode.{levelIn}
-use Rattle.prism.proofs.FaceBounds.{acrossLevels, countPrism-bound, lowerIn, raisedRow, sideOn, upperIn}
+use Rattle.prism.proofs.FaceBounds.{baseIn, acrossLevels, countPrism-bound, lowerIn, raisedRow, sideOn, upperIn}
 use Rattle.prism.proofs.FaceKinds.{acrossLevels-le, swept-meet}
 use Rattle.prism.proofs.Level.{dimensionSign, overPrism, raised}
-use Rattle.prism.proofs.Meeting.{below-drop, below-take, drop-non, len-cell}
 use Rattle.prism.proofs.Pairs.{swept-paired}
-use Rattle.prism.proofs.PrismCounts.{doubled, rest, sumPrism-countPrism}
-use Rattle.prism.proofs.SweptRows.{prismRow}
+use Rattle.prism.proofs.PrismCounts.{doubled, sumPrism-countPrism}
+use Rattle.prism.proofs.SweptRows.{below-drop, below-take, drop-non, len-cell, prismRow}
 use Rattle.prism.proofs.SweptSums.{sumChain-level}
 
 -- what holds of each prism cell holds of each swept cell
-all-tabulate : (R : Row → Type 0) (n : ℕ) (f : ℕ → Cell) → ((k : ℕ) → k < n → R (f k .row)) → All R (tabulate n f)
-all-tabulate R zero f h = tt
-all-tabulate R (suc n) f h = (h 0 (omega arith), all-tabulate R n (λ k. f (suc k)) (λ k l. h (suc k) (omega arith)))
-
 all-level : (R Q : Row → Type 0) (nv i : ℕ) (cs : List Cell) → All Q cs →
     ((v : Row) → Q v → (k : ℕ) → k < length v → R (prismRow (i * nv) (suc i * nv) k v)) → All R (level nv i cs)
 all-level R Q nv i [] a h = tt
 all-level R Q nv i (c ∷ cs) a h =
     All-append R (prism nv i c) (level nv i cs)
-    (all-tabulate R (length (c .row)) (λ k. prismCell nv i k c) (h (c .row) (a .0))) (all-level R Q nv i cs (a .1) h)
+    (all-tabulated R (length (c .row)) (λ k. prismCell nv i k c) (h (c .row) (a .0))) (all-level R Q nv i cs (a .1) h)
 
 all-sweep : (R Q : Row → Type 0) (nv h : ℕ) (cs : List Cell) → All Q cs →
     ((i : ℕ) (v : Row) → i < h → Q v → (k : ℕ) → k < length v → R (prismRow (i * nv) (suc i * nv) k v)) → All R (sweepOf nv h cs)
@@ -46,10 +40,6 @@ all-sweep R Q nv zero cs a r = tt
 all-sweep R Q nv (suc h) cs a r =
     All-append R (sweepOf nv h cs) (level nv h cs) (all-sweep R Q nv h cs a (λ i v l. r i v (omega arith)))
     (all-level R Q nv h cs a (λ v. r h v (omega arith)))
-
-both : (Q H : Row → Type 0) (cs : List Cell) → All Q cs → All H cs → All (λ v. Q v × H v) cs
-both Q H [] a b = tt
-both Q H (c ∷ cs) a b = ((a .0, b .0), both Q H cs (a .1) (b .1))
 
 -- bounds
 below-append : (n : ℕ) (l r : Row) → Below n l → Below n r → Below n (l ++ r)
@@ -134,10 +124,6 @@ sweep-once nv zero w cs a = omega arith
 sweep-once nv (suc h) w cs a =
     omega (arith, sumRows-append (hits w) (sweepOf nv h cs) (level nv h cs), sweep-once nv h w cs a, level-once nv h w cs a)
 
-one-and : (s t : Bool) → one (s && t) ≤ one t
-one-and true t = omega arith
-one-and false t = omega arith
-
 pub swept-two : (nv h : ℕ) (cs : List Cell) → All (Good nv) cs → All (λ v. 2 ≤ length v) (sweepOf nv h cs)
 swept-two nv h cs a =
     all-sweep (λ v. 2 ≤ length v) (Good nv) nv h cs a (λ i v l g k hk. omega (arith, len-cell (i * nv) (suc i * nv) k (length v) v refl hk))
@@ -149,14 +135,14 @@ pub swept-solid : (nv h : ℕ) (cs : List Cell) → Solid nv cs → Solid (suc h
 swept-solid nv h cs s = record {
   rows = all-sweep (Good (suc h * nv)) (Good nv) nv h cs (s .rows) (λ i v l g k hk. good-cell nv h i k v l (g .1) hk);
   asc =
-      all-sweep Asc (λ v. Good nv v × Asc v) nv h cs (both (Good nv) Asc cs (s .rows) (s .asc)) (λ i v l g k hk. asc-cell nv i k v (g .0 .1) (g .1));
+      all-sweep Asc (λ v. Good nv v × Asc v) nv h cs (All-both (Good nv) Asc cs (s .rows) (s .asc)) (λ i v l g k hk. asc-cell nv i k v (g .0 .1) (g .1));
   distinct = λ w. omega (
     arith,
     sweep-once nv h w cs (s .rows),
     acrossLevels-le (levelIn nv w) (sumRows (sideOn nv w) cs) 0 h,
-    sumRows-le Asc (sideOn nv w) (hits (upperIn nv w ++ rest (lowerIn nv w))) cs (s .asc)
-        (λ y _. one-and (doubled (lowerIn nv w) (upperIn nv w)) (sameRow y (upperIn nv w ++ rest (lowerIn nv w)))),
-    s .distinct (upperIn nv w ++ rest (lowerIn nv w)),
+    sumRows-le Asc (sideOn nv w) (hits (baseIn nv w)) cs (s .asc)
+        (λ y _. one-and (doubled (lowerIn nv w) (upperIn nv w)) (sameRow y (baseIn nv w))),
+    s .distinct (baseIn nv w),
   );
   meet = λ w. omega (arith, swept-meet nv cs s h w, facets-le w (sweepOf nv h cs));
   paired = subst Paired (sym (swept-facets nv h cs s)) (swept-paired nv cs s h);

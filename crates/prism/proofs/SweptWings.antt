@@ -19,8 +19,8 @@ use Rattle.complex.proofs.Symmetric.{wings-symmetric}
 use Rattle.prism.specs.Cells.{sweepOf}
 use Rattle.prism.specs.Sides.{Side, sideFace, sidePair, sidePlace}
 use Rattle.prism.specs.Wings.{backFrom, backTo, cellNumber, sweptWing, wingAside}
-use Rattle.prism.proofs.Meeting.{bottom-none, inner-next, inner-prev, level-next, level-prev, side-meet, side-none, sideCell, sidePosition}
-use Rattle.prism.proofs.Meeting.{top-none}
+use Rattle.prism.proofs.Meeting.{bottom-none, inner-next, inner-prev, level-next, level-prev, side-meet, side-none, top-none}
+use Rattle.prism.proofs.SweptRows.{sideCell, sidePosition}
 use Rattle.prism.proofs.SideLaws.{side-closed}
 
 pub back-is : (W : ℕ → ℕ → ℕ) (p q n b c : ℕ) → W q c ≡ p → b ≤ c → c < b + n → ((m : ℕ) → m < c → W q m ≡ p → ⊥) → backFrom W p q b n ≡ c

@@ -75,11 +75,15 @@ keep-length q (c ∷ cs) = go (q c) (keep-length q cs)
     go true h = omega arith
     go false h = omega arith
 
-pub on-bal : (f : Functional) (v : Row) (cs : List Cell) → sumChain (plusOn v) true cs ≡ sumChain (plusOn v) false cs →
+-- as many plus cells as minus cells on a row
+abbrev pub Balanced : Row → List Cell → Type 0
+Balanced w F = sumChain (plusOn w) true F ≡ sumChain (plusOn w) false F
+
+pub on-bal : (f : Functional) (v : Row) (cs : List Cell) → Balanced v cs →
     sumChain (restricted (λ y. sameRow y v) f) true cs ≡ sumChain (restricted (λ y. sameRow y v) f) false cs
 on-bal f v cs h = rw (on-sum f v true cs, on-sum f v false cs, h) refl
 
-rest : (n : ℕ) (f : Functional) (c : Cell) (cs : List Cell) → sumChain (plusOn (c .row)) true (c ∷ cs) ≡ sumChain (plusOn (c .row)) false (c ∷ cs) →
+rest : (n : ℕ) (f : Functional) (c : Cell) (cs : List Cell) → Balanced (c .row) (c ∷ cs) →
     keep (λ a. off (c .row) (a .row)) (c ∷ cs) ≡ keep (λ a. off (c .row) (a .row)) cs →
     sumChain f true (c ∷ cs) + sumChain f false (keep (λ a. off (c .row) (a .row)) cs)
     ≡ sumChain f false (c ∷ cs) + sumChain f true (keep (λ a. off (c .row) (a .row)) cs)
@@ -97,8 +101,7 @@ rest n f c cs h e =
     )
 
 -- where each row has as many plus cells as minus cells, every functional sums to nothing
-pub bal : (n : ℕ) (f : Functional) (cs : List Cell) → length cs ≤ n →
-    ((w : Row) → sumChain (plusOn w) true cs ≡ sumChain (plusOn w) false cs) → sumChain f true cs ≡ sumChain f false cs
+pub bal : (n : ℕ) (f : Functional) (cs : List Cell) → length cs ≤ n → ((w : Row) → Balanced w cs) → sumChain f true cs ≡ sumChain f false cs
 bal zero f [] l h = refl
 bal zero f (c ∷ cs) l h = absurd (omega arith)
 bal (suc n) f [] l h = refl
@@ -117,7 +120,7 @@ loneIn F w = eqb (total w F) 1
 
 -- each face that does not stand alone is met by its opposite
 abbrev pub Paired : List Cell → Type 0
-Paired F = (w : Row) → loneIn F w ≡ false → sumChain (plusOn w) true F ≡ sumChain (plusOn w) false F
+Paired F = (w : Row) → loneIn F w ≡ false → Balanced w F
 
 cond-zero : (t : Bool) → _≡_ {A = ℕ} (cond t 0 0) 0
 cond-zero true = refl

@@ -2,15 +2,27 @@
 --   countFaces g w        the sum of g over the faces of a row
 --   All P cs              each row of the list has the property
 use mathlib.Core.Path.{_≡_, refl, sym, ap, _∙_, fun-ext}
-use mathlib.Core.Bool.{Bool, true, false, not, cond}
+use mathlib.Core.Bool.{Bool, true, false, not, cond, _&&_}
 use mathlib.Core.List.{List, [], _∷_, _++_, map, append-assoc}
 use Prim.Native.Nat.{ℕ, _+_, _≤_}
 use native.Mathlib.Omega.{arith}
-use Rattle.simplex.specs.Cell.{Cell, Row, times}
+use Rattle.simplex.specs.Cell.{Cell, Row, one, times}
 use Rattle.simplex.specs.Chain.{sumRows}
 use Rattle.simplex.specs.Faces.{allFaces, faces}
 use Rattle.simplex.proofs.Rows.{Below}
 use Rattle.simplex.proofs.Sums.{Functional, sumChain, sumChain-allFaces, sumFaces}
+
+pub one-le : (t : Bool) → one t ≤ 1
+one-le true = omega arith
+one-le false = omega arith
+
+pub one-and : (s t : Bool) → one (s && t) ≤ one t
+one-and true t = omega arith
+one-and false t = omega arith
+
+pub cond-le : (t : Bool) (n : ℕ) → cond t n 0 ≤ n
+cond-le true n = omega arith
+cond-le false n = omega arith
 
 abbrev pub countFaces : (Row → ℕ) → Row → ℕ
 countFaces g [] = 0

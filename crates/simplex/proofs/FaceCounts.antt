@@ -13,7 +13,7 @@ use Rattle.simplex.specs.Chain.{total}
 use Rattle.simplex.specs.Faces.{allFaces, faces, facets, keep, prefixed, without}
 use Rattle.simplex.specs.Sort.{Asc}
 use Rattle.simplex.proofs.Cancel.{total-keep}
-use Rattle.simplex.proofs.Counts.{All, All-append, countFaces, sumChain-sumRows, sumFaces-countFaces}
+use Rattle.simplex.proofs.Counts.{All, All-append, cond-le, one-le, countFaces, sumChain-sumRows, sumFaces-countFaces}
 use Rattle.simplex.proofs.Rows.{Long, hits, sameRow-refl}
 use Rattle.simplex.proofs.Sums.{sumChain-faces}
 
@@ -51,17 +51,9 @@ countFaces-none q (x ∷ v) h = omega (arith, ap one (h v), countFaces-none (λ 
 pub countFaces-once : (w v : Row) → Asc v → countFaces (hits w) v ≤ 1
 countFaces-once w [] s = omega arith
 countFaces-once [] (x ∷ v) s = omega (arith, countFaces-none (λ y. false) v (λ y. refl), one-le (sameRow v []))
-  where
-    one-le : (t : Bool) → one t ≤ 1
-    one-le true = omega arith
-    one-le false = omega arith
 countFaces-once (y ∷ w) (x ∷ []) s = omega arith
 countFaces-once (y ∷ w) (x ∷ z ∷ v) s = go (eqb z y) refl (eqb x y) refl (countFaces-once w (z ∷ v) (s .1))
   where
-    one-le : (t : Bool) → one t ≤ 1
-    one-le true = omega arith
-    one-le false = omega arith
-
     go : (a : Bool) → eqb z y ≡ a → (b : Bool) → eqb x y ≡ b → countFaces (hits w) (z ∷ v) ≤ 1 →
         one (a && sameRow v w) + countFaces (λ r. one (b && sameRow r w)) (z ∷ v) ≤ 1
     go true e true f k = absurd (omega (arith, eqb-true z y e, eqb-true x y f))
@@ -70,11 +62,7 @@ countFaces-once (y ∷ w) (x ∷ z ∷ v) s = go (eqb z y) refl (eqb x y) refl (
     go false e false f k = omega (arith, countFaces-none (λ r. false) (z ∷ v) (λ r. refl))
 
 pub facets-le : (w : Row) (cs : List Cell) → total w (facets cs) ≤ total w (allFaces cs)
-facets-le w cs = omega (arith, total-keep filled w (allFaces cs), go (filled w) (total w (allFaces cs)))
-  where
-    go : (t : Bool) (n : ℕ) → cond t n 0 ≤ n
-    go true n = omega arith
-    go false n = omega arith
+facets-le w cs = omega (arith, total-keep filled w (allFaces cs), cond-le (filled w) (total w (allFaces cs)))
 
 -- rows of two vertices or more: every face has a vertex
 pub keep-all : (q : Row → Bool) (L : List Cell) → All (λ w. q w ≡ true) L → keep (λ c. q (c .row)) L ≡ L
@@ -93,13 +81,10 @@ faces-filled s (x ∷ y ∷ v) l = (refl, front-filled x (faces (not s) (y ∷ v
 pub facets-same : (cs : List Cell) → All (λ v. 2 ≤ length v) cs → facets cs ≡ allFaces cs
 facets-same cs a = keep-all filled (allFaces cs) (go cs a)
   where
-    app : (xs ys : List Cell) → All (λ w. filled w ≡ true) xs → All (λ w. filled w ≡ true) ys → All (λ w. filled w ≡ true) (xs ++ ys)
-    app [] ys a b = b
-    app (c ∷ xs) ys a b = (a .0, app xs ys (a .1) b)
-
     go : (cs : List Cell) → All (λ v. 2 ≤ length v) cs → All (λ w. filled w ≡ true) (allFaces cs)
     go [] a = tt
-    go (c ∷ cs) a = app (faces (c .sign) (c .row)) (allFaces cs) (faces-filled (c .sign) (c .row) (a .0)) (go cs (a .1))
+    go (c ∷ cs) a =
+        All-append (λ w. filled w ≡ true) (faces (c .sign) (c .row)) (allFaces cs) (faces-filled (c .sign) (c .row) (a .0)) (go cs (a .1))
 
 pub keep-append : (q : Cell → Bool) (xs ys : List Cell) → keep q (xs ++ ys) ≡ keep q xs ++ keep q ys
 keep-append q [] ys = refl

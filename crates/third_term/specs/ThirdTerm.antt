@@ -15,7 +15,7 @@ use lib.IntN.{ℤ, _+ℤ_, _-ℤ_, negℤ}
 use lib.ListN.{length, take}
 use Rattle.words.specs.Records.{concat}
 use Rattle.rules.specs.Limits.{sweptVertices}
-use Rattle.rules.specs.Calls.{Outcome, accepted, written}
+use Rattle.rules.specs.Calls.{accepted, written}
 use Rattle.simplex.specs.Cell.{Row, Cell, alternating}
 use Rattle.simplex.specs.Chain.{total, Same, coefficient}
 use Rattle.records.specs.Layout.{faceSize, cellsOf, cellWords, entriesOf, tableLength}
