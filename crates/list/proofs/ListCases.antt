@@ -20,7 +20,7 @@ use Rattle.rules.proofs.Tests.{and-parts}
 use Rattle.records.specs.Layout.{tableLength}
 use Rattle.complex.specs.Table.{sound}
 use Rattle.points.specs.Step.{inRange}
-use Rattle.printing.specs.Put.{Put}
+use Rattle.words.specs.Placed.{Put}
 use Rattle.records.specs.Inside.{Table}
 use Rattle.listing.specs.Parts.{Points}
 use Rattle.list.specs.Listing.{ListInput, listText, listRules, listOutcome, listBuffer}
@@ -100,6 +100,6 @@ module _ (i : ListInput) where
   pub written-text : (out : List ℕ) (next : ℕ) (new : List ℕ) → listOutcome i ≡ accepted (length (listText i)) → Put 0 (listText i) out next new → new ≡ listBuffer i out
   unfolding listBuffer
   written-text out next new e p =
-      p .bytes
+      p .content
       ∙ placed-first (listText i) out
       ∙ sym (ap (λ (o : Outcome ℕ). after o (listText i) out) e)

@@ -2,7 +2,6 @@
 --   sign-text             its sign, from the sign word
 --   face-line             its sign, and its vertices
 --   line-length           its length; line-short: at most 256 bytes
---   put-words, put-text   text put, told as words put, and back
 -- Assumes nothing.
 use mathlib.Core.Path.{_≡_, refl, ap}
 use mathlib.Core.List.{List, [], _∷_, map}
@@ -12,8 +11,6 @@ use native.Mathlib.Omega.{arith}
 use lib.ListN.{length, length-append}
 use Rattle.simplex.specs.Cell.{Sign, Cell}
 use Rattle.simplex.specs.SignWords.{signOf, signWord}
-use Rattle.words.specs.Placed as Words
-use Rattle.printing.specs.Put as Text
 use Rattle.printing.specs.Decimal.{digits}
 use Rattle.printing.specs.Fields.{fields, restOfLine, line}
 use Rattle.printing.proofs.Bounds.{fields-length}
@@ -46,11 +43,3 @@ module _ (f : Cell) where
 
   pub line-short : length (f .row) ≤ 8 → length (faceLine f) ≤ 256
   line-short h = omega (arith, line-length, fields-length (f .row))
-
--- text put, told as words put, and back
-module _ {at next : ℕ} {text old new : List ℕ} where
-  pub put-words : Text.Put at text old next new → Words.Put at text old next new
-  put-words p = record { place = p .place; content = p .bytes }
-
-  pub put-text : Words.Put at text old next new → Text.Put at text old next new
-  put-text p = record { place = p .place; bytes = p .content }

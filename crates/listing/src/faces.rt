@@ -11,7 +11,7 @@ ghost use lib.ListN.{length, take};
 ghost use Rattle.simplex.specs.SignWords.{signOf};
 ghost use Rattle.records.specs.Inside.{Table, Inside};
 ghost use Rattle.boundary.specs.Walk.{faceAt, tableFaces};
-ghost use Rattle.printing.specs.Put.{Put};
+ghost use Rattle.words.specs.Placed.{Put};
 ghost use Rattle.listing.specs.Lines.{signText, faceLine, faceLines};
 ghost use Rattle.listing.specs.Parts.{SizeOf};
 

@@ -11,7 +11,7 @@ ghost use Prim.Native.Nat.{_≤_};
 ghost use lib.ListN.{length};
 ghost use Rattle.records.specs.Inside.{Table};
 ghost use Rattle.boundary.specs.Walk.{tableFaces};
-ghost use Rattle.printing.specs.Put.{Put};
+ghost use Rattle.words.specs.Placed.{Put};
 ghost use Rattle.listing.specs.Lines.{firstLine, keyText};
 ghost use Rattle.listing.specs.Parts.{Points, KeySize};
 

@@ -3,7 +3,6 @@ use native.Mathlib.Omega.{arith}
 use lib.ListN.{length}
 use borrow.Author.Needs.{needs}
 use Rattle.listing.specs.Lines.{faceLine}
-use Rattle.listing.proofs.FaceText.{put-words, put-text}
 use Rattle.boundary.specs.Walk.{facesFrom}
 use Rattle.boundary.proofs.Walking.{face-less, Walked, walk-starts, walk-fits, walk-goes, walk-ends}
 use Rattle.listing.proofs.faces.put_faces.Statement.{statement}
@@ -54,7 +53,7 @@ loop-again : tie.Need-loop-again Inv-loop μ-loop
 loop-again c =
     let s = start (turn c) in
     walk-goes faceLine (s .args .d) (s .args .s) (s .args .table .now) (s .args .at) (s .args .buf .now) (s .pre .0) (turn c .loop .inv) (omega arith)
-    (c .next-face2 .ensures) (put-words (c .before .before .before .before .put-face .ensures))
+    (c .next-face2 .ensures) (c .before .before .before .before .put-face .ensures)
 
 same-length : tie.Need-same-length Inv-loop μ-loop
 same-length c = c .before .before .loop .inv .left .same
@@ -63,7 +62,7 @@ returns : tie.Need-returns Inv-loop μ-loop
 returns c =
     let t = c .before .before in
     let s = start t in
-    put-text (walk-ends faceLine (s .args .d) (s .args .s) (s .args .table .now) (s .args .at) (s .args .buf .now) (t .loop .inv) (omega arith))
+    walk-ends faceLine (s .args .d) (s .args .s) (s .args .table .now) (s .args .at) (s .args .buf .now) (t .loop .inv) (omega arith)
 
 pub put-faces-spec : {M : Type 1} → statement M
 put-faces-spec =
