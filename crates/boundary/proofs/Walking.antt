@@ -1,7 +1,7 @@
 -- Boundary faces from a place of a table on, and a walk along them.
 --   from-start, from-end      from the first place on all are left, behind the last cell none
 --   from-next                 behind its last position a cell is done
---   from-skip                 at a position that is not on the boundary stands no face
+--   from-here, from-skip      at a position on the boundary stands a face, at another none
 --   face-next, face-less      where the walk stops stands one, and behind it one less is left
 --   Walked f .. at old p a cur buf    of all faces, put from `at` on by f, those from (p, a) on are left
 --   walk-starts, walk-fits, walk-goes, walk-ends      all are left; the next one fits; it is put; none is left
@@ -104,7 +104,7 @@ module _ (d s : ℕ) (ws : List ℕ) (t : Table d s ws) (p a : ℕ) (hp : p < s)
         (keep-at (λ f. filled (f .row)) (eqb (wingIn d ws p a) empty) (ltb 0 d) (faceAt d ws p a)
         (atEmpty (drop (a + 1) fs) (drop (a + 1) (here .wings))) (boundaryOf (drop (p + 1) (entriesOf d s ws))) (filled-face d a (here .cell .row) row ha))
 
-    from-here : onBoundary d ws p a ≡ true → facesFrom d s ws p a ≡ faceAt d ws p a ∷ facesFrom d s ws p (a + 1)
+    pub from-here : onBoundary d ws p a ≡ true → facesFrom d s ws p a ≡ faceAt d ws p a ∷ facesFrom d s ws p (a + 1)
     from-here e = rw e at from-at
 
     pub from-skip : onBoundary d ws p a ≡ false → facesFrom d s ws p a ≡ facesFrom d s ws p (a + 1)
