@@ -56,7 +56,8 @@ module _ (d v s : ℕ) (ws : List ℕ) where
       last true r = inr r
       last false r = absurd (n r)
 
-      go : (m : ℕ) → firstRefusal solidRules (listWith d v s ws) ≡ m → k ≡ orElse m (cond (ltb room (tableLength d s)) 15 0) → ((6 ≤ k) × (k ≤ 11)) ⊎ (k ≡ 15)
+      go : (m : ℕ) → firstRefusal solidRules (listWith d v s ws) ≡ m →
+          k ≡ orElse m (cond (ltb room (tableLength d s)) 15 0) → ((6 ≤ k) × (k ≤ 11)) ⊎ (k ≡ 15)
       go zero q r = last (ltb room (tableLength d s)) r
       go (suc m) q r = inl (solid-range (listWith d v s ws) k (r ∙ sym q) n)
 
@@ -65,6 +66,7 @@ module _ (d v s : ℕ) (ws : List ℕ) where
   after-refused out zero n e = absurd (n refl)
   after-refused out (suc k) n e = rw (sym e) refl
 
-  pub after-accepted : (out : List ℕ) → 0 ≡ tableRefusal d v s ws (length out) → written (tableOfList (listWith d v s ws)) out ≡ tableAfter d v s ws out
+  pub after-accepted : (out : List ℕ) → 0 ≡ tableRefusal d v s ws (length out) →
+      written (tableOfList (listWith d v s ws)) out ≡ tableAfter d v s ws out
   unfolding tableAfter
   after-accepted out e = rw (sym e) refl

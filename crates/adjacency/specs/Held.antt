@@ -3,7 +3,7 @@
 --   cellHeld d rows signs p       cell p; heldCells d s rows signs are the s cells
 --   cellRead size d ws p          the cell of record p of the words ws, size words a record
 --   recordList size d v s ws      the list of the first s of these cells
---   Gathered ..                   rows and signs with cell p read, put in ascending order, and stored as a row of eight; the cells before it as they were
+-- Gathered .. rows and signs with cell p read, put in ascending order, and stored as a row of eight; the cells before it as they were
 --   badAt size ws p               whether the sign word of record p is neither 0 nor 1
 --   beyondAt d v rows p           whether the last vertex of the row of cell p is v or above
 --   falls d rows p                whether the row of cell p does not ascend; fallsAt rows p j at vertices j and j + 1

@@ -31,7 +31,8 @@ module _ (d v : ℕ) (cs : List Cell) (solid : Solid v cs) (long : All (Long (su
   pub own-cells : listed d v (length cs) (tableWords (tableOf cs)) ≡ listOf d v cs
   own-cells =
       ap (λ ws. record { d = d; v = v; s = length cs; words = ws })
-      (ap (λ n. ownList d n (tableWords (tableOf cs))) (sym (entries-length cs 0 cs)) ∙ own-list d (tableOf cs) sized ∙ ap (λ xs. concat (map cellWords xs)) (table-cells cs 0 cs))
+      (ap (λ n. ownList d n (tableWords (tableOf cs))) (sym (entries-length cs 0 cs))
+      ∙ own-list d (tableOf cs) sized ∙ ap (λ xs. concat (map cellWords xs)) (table-cells cs 0 cs))
 
   pub own-words : tableOfList (listed d v (length cs) (tableWords (tableOf cs))) ≡ tableWords (tableOf cs)
   unfolding tableOfList

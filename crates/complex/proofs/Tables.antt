@@ -85,7 +85,8 @@ table-wing n cs long p a = go (decLt p (length cs))
     row : Row
     row = rowAt cs p
 
-    at : p < length cs → Dec (a < length row) → getD (tabulate (length row) (λ j. neighbour p (without j row) cs)) a empty ≡ neighbour p (without a row) cs
+    at : p < length cs → Dec (a < length row) →
+        getD (tabulate (length row) (λ j. neighbour p (without j row) cs)) a empty ≡ neighbour p (without a row) cs
     at hp (yes l) = tabulate-at (length row) (λ j. neighbour p (without j row) cs) a empty l
     at hp (no l) =
         let f : ℕ → ℕ = λ j. neighbour p (without j row) cs in
@@ -95,8 +96,10 @@ table-wing n cs long p a = go (decLt p (length cs))
 
     go : Dec (p < length cs) → wingAt (tableOf cs) p a ≡ neighbour p (without a row) cs
     go (yes hp) =
-        ap (λ (e : Entry). getD (e .wings) a empty) (table-at cs p hp) ∙ ap (λ ws. getD ws a empty) (wings-tabulated cs p (cellAt cs p)) ∙ at hp (decLt a (length row))
+        ap (λ (e : Entry). getD (e .wings) a empty) (table-at cs p hp)
+        ∙ ap (λ ws. getD ws a empty) (wings-tabulated cs p (cellAt cs p)) ∙ at hp (decLt a (length row))
     go (no hp) =
         let k : length cs ≤ p = omega arith in
-        ap (λ (e : Entry). getD (e .wings) a empty) (List·getD-eq-default (tableOf cs) (record { cell = cell true []; wings = [] }) (rw (entries-length cs 0 cs) k))
+        ap (λ (e : Entry). getD (e .wings) a empty)
+        (List·getD-eq-default (tableOf cs) (record { cell = cell true []; wings = [] }) (rw (entries-length cs 0 cs) k))
         ∙ sym (ap (λ (c : Cell). neighbour p (without a (c .row)) cs) (List·getD-eq-default cs (cell true []) k) ∙ neighbour-of-nothing p 0 cs)

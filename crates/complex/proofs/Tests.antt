@@ -50,10 +50,12 @@ is-below nv [] b = refl
 is-below nv (x ∷ w) b = rw (lt-leb nv x (b .0)) (is-below nv w (b .1))
 
 pub all-below : (nv : ℕ) (cs : List Cell) → vertexBeyond nv cs ≡ false → All (Below nv) cs
-all-below nv cs e = each-row (Below nv) (λ c. anyOf (λ x. leb nv x) (c .row) ≡ false) cs (λ c k. below-is nv (c .row) k) (none-of (λ c. anyOf (λ x. leb nv x) (c .row)) cs e)
+all-below nv cs e = each-row (Below nv) (λ c. anyOf (λ x. leb nv x) (c .row) ≡ false) cs
+    (λ c k. below-is nv (c .row) k) (none-of (λ c. anyOf (λ x. leb nv x) (c .row)) cs e)
 
 pub below-all : (nv : ℕ) (cs : List Cell) → All (Below nv) cs → vertexBeyond nv cs ≡ false
-below-all nv cs a = of-none (λ c. anyOf (λ x. leb nv x) (c .row)) cs (row-each (Below nv) (λ c. anyOf (λ x. leb nv x) (c .row) ≡ false) cs (λ c k. is-below nv (c .row) k) a)
+below-all nv cs a = of-none (λ c. anyOf (λ x. leb nv x) (c .row)) cs
+    (row-each (Below nv) (λ c. anyOf (λ x. leb nv x) (c .row) ≡ false) cs (λ c k. is-below nv (c .row) k) a)
 
 -- 8: no vertex twice in a cell
 absent : (x : ℕ) (w : Row) → anyOf (eqb x) w ≡ false → occurs x w ≡ 0
@@ -92,7 +94,8 @@ seen R w (c ∷ cs) a = go (sameRow (c .row) w) (sameRow-true (c .row) w) (seen 
 
 -- no row stands more than n times in the list
 pub few-of : (n : ℕ) (cs : List Cell) → anyOf (λ c. ltb n (total (c .row) cs)) cs ≡ false → (w : Row) → total w cs ≤ n
-few-of n cs e w = go (seen (λ v. total v cs ≤ n) w cs (each-row (λ v. total v cs ≤ n) (λ c. ltb n (total (c .row) cs) ≡ false) cs (λ c k. ltb-false n (total (c .row) cs) k) (none-of (λ c. ltb n (total (c .row) cs)) cs e)))
+few-of n cs e w = go (seen (λ v. total v cs ≤ n) w cs (each-row (λ v. total v cs ≤ n) (λ c. ltb n (total (c .row) cs) ≡ false)
+    cs (λ c k. ltb-false n (total (c .row) cs) k) (none-of (λ c. ltb n (total (c .row) cs)) cs e)))
   where
     go : (total w cs ≡ 0) ⊎ (total w cs ≤ n) → total w cs ≤ n
     go (inl z) = omega arith
@@ -108,7 +111,8 @@ count-sum s w [] = refl
 count-sum s w (c ∷ cs) = ap (λ n. one (times (c .sign) s && sameRow (c .row) w) + n) (count-sum s w cs)
 
 -- signed cells of a list that stand once
-once-signed : (s : Sign) (w : Row) (L cs : List Cell) → Each (λ c. ltb 1 (countOn (c .sign) (c .row) L) ≡ false) cs → (countOn s w cs ≡ 0) ⊎ (countOn s w L ≤ 1)
+once-signed : (s : Sign) (w : Row) (L cs : List Cell) →
+    Each (λ c. ltb 1 (countOn (c .sign) (c .row) L) ≡ false) cs → (countOn s w cs ≡ 0) ⊎ (countOn s w L ≤ 1)
 once-signed s w L [] a = inl refl
 once-signed s w L (c ∷ cs) a = go (c .sign) s (sameRow (c .row) w) (sameRow-true (c .row) w) (a .0) (once-signed s w L cs (a .1))
   where
@@ -133,7 +137,8 @@ signs-once F e s w = go (once-signed s w F F (none-of (λ f. ltb 1 (countOn (f .
     go (inl z) = omega (arith, count-sum s w F)
     go (inr l) = omega (arith, count-sum s w F)
 
-pub once-signs : (F : List Cell) → ((s : Sign) (w : Row) → sumChain (plusOn w) s F ≤ 1) → (cs : List Cell) → anyOf (λ f. ltb 1 (countOn (f .sign) (f .row) F)) cs ≡ false
+pub once-signs : (F : List Cell) → ((s : Sign) (w : Row) → sumChain (plusOn w) s F ≤ 1) →
+    (cs : List Cell) → anyOf (λ f. ltb 1 (countOn (f .sign) (f .row) F)) cs ≡ false
 once-signs F h [] = refl
 once-signs F h (c ∷ cs) =
     rw (le-ltb 1 (countOn (c .sign) (c .row) F) (omega (arith, count-sum (c .sign) (c .row) F, h (c .sign) (c .row)))) (once-signs F h cs)

@@ -29,12 +29,24 @@ cond-other j h m e = rw (ne-eqb j h e) refl
 acrossLevels-before : (j m f h : ℕ) → h < j → acrossLevels j m f h ≡ 0
 acrossLevels-before j m f zero l = refl
 acrossLevels-before j m f (suc h) l =
-    omega (arith, acrossLevels-before j m f h (omega arith), cond-other j h m (λ e. omega arith), cond-other j h f (λ e. omega arith), cond-other j (suc h) f (λ e. omega arith))
+    omega (
+      arith,
+      acrossLevels-before j m f h (omega arith),
+      cond-other j h m (λ e. omega arith),
+      cond-other j h f (λ e. omega arith),
+      cond-other j (suc h) f (λ e. omega arith),
+    )
 
 acrossLevels-at : (j m f : ℕ) → acrossLevels j m f j ≤ f
 acrossLevels-at zero m f = omega arith
 acrossLevels-at (suc j) m f =
-    omega (arith, acrossLevels-before (suc j) m f j (omega arith), cond-other (suc j) j m (λ e. omega arith), cond-other (suc j) j f (λ e. omega arith), cond-same (suc j) (suc j) f refl)
+    omega (
+      arith,
+      acrossLevels-before (suc j) m f j (omega arith),
+      cond-other (suc j) j m (λ e. omega arith),
+      cond-other (suc j) j f (λ e. omega arith),
+      cond-same (suc j) (suc j) f refl,
+    )
 
 acrossLevels-after : (j m f h : ℕ) → j < h → acrossLevels j m f h ≡ acrossLevels j m f j + m + f
 acrossLevels-after j m f zero l = absurd (omega arith)
@@ -102,6 +114,22 @@ module _ (nv : ℕ) (cs : List Cell) (s : Solid nv cs) where
   swept-meet h w = go (kindOf nv cs s (lowerIn nv w) (upperIn nv w))
     where
       go : Kind cs (lowerIn nv w) (upperIn nv w) → total w (allFaces (sweepOf nv h cs)) ≤ 2
-      go (isFlat e i k f) = omega (arith, sweep-bound nv h w cs (s .rows), acrossLevels-le (levelIn nv w) (sumRows (innerOn nv w) cs + sumRows (innerOn nv w) cs + sumRows (countFaces (sideOn nv w)) cs) (sumRows (flatOn nv w) cs) h)
-      go (isSide e i k f) = omega (arith, sweep-bound nv h w cs (s .rows), acrossLevels-le (levelIn nv w) (sumRows (innerOn nv w) cs + sumRows (innerOn nv w) cs + sumRows (countFaces (sideOn nv w)) cs) (sumRows (flatOn nv w) cs) h, s .meet (upperIn nv w ++ rest (lowerIn nv w)))
-      go (isInner e i k f) = omega (arith, sweep-bound nv h w cs (s .rows), acrossLevels-le (levelIn nv w) (sumRows (innerOn nv w) cs + sumRows (innerOn nv w) cs + sumRows (countFaces (sideOn nv w)) cs) (sumRows (flatOn nv w) cs) h)
+      go (isFlat e i k f) = omega (
+        arith,
+        sweep-bound nv h w cs (s .rows),
+        acrossLevels-le (levelIn nv w) (sumRows (innerOn nv w) cs + sumRows (innerOn nv w) cs + sumRows (countFaces (sideOn nv w)) cs)
+            (sumRows (flatOn nv w) cs) h,
+      )
+      go (isSide e i k f) = omega (
+        arith,
+        sweep-bound nv h w cs (s .rows),
+        acrossLevels-le (levelIn nv w) (sumRows (innerOn nv w) cs + sumRows (innerOn nv w) cs + sumRows (countFaces (sideOn nv w)) cs)
+            (sumRows (flatOn nv w) cs) h,
+        s .meet (upperIn nv w ++ rest (lowerIn nv w)),
+      )
+      go (isInner e i k f) = omega (
+        arith,
+        sweep-bound nv h w cs (s .rows),
+        acrossLevels-le (levelIn nv w) (sumRows (innerOn nv w) cs + sumRows (innerOn nv w) cs + sumRows (countFaces (sideOn nv w)) cs)
+            (sumRows (flatOn nv w) cs) h,
+      )

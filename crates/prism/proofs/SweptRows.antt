@@ -27,14 +27,17 @@ prismRow lo hi k v = raised lo (drop k v) ++ raised hi (take (suc k) v)
 pub side-low : (lo hi k j : ℕ) (v : Row) → 1 ≤ j → k + j < length v → without j (prismRow lo hi k v) ≡ prismRow lo hi k (without (k + j) v)
 side-low lo hi k j v p h =
     without-left j (raised lo (drop k v)) (raised hi (take (suc k) v)) (rw (length-map, length-drop) (omega arith))
-    ∙ ap₂ {C = Row} (λ l r. l ++ r) (without-map (λ n. n + lo) j (drop k v) ∙ ap (raised lo) (drop-face k j v)) (ap (raised hi) (sym (take-face-lt (k + j) (suc k) v (omega arith))))
+    ∙ ap₂ {C = Row} (λ l r. l ++ r) (without-map (λ n. n + lo) j (drop k v) ∙ ap (raised lo) (drop-face k j v))
+    (ap (raised hi) (sym (take-face-lt (k + j) (suc k) v (omega arith))))
 
 -- an upper vertex dropped: position d - k + a of cell k + 1 is cell k over face a
-pub side-high : (lo hi k a j : ℕ) (v : Row) → a ≤ k → suc k < length v → j + suc k ≡ length v + a → without j (prismRow lo hi (suc k) v) ≡ prismRow lo hi k (without a v)
+pub side-high : (lo hi k a j : ℕ) (v : Row) → a ≤ k → suc k < length v → j + suc k ≡ length v + a →
+    without j (prismRow lo hi (suc k) v) ≡ prismRow lo hi k (without a v)
 side-high lo hi k a j v h l e =
     let p : j ≡ length (raised lo (drop (suc k) v)) + a = rw (length-map, length-drop) (omega arith) in
     rw p (without-right a (raised lo (drop (suc k) v)) (raised hi (take (suc (suc k)) v))
-    ∙ ap₂ {C = Row} (λ l r. l ++ r) (ap (raised lo) (sym (drop-face-ge a k v h))) (without-map (λ n. n + hi) a (take (suc (suc k)) v) ∙ ap (raised hi) (sym (take-face-ge a (suc k) v (omega arith)))))
+    ∙ ap₂ {C = Row} (λ l r. l ++ r) (ap (raised lo) (sym (drop-face-ge a k v h)))
+    (without-map (λ n. n + hi) a (take (suc (suc k)) v) ∙ ap (raised hi) (sym (take-face-ge a (suc k) v (omega arith)))))
 
 -- the inner face below cell k
 abbrev pub between : ℕ → ℕ → ℕ → Row → Row
@@ -47,7 +50,8 @@ pub last-face : (lo hi k : ℕ) (v : Row) → k < length v → without (length v
 last-face lo hi k v l =
     let p : length v ≡ length (raised lo (drop k v)) + k = rw (length-map, length-drop) (omega arith) in
     ap (λ j. without j (prismRow lo hi k v)) p ∙ without-right k (raised lo (drop k v)) (raised hi (take (suc k) v))
-    ∙ ap (λ r. raised lo (drop k v) ++ r) (without-map (λ n. n + hi) k (take (suc k) v) ∙ ap (raised hi) (sym (take-face-ge k k v (omega arith)) ∙ take-face-lt k k v (omega arith)))
+    ∙ ap (λ r. raised lo (drop k v) ++ r) (without-map (λ n. n + hi) k (take (suc k) v)
+    ∙ ap (raised hi) (sym (take-face-ge k k v (omega arith)) ∙ take-face-lt k k v (omega arith)))
 
 pub mid-top : (lo hi : ℕ) (v : Row) → between lo hi (length v) v ≡ raised hi v
 mid-top lo hi v = rw (drop-length v, take-length v) refl
@@ -67,9 +71,11 @@ module _ (nv n : ℕ) where
 
   pub len-level : (i : ℕ) (cs : List Cell) → All (Long n) cs → length (level nv i cs) ≡ length cs * n
   len-level i [] a = sym (zero-mul n)
-  len-level i (c ∷ cs) a = omega (arith, length-append (prism nv i c) (level nv i cs), len-block i c (a .0), len-level i cs (a .1), suc-mul (length cs) n)
+  len-level i (c ∷ cs) a =
+      omega (arith, length-append (prism nv i c) (level nv i cs), len-block i c (a .0), len-level i cs (a .1), suc-mul (length cs) n)
 
-  cell-level : (i p k : ℕ) (cs : List Cell) → All (Long n) cs → p < length cs → k < n → cellAt (level nv i cs) (k + p * n) ≡ prismCell nv i k (cellAt cs p)
+  cell-level : (i p k : ℕ) (cs : List Cell) → All (Long n) cs → p < length cs →
+      k < n → cellAt (level nv i cs) (k + p * n) ≡ prismCell nv i k (cellAt cs p)
   cell-level i p k [] a hp hk = absurd (not-suc-le-zero hp)
   cell-level i zero k (c ∷ cs) a hp hk =
       ap (cellAt (level nv i (c ∷ cs))) (omega (arith, zero-mul n))
@@ -81,13 +87,16 @@ module _ (nv n : ℕ) where
 
   pub len-sweep : (h : ℕ) (cs : List Cell) → All (Long n) cs → length (sweepOf nv h cs) ≡ h * (length cs * n)
   len-sweep zero cs a = sym (zero-mul (length cs * n))
-  len-sweep (suc h) cs a = omega (arith, length-append (sweepOf nv h cs) (level nv h cs), len-sweep h cs a, len-level h cs a, suc-mul h (length cs * n))
+  len-sweep (suc h) cs a =
+      omega (arith, length-append (sweepOf nv h cs) (level nv h cs), len-sweep h cs a, len-level h cs a, suc-mul h (length cs * n))
 
-  cell-sweep : (h i r : ℕ) (cs : List Cell) → All (Long n) cs → i < h → r < length cs * n → cellAt (sweepOf nv h cs) (r + i * (length cs * n)) ≡ cellAt (level nv i cs) r
+  cell-sweep : (h i r : ℕ) (cs : List Cell) → All (Long n) cs → i < h → r < length cs * n →
+      cellAt (sweepOf nv h cs) (r + i * (length cs * n)) ≡ cellAt (level nv i cs) r
   cell-sweep zero i r cs a hi hr = absurd (not-suc-le-zero hi)
   cell-sweep (suc h) i r cs a hi hr = go (ℕ-discrete i h) (λ l. cell-sweep h i r cs a l hr)
     where
-      go : Dec (i ≡ h) → (i < h → cellAt (sweepOf nv h cs) (r + i * (length cs * n)) ≡ cellAt (level nv i cs) r) → cellAt (sweepOf nv (suc h) cs) (r + i * (length cs * n)) ≡ cellAt (level nv i cs) r
+      go : Dec (i ≡ h) → (i < h → cellAt (sweepOf nv h cs) (r + i * (length cs * n)) ≡ cellAt (level nv i cs) r) →
+          cellAt (sweepOf nv (suc h) cs) (r + i * (length cs * n)) ≡ cellAt (level nv i cs) r
       go (yes e) k = rw e (cell-right (sweepOf nv h cs) (level nv h cs) r (r + h * (length cs * n)) (omega (arith, len-sweep h cs a)))
       go (no z) k =
           let l : i < h = omega arith in

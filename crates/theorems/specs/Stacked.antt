@@ -59,7 +59,8 @@ pub record Stacked : Type 0 where
   -- the upper level without wings: so does the face within it
   pub inner-twice : (total between (boundaryOf first) ≡ 2) × (total inner (boundaryOf first) ≡ 2)
   -- the sums do not tell: each coefficient is 0, as in the true boundary
-  pub sums : (coefficient between (boundaryOf apart) ≡ coefficient between (boundaryOf glued)) × (coefficient inner (boundaryOf first) ≡ coefficient inner (boundaryOf glued))
+  pub sums : (coefficient between (boundaryOf apart) ≡ coefficient between (boundaryOf glued))
+      × (coefficient inner (boundaryOf first) ≡ coefficient inner (boundaryOf glued))
   -- `distinct` does
   pub not-distinct : (((w : Row) → total w (boundaryOf apart) ≤ 1) → ⊥) × (((w : Row) → total w (boundaryOf first) ≤ 1) → ⊥)
   -- and faces refuses both tables
