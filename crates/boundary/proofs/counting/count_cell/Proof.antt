@@ -38,8 +38,8 @@ loop-again c =
     let s = turn .before .before in
     let a = s .args in
     ⊎-elim
-    (λ w. omega (arith, ap length (from-here (a .d) (a .s) (a .table .now) (s .pre .table) (a .p) (turn .loop .a) (s .pre .number) (omega arith) (cc))))
-    (λ w. omega (arith, ap length (from-skip (a .d) (a .s) (a .table .now) (s .pre .table) (a .p) (turn .loop .a) (s .pre .number) (omega arith) (cc))))
+    (λ w. omega (arith, ap length (from-here (a .d) (a .s) (a .table .now) (s .pre .long) (a .p) (turn .loop .a) (s .pre .number) (omega arith) (cc))))
+    (λ w. omega (arith, ap length (from-skip (a .d) (a .s) (a .table .now) (s .pre .long) (a .p) (turn .loop .a) (s .pre .number) (omega arith) (cc))))
     (c .if1 .came)
 
 returns : tie.Need-returns Inv-loop μ-loop
@@ -47,7 +47,7 @@ returns c =
     let turn = c .before in
     let s = turn .before .before in
     let a = s .args in
-    omega (arith, ap length (from-next (a .d) (a .s) (a .table .now) (s .pre .table) (a .p) (turn .loop .a) (s .pre .number) (omega arith)))
+    omega (arith, ap length (from-next (a .d) (a .s) (a .table .now) (s .pre .long) (a .p) (turn .loop .a) (s .pre .number) (omega arith)))
 
 pub count-cell-spec : {M : Type 1} → statement M
 count-cell-spec = tie.close (tie.spec Inv-loop μ-loop loop-holds on-boundary-requires add-n add-a loop-less loop-again returns)

@@ -42,7 +42,7 @@ loop-again c =
     let call = c .before .next-position in (
       omega arith,
       turn .loop .inv .1 ∙ call .ensures .same
-          ∙ from-next (a .d) (a .s) (a .table .now) (s .pre .0) (turn .loop .cell) (call .result) (omega arith) (omega arith),
+          ∙ from-next (a .d) (a .s) (a .table .now) (s .pre .0 .long) (turn .loop .cell) (call .result) (omega arith) (omega arith),
     )
 
 returns-2 : tie.Need-returns-2 Inv-loop μ-loop

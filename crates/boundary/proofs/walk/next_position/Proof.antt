@@ -34,7 +34,7 @@ loop-again c =
     let turn = c .before .before .before in
     let s = turn .before .before in
     let a = s .args in
-    turn .loop .inv ∙ from-skip (a .d) (a .s) (a .table .now) (s .pre .table) (a .p) (turn .loop .position) (s .pre .number) (omega arith) (cc)
+    turn .loop .inv ∙ from-skip (a .d) (a .s) (a .table .now) (s .pre .long) (a .p) (turn .loop .position) (s .pre .number) (omega arith) (cc)
 
 returns-2 : tie.Need-returns-2 Inv-loop μ-loop
 returns-2 c = record { same = c .before .loop .inv; found = λ h. absurd (omega arith) }
