@@ -37,7 +37,7 @@ without-behind (suc a) (suc j) (x ∷ w) h = without-behind a j w (le-of-suc-le-
 
 module _ (d s : ℕ) (ws : List ℕ) (p : ℕ) (i : Inside d s p ws) (a : ℕ) (ha : a ≤ d) where
   long : length (part (recordSize d) p ws) ≡ recordSize d
-  long = record-long d s p ws (i .number) (i .table .long)
+  long = record-long d s p ws (i .number) (i .long)
 
   pub face-row : length (faceAt d ws p a .row) ≡ d
   face-row =

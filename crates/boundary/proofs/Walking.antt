@@ -1,7 +1,7 @@
 -- Boundary faces from a place of a table on, and a walk along them.
 --   from-start, from-end      from the first place on all are left, behind the last cell none
 --   from-next                 behind its last position a cell is done
---   from-skip                 at a position that is not on the boundary stands no face
+--   from-here, from-skip      at a position on the boundary stands a face, at another none
 --   face-next, face-less      where the walk stops stands one, and behind it one less is left
 --   Walked f .. at old p a cur buf    of all faces, put from `at` on by f, those from (p, a) on are left
 --   walk-starts, walk-fits, walk-goes, walk-ends      all are left; the next one fits; it is put; none is left
@@ -23,8 +23,8 @@ use Rattle.simplex.specs.Cell.{Row, Cell, cell, filled}
 use Rattle.simplex.specs.Faces.{face, faces, keep, without}
 use Rattle.simplex.proofs.Faces.{faces-length, face-at}
 use Rattle.simplex.proofs.FaceCounts.{without-filled}
-use Rattle.records.specs.Layout.{Entry, empty, recordSize, entryIn, entriesOf}
-use Rattle.records.specs.Inside.{Table, wingIn}
+use Rattle.records.specs.Layout.{Entry, empty, recordSize, tableLength, entryIn, entriesOf}
+use Rattle.records.specs.Inside.{wingIn}
 use Rattle.records.proofs.Places.{record-long, row-long, wings-long, entry-at}
 use Rattle.boundary.specs.Boundary.{atEmpty, boundaryOf}
 use Rattle.boundary.specs.Walk.{tableFaces, faceAt, onBoundary, entriesFrom, facesFrom, AtFace, NextFace}
@@ -62,7 +62,7 @@ module _ (d s : ℕ) (ws : List ℕ) where
   unfolding facesFrom
   from-end p a h = ap (entriesFrom a) (drop-of-length-le (entriesOf d s ws) {i = p} (omega (arith, entries-long)))
 
-module _ (d s : ℕ) (ws : List ℕ) (t : Table d s ws) (p a : ℕ) (hp : p < s) where
+module _ (d s : ℕ) (ws : List ℕ) (size : length ws ≡ tableLength d s) (p a : ℕ) (hp : p < s) where
   abbrev here : Entry
   here = entryIn d ws p
 
@@ -75,7 +75,7 @@ module _ (d s : ℕ) (ws : List ℕ) (t : Table d s ws) (p a : ℕ) (hp : p < s)
       ∙ ap (λ e. e ∷ drop (p + 1) (entriesOf d s ws)) (entry-at d s p ws here hp)
 
   long : length (part (recordSize d) p ws) ≡ recordSize d
-  long = record-long d s p ws hp (t .long)
+  long = record-long d s p ws hp size
 
   row : length (here .cell .row) ≡ suc d
   row = row-long d (part (recordSize d) p ws) long
@@ -97,22 +97,23 @@ module _ (d s : ℕ) (ws : List ℕ) (t : Table d s ws) (p a : ℕ) (hp : p < s)
     wings-next : drop a (here .wings) ≡ wingIn d ws p a ∷ drop (a + 1) (here .wings)
     wings-next = drop-next empty (here .wings) a (omega (arith, wings-long d (part (recordSize d) p ws) long))
 
-    from-at : facesFrom d s ws p a ≡ cond (onBoundary d ws p a) (faceAt d ws p a ∷ facesFrom d s ws p (a + 1)) (facesFrom d s ws p (a + 1))
+    from-at : facesFrom d s ws p a
+        ≡ cond (onBoundary d ws p a) (faceAt d ws p a ∷ facesFrom d s ws p (a + 1)) (facesFrom d s ws p (a + 1))
     unfolding facesFrom
     from-at =
         rw (entries-next, faces-next, wings-next)
         (keep-at (λ f. filled (f .row)) (eqb (wingIn d ws p a) empty) (ltb 0 d) (faceAt d ws p a)
         (atEmpty (drop (a + 1) fs) (drop (a + 1) (here .wings))) (boundaryOf (drop (p + 1) (entriesOf d s ws))) (filled-face d a (here .cell .row) row ha))
 
-    from-here : onBoundary d ws p a ≡ true → facesFrom d s ws p a ≡ faceAt d ws p a ∷ facesFrom d s ws p (a + 1)
+    pub from-here : onBoundary d ws p a ≡ true → facesFrom d s ws p a ≡ faceAt d ws p a ∷ facesFrom d s ws p (a + 1)
     from-here e = rw e at from-at
 
     pub from-skip : onBoundary d ws p a ≡ false → facesFrom d s ws p a ≡ facesFrom d s ws p (a + 1)
     from-skip e = rw e at from-at
 
-module _ (d s : ℕ) (ws : List ℕ) (t : Table d s ws) (p a : ℕ) (at : AtFace d s ws p a) (hp : p < s) where
+module _ {d s : ℕ} {ws : List ℕ} (size : length ws ≡ tableLength d s) {p a : ℕ} (at : AtFace d s ws p a) (hp : p < s) where
   pub face-next : facesFrom d s ws p a ≡ faceAt d ws p a ∷ facesFrom d s ws p (a + 1)
-  face-next = from-here d s ws t p a hp (at .position hp) (at .found hp)
+  face-next = from-here d s ws size p a hp (at .position hp) (at .found hp)
 
   pub face-less : {q b : ℕ} → NextFace d s ws p (a + 1) q b → length (facesFrom d s ws p a) ≡ suc (length (facesFrom d s ws q b))
   face-less n = ap length face-next ∙ ap (λ fs. suc (length fs)) (n .same)
@@ -121,26 +122,27 @@ pub record Walked (f : Cell → List ℕ) (d s : ℕ) (ws : List ℕ) (at : ℕ)
   pub place : AtFace d s ws p a
   pub left : Left at (concat (map f (tableFaces d s ws))) old cur (concat (map f (facesFrom d s ws p a))) buf
 
-module _ (f : Cell → List ℕ) (d s : ℕ) (ws : List ℕ) (at : ℕ) (old : List ℕ) where
-  abbrev all : List ℕ
-  all = concat (map f (tableFaces d s ws))
+module _ {f : Cell → List ℕ} {d s : ℕ} {ws : List ℕ} {at : ℕ} {old : List ℕ} where
+  pub walk-starts : {p a : ℕ} → NextFace d s ws 0 0 p a → at + length (concat (map f (tableFaces d s ws))) ≤ length old →
+      Walked f d s ws at old p a at old
+  walk-starts {p} {a} n h =
+      let all = concat (map f (tableFaces d s ws)) in
+      let same = sym (from-start d s ws) ∙ n .same in
+      record { place = n .place; left = subst (λ fs. Left at all old at (concat (map f fs)) old) same (left-starts at all old h) }
 
-  pub walk-starts : {p a : ℕ} → NextFace d s ws 0 0 p a → at + length all ≤ length old → Walked f d s ws at old p a at old
-  walk-starts n h =
-      record { place = n .place; left = subst (λ fs. Left at all old at (concat (map f fs)) old) (sym (from-start d s ws) ∙ n .same) (left-starts at all old h) }
+  module _ {p a cur : ℕ} {buf : List ℕ} (w : Walked f d s ws at old p a cur buf) where
+    pub walk-ends : s ≤ p → Put at (concat (map f (tableFaces d s ws))) old cur buf
+    walk-ends h = left-ends (rw (from-end d s ws p a h) at (w .left))
 
-  pub walk-ends : {p a cur : ℕ} {buf : List ℕ} → Walked f d s ws at old p a cur buf → s ≤ p → Put at all old cur buf
-  walk-ends {p} {a} {cur} {buf} w h = left-ends (rw (from-end d s ws p a h) at (w .left))
+    module _ (size : length ws ≡ tableLength d s) (hp : p < s) where
+      here-left : Left at (concat (map f (tableFaces d s ws))) old cur (f (faceAt d ws p a) ++ concat (map f (facesFrom d s ws p (a + 1)))) buf
+      here-left = rw (face-next size (w .place) hp) at (w .left)
 
-  module _ (t : Table d s ws) {p a cur : ℕ} {buf : List ℕ} (w : Walked f d s ws at old p a cur buf) (hp : p < s) where
-    here-left : Left at all old cur (f (faceAt d ws p a) ++ concat (map f (facesFrom d s ws p (a + 1)))) buf
-    here-left = rw (face-next d s ws t p a (w .place) hp) at (w .left)
+      pub walk-fits : cur + length (f (faceAt d ws p a)) ≤ length buf
+      walk-fits = left-fits (f (faceAt d ws p a)) (concat (map f (facesFrom d s ws p (a + 1)))) here-left
 
-    pub walk-fits : cur + length (f (faceAt d ws p a)) ≤ length buf
-    walk-fits = left-fits (f (faceAt d ws p a)) (concat (map f (facesFrom d s ws p (a + 1)))) here-left
-
-    pub walk-goes : {q b next : ℕ} {new : List ℕ} → NextFace d s ws p (a + 1) q b → Put cur (f (faceAt d ws p a)) buf next new →
-        Walked f d s ws at old q b next new
-    walk-goes {q} {b} {next} {new} n put =
-        let rest = left-goes (f (faceAt d ws p a)) (concat (map f (facesFrom d s ws p (a + 1)))) next new here-left put in
-        record { place = n .place; left = rw (n .same) at rest }
+      pub walk-goes : {q b next : ℕ} {new : List ℕ} → NextFace d s ws p (a + 1) q b → Put cur (f (faceAt d ws p a)) buf next new →
+          Walked f d s ws at old q b next new
+      walk-goes {q} {b} {next} {new} n put =
+          let rest = left-goes (f (faceAt d ws p a)) (concat (map f (facesFrom d s ws p (a + 1)))) next new here-left put in
+          record { place = n .place; left = rw (n .same) at rest }

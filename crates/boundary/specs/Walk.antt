@@ -4,6 +4,7 @@
 --   onBoundary d ws p a       there is a face a of cell p, and its wing is empty
 --   facesFrom d s ws p a      the boundary faces from position a of cell p on
 --   AtFace d s ws p a         the place is on the boundary, or behind the last cell
+--   NextPosition d s ws p a b     b is the first position of cell p on the boundary, from a on, or behind the last
 --   NextFace d s ws p a q b   (q, b) is the first such place at (p, a) or behind it
 use mathlib.Core.Path.{_≡_}
 use mathlib.Core.Bool.{Bool, true, _&&_}
@@ -45,6 +46,10 @@ pub record AtFace (d s : ℕ) (ws : List ℕ) (p a : ℕ) : Type 0 where
   pub cell : p ≤ s
   pub position : p < s → a ≤ d
   pub found : p < s → onBoundary d ws p a ≡ true
+
+pub record NextPosition (d s : ℕ) (ws : List ℕ) (p a b : ℕ) : Type 0 where
+  pub same : facesFrom d s ws p a ≡ facesFrom d s ws p b
+  pub found : b ≤ d → onBoundary d ws p b ≡ true
 
 pub record NextFace (d s : ℕ) (ws : List ℕ) (p a q b : ℕ) : Type 0 where
   pub place : AtFace d s ws q b

@@ -4,7 +4,7 @@ ghost use lib.ListN.{length};
 ghost use Rattle.rules.specs.Numbers.{outcomeOf};
 ghost use Rattle.boundary.specs.Faces.{facesOutcome, facesBuffer};
 ghost use Rattle.boundary.specs.Walk.{facesInput};
-use crate::writing::count_faces;
+use crate::counting::count_faces;
 use crate::writing::write_faces;
 use adjacency::sizes::table_words;
 use adjacency::sound::is_sound;
@@ -12,6 +12,7 @@ use rules::limits::Shape;
 use rules::refusal::Answer;
 use rules::refusal::Refusal;
 
+pub mod counting;
 pub mod face;
 pub mod walk;
 pub mod writing;

@@ -2,7 +2,7 @@
 ghost use mathlib.Core.Path.{_≡_};
 ghost use Prim.Native.Nat.{_≤_};
 ghost use Rattle.records.specs.Inside.{Table, Inside};
-ghost use Rattle.boundary.specs.Walk.{onBoundary, NextFace};
+ghost use Rattle.boundary.specs.Walk.{onBoundary, NextPosition, NextFace};
 use records::reading::wing;
 use records::sizes::EMPTY;
 
@@ -13,7 +13,7 @@ pub struct Place {
 }
 
 // Whether wing a of cell p is empty; a cell of dimension 0 has no face.
-fn on_boundary(d: usize, s: usize, table: &[u16], p: usize, a: usize) -> bool
+pub(crate) fn on_boundary(d: usize, s: usize, table: &[u16], p: usize, a: usize) -> bool
     requires { ⌜ Inside d s p (now table) × (a ≤ d) ⌝ }
     ensures { λ r. ⌜ r ≡ onBoundary d (now (table .entry)) p a ⌝ }
 {
@@ -21,6 +21,21 @@ fn on_boundary(d: usize, s: usize, table: &[u16], p: usize, a: usize) -> bool
         return false;
     }
     wing(d, s, table, p, a) == EMPTY
+}
+
+// The first position of cell p on the boundary, from a on; d + 1 or more if there is none.
+fn next_position(d: usize, s: usize, table: &[u16], p: usize, a: usize) -> usize
+    requires { ⌜ Inside d s p (now table) ⌝ }
+    ensures { λ r. ⌜ NextPosition d s (now (table .entry)) p a r ⌝ }
+{
+    let mut position = a;
+    while position <= d {
+        if on_boundary(d, s, table, p, position) {
+            return position;
+        }
+        position += 1;
+    }
+    position
 }
 
 // The first place on the boundary at position a of cell p or behind it; cell s if there is none.
@@ -31,14 +46,12 @@ pub fn next_face(d: usize, s: usize, table: &[u16], p: usize, a: usize) -> Place
     let mut cell = p;
     let mut position = a;
     while cell < s {
-        if d < position {
-            position = 0;
-            cell += 1;
-        } else if on_boundary(d, s, table, cell, position) {
+        position = next_position(d, s, table, cell, position);
+        if position <= d {
             return Place { cell, position };
-        } else {
-            position += 1;
         }
+        position = 0;
+        cell += 1;
     }
     Place { cell, position }
 }

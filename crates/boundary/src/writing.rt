@@ -1,4 +1,4 @@
-// The boundary faces of a table: counted, and written from the start of the lent buffer.
+// The boundary faces of a table, written from the start of the lent buffer.
 ghost use mathlib.Core.Path.{_≡_};
 ghost use Prim.Native.Nat.{_+_, _≤_};
 ghost use lib.ListN.{length};
@@ -9,21 +9,6 @@ ghost use Rattle.boundary.specs.Walk.{faceAt, tableFaces};
 use crate::face::face_word;
 use crate::walk::next_face;
 use records::sizes::face_size;
-
-// How many there are.
-pub fn count_faces(d: usize, s: usize, table: &[u16]) -> usize
-    requires { ⌜ Table d s (now table) ⌝ }
-    ensures count { λ r. ⌜ r ≡ length (tableFaces d s (now (table .entry))) ⌝ }
-    ensures few { λ r. ⌜ r ≤ 32768 ⌝ }
-{
-    let mut n: usize = 0;
-    let mut at = next_face(d, s, table, 0, 0);
-    while at.cell < s {
-        n += 1;
-        at = next_face(d, s, table, at.cell, at.position + 1);
-    }
-    n
-}
 
 // The record of face a of cell p from `at` on; the place behind it.
 fn write_face(

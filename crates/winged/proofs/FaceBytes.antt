@@ -30,5 +30,6 @@ module _ {at : ℕ} {all old : List ℕ} {cur : ℕ} {buf : List ℕ} (xs : List
   pub bytes-fit : cur + 2 ≤ length buf
   bytes-fit = omega (arith, next .room)
 
-  pub left-bytes : (x : ℕ) → x ≡ getD xs k 0 → Left at all old (cur + 2) (bytesOf (drop (k + 1) xs)) (set (set buf cur (x % 256)) (cur + 1) (x / 256 % 256))
+  pub left-bytes : (x : ℕ) → x ≡ getD xs k 0 →
+      Left at all old (cur + 2) (bytesOf (drop (k + 1) xs)) (set (set buf cur (x % 256)) (cur + 1) (x / 256 % 256))
   left-bytes x e = left-word (x / 256 % 256) _ (cur + 2) (omega arith) (left-word (x % 256) _ (cur + 1) refl (rw (← e) at next))

@@ -35,7 +35,7 @@ face-size-requires : tie.Need-face-size-requires Inv-loop μ-loop
 face-size-requires c κs = search needs
 
 loop-holds : tie.Need-loop-holds Inv-loop μ-loop
-loop-holds c = let start = c .before .before .before in (omega arith, omega arith, left-starts (start .args .at) (words start) (start .args .out .now) (start .pre .2))
+loop-holds c = (omega arith, cc, left-starts _ _ _ (omega arith))
 
 face-word-requires : tie.Need-face-word-requires Inv-loop μ-loop
 face-word-requires c κs = search needs
@@ -59,7 +59,8 @@ loop-again : tie.Need-loop-again Inv-loop μ-loop
 loop-again c =
     let turn = c .before .before in
     let start = turn .before .before .before .before in
-    (omega arith, cc, left-next 0 (words start) (turn .loop .j) _ _ (omega (arith, long start)) (c .face-word .ensures) (omega arith) (turn .loop .inv .2))
+    let here : turn .loop .j < length (words start) = omega (arith, long start) in
+    (omega arith, cc, left-next 0 (words start) (turn .loop .j) _ _ here (c .face-word .ensures) (omega arith) (turn .loop .inv .2))
 
 same-length : tie.Need-same-length Inv-loop μ-loop
 same-length c = c .before .loop .inv .2 .same

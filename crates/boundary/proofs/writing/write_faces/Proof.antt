@@ -14,29 +14,20 @@ Inv-loop d s table out₀ next₀ at₀ out next at = Walked faceWords d s table
 abbrev μ-loop : tie.MeasureT-loop
 μ-loop d s table out₀ next₀ at₀ out next at = length (facesFrom d s table (at .cell) (at .position))
 
--- the loop's turn, and the start
+-- the loop's turn
 abbrev turn : tie.After-next-face2 Inv-loop μ-loop → tie.At-loop Inv-loop μ-loop
 turn c = c .before .before .before .before .before .before .before .before
-
-abbrev start : tie.At-loop Inv-loop μ-loop → tie.Start Inv-loop μ-loop
-start c = c .before .before .before .before
 
 next-face-requires : tie.Need-next-face-requires Inv-loop μ-loop
 next-face-requires c κs = search needs
 
 loop-holds : tie.Need-loop-holds Inv-loop μ-loop
-loop-holds c =
-    let s = c .before .before .before in
-    walk-starts faceWords (s .args .d) (s .args .s) (s .args .table .now) 0 (s .args .out .now) (c .next-face .ensures) (omega arith)
+loop-holds c = walk-starts (c .next-face .ensures) (omega arith)
 
 write-face-requires : tie.Need-write-face-requires Inv-loop μ-loop
 write-face-requires c κs =
     let t = c .before .before .before in
-    let s = start t in (
-      record { table = s .pre .0; number = omega arith },
-      t .loop .inv .place .position (omega arith),
-      walk-fits faceWords (s .args .d) (s .args .s) (s .args .table .now) 0 (s .args .out .now) (s .pre .0) (t .loop .inv) (omega arith),
-    )
+    (search needs, t .loop .inv .place .position (omega arith), walk-fits (t .loop .inv) (cc) (omega arith))
 
 add-next-face : tie.Need-add-next-face Inv-loop μ-loop
 add-next-face c = omega (arith, c .before .before .before .before .before .before .before .loop .inv .place .position (omega arith))
@@ -45,26 +36,20 @@ next-face-requires-2 : tie.Need-next-face-requires-2 Inv-loop μ-loop
 next-face-requires-2 c κs = search needs
 
 loop-less : tie.Need-loop-less Inv-loop μ-loop
-loop-less c =
-    let s = start (turn c) in
-    omega (arith, face-less (s .args .d) (s .args .s) (s .args .table .now) (s .pre .0) _ _ (turn c .loop .inv .place) (omega arith) (c .next-face2 .ensures))
+loop-less c = omega (arith, face-less (cc) (turn c .loop .inv .place) (omega arith) (c .next-face2 .ensures))
 
 loop-again : tie.Need-loop-again Inv-loop μ-loop
 loop-again c =
-    let s = start (turn c) in
-    walk-goes faceWords (s .args .d) (s .args .s) (s .args .table .now) 0 (s .args .out .now) (s .pre .0) (turn c .loop .inv) (omega arith)
-    (c .next-face2 .ensures) (c .before .before .before .before .write-face .ensures)
+    walk-goes (turn c .loop .inv) (cc) (omega arith) (c .next-face2 .ensures) (c .before .before .before .before .write-face .ensures)
 
 same-length : tie.Need-same-length Inv-loop μ-loop
 same-length c = c .before .before .loop .inv .left .same
 
 returns : tie.Need-returns Inv-loop μ-loop
-returns c =
-    let t = c .before .before in
-    let s = start t in
-    walk-ends faceWords (s .args .d) (s .args .s) (s .args .table .now) 0 (s .args .out .now) (t .loop .inv) (omega arith)
+returns c = walk-ends (c .before .before .loop .inv) (omega arith)
 
 pub write-faces-spec : {M : Type 1} → statement M
 write-faces-spec =
     tie.close
-    (tie.spec Inv-loop μ-loop next-face-requires loop-holds write-face-requires add-next-face next-face-requires-2 loop-less loop-again same-length returns)
+    (tie.spec Inv-loop μ-loop next-face-requires loop-holds write-face-requires add-next-face next-face-requires-2 loop-less loop-again
+    same-length returns)

@@ -25,7 +25,8 @@ long c =
     let s = start c in
     ap length (c .fill-row .ensures) ∙ face-row (s .args .d) (s .args .s) (s .args .table .now) (s .args .p) (s .pre .0) (s .args .a) (s .pre .1)
 
-size : (c : tie.After-fields-len) → (2 + c .fields-len .result ≡ length (faceLine (here (c .before .before .before)))) × (2 + c .fields-len .result ≤ 256)
+size : (c : tie.After-fields-len) →
+    (2 + c .fields-len .result ≡ length (faceLine (here (c .before .before .before)))) × (2 + c .fields-len .result ≤ 256)
 size c =
     let f = here (c .before .before .before) in
     let row = c .before .before .before .fill-row .ensures in

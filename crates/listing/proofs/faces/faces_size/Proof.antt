@@ -29,11 +29,10 @@ next : (c : tie.After-next-face2 Inv-loop μ-loop) →
     let a = turn .before .before .before .args in
     let at = turn .loop .at in
     facesFrom (a .d) (a .s) (a .table .now) (at .cell) (at .position)
-    ≡ faceAt (a .d) (a .table .now) (at .cell) (at .position) ∷ facesFrom (a .d) (a .s) (a .table .now) (c .next-face2 .result .cell) (c .next-face2 .result .position)
+    ≡ faceAt (a .d) (a .table .now) (at .cell) (at .position)
+    ∷ facesFrom (a .d) (a .s) (a .table .now) (c .next-face2 .result .cell) (c .next-face2 .result .position)
 next c =
-    let turn = c .before .before .before .before .before in
-    let s = turn .before .before .before in
-    face-next (s .args .d) (s .args .s) (s .args .table .now) (s .pre) _ _ (turn .loop .inv .0) (omega arith) ∙ rw (c .next-face2 .ensures .same)
+    face-next (cc) (c .before .before .before .before .before .loop .inv .0) (omega arith) ∙ rw (c .next-face2 .ensures .same)
 
 next-face-requires : tie.Need-next-face-requires Inv-loop μ-loop
 next-face-requires c κs = search needs
@@ -50,7 +49,7 @@ add-count c = omega (arith, few (c .before .before .before .before .before))
 
 face-len-requires : tie.Need-face-len-requires Inv-loop μ-loop
 face-len-requires c κs =
-    (record { table = c .before .before .before .before .before .pre; number = omega arith }, c .before .before .loop .inv .0 .position (omega arith))
+    (search needs, c .before .before .loop .inv .0 .position (omega arith))
 
 add-bytes : tie.Need-add-bytes Inv-loop μ-loop
 add-bytes c = omega (arith, few (c .before .before .before .before .before .before))

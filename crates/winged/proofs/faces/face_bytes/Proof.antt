@@ -40,9 +40,7 @@ face-size-requires : tie.Need-face-size-requires Inv-loop μ-loop
 face-size-requires c κs = search needs
 
 loop-holds : tie.Need-loop-holds Inv-loop μ-loop
-loop-holds c =
-    let s = c .before .before .before in
-    (omega arith, omega arith, left-starts (s .args .at) (bytesOf (words s)) (s .args .out .now) (s .pre .2))
+loop-holds c = (omega arith, cc, left-starts _ _ _ (omega arith))
 
 face-word-requires : tie.Need-face-word-requires Inv-loop μ-loop
 face-word-requires c κs = search needs
@@ -74,7 +72,8 @@ loop-less c = search needs
 loop-again : tie.Need-loop-again Inv-loop μ-loop
 loop-again c =
     let turn = c .before .before in
-    (omega arith, cc, left-bytes (words (start turn)) (turn .loop .j) (omega (arith, long (start turn))) (turn .loop .inv .2) _ (c .face-word .ensures))
+    let here : turn .loop .j < length (words (start turn)) = omega (arith, long (start turn)) in
+    (omega arith, cc, left-bytes (words (start turn)) (turn .loop .j) here (turn .loop .inv .2) _ (c .face-word .ensures))
 
 same-length : tie.Need-same-length Inv-loop μ-loop
 same-length c = c .before .loop .inv .2 .same

@@ -1,0 +1,48 @@
+-- What is counted and what is left make the whole. Assumes nothing.
+use mathlib.Core.Path.{_≡_, ap}
+use Prim.Native.Nat.{_+_, _-_, _≤_}
+use native.Mathlib.Omega.{arith}
+use lib.ListN.{length}
+use borrow.Author.Needs.{needs}
+use Rattle.boundary.specs.Walk.{tableFaces, facesFrom}
+use Rattle.boundary.proofs.Sizes.{faces-few}
+use Rattle.boundary.proofs.Walking.{from-start, from-end}
+use Rattle.boundary.proofs.counting.count_faces.Statement.{statement}
+use Rattle.boundary.proofs.counting.count_faces.Tie as tie
+
+abbrev Inv-loop : tie.InvT-loop
+Inv-loop d s table n₀ p₀ n p = (p ≤ s) × (n + length (facesFrom d s table p 0) ≡ length (tableFaces d s table))
+
+abbrev μ-loop : tie.MeasureT-loop
+μ-loop d s table n₀ p₀ n p = s - p
+
+few : (c : tie.Start Inv-loop μ-loop) → length (tableFaces (c .args .d) (c .args .s) (c .args .table .now)) ≤ 32768
+few c = faces-few (c .args .d) (c .args .s) (c .args .table .now) (c .pre)
+
+loop-holds : tie.Need-loop-holds Inv-loop μ-loop
+loop-holds c = let a = c .before .args in (omega arith, omega (arith, ap length (from-start (a .d) (a .s) (a .table .now))))
+
+count-cell-requires : tie.Need-count-cell-requires Inv-loop μ-loop
+count-cell-requires c κs = search needs
+
+add-n : tie.Need-add-n Inv-loop μ-loop
+add-n c = omega (arith, few (c .before .before .before .before))
+
+add-p : tie.Need-add-p Inv-loop μ-loop
+add-p c = search needs
+
+loop-less : tie.Need-loop-less Inv-loop μ-loop
+loop-less c = search needs
+
+loop-again : tie.Need-loop-again Inv-loop μ-loop
+loop-again c = omega arith
+
+returns : tie.Need-returns Inv-loop μ-loop
+returns c =
+    let turn = c .before in
+    let s = turn .before .before in
+    let none = ap length (from-end (s .args .d) (s .args .s) (s .args .table .now) (turn .loop .p) 0 (omega arith)) in
+    (omega arith, omega (arith, few s))
+
+pub count-faces-spec : {M : Type 1} → statement M
+count-faces-spec = tie.close (tie.spec Inv-loop μ-loop loop-holds count-cell-requires add-n add-p loop-less loop-again returns)
