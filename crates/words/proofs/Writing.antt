@@ -3,7 +3,7 @@
 --   left-starts, left-goes, left-ends     all is left; a piece less is; nothing is
 --   left-last                         and with the last piece put
 --   left-word                         one element less
---   left-next, left-none              of a list: the element at a place less; no element is left
+--   left-one, left-next, left-none    of a list: the element at a place less, put or set; no element is left
 --   left-item, left-items             of the lists of a list's elements: one less; none is left
 --   left-record, left-records         of tabulated lists: one less; none is left
 --   left-fits, left-item-fits, left-record-fits     the piece has room
@@ -32,6 +32,17 @@ module _ {A : Type 0} where
 
   pub put-as : {at cur next : ℕ} {xs old buf new : List A} → Put at xs old cur buf → next ≡ cur → new ≡ buf → Put at xs old next new
   put-as p e f = record { place = e ∙ p .place; content = f ∙ p .content }
+
+  -- one list behind another, and one behind an element
+  pub put-then : {at cur next : ℕ} {xs ys old buf new : List A} → Put at xs old cur buf → Put cur ys buf next new → cur ≤ length old → Put at (xs ++ ys) old next new
+  put-then {at} {cur} {next} {xs} {ys} {old} {buf} {new} p q h =
+      record {
+        place = omega (arith, p .place, q .place, length-append xs ys);
+        content = q .content ∙ rw (p .place, p .content) (placed-then at xs ys old (omega (arith, p .place)));
+      }
+
+  pub put-cons : {at cur next : ℕ} {x : A} {ys old buf new : List A} → Put at (x ∷ []) old cur buf → Put cur ys buf next new → at < length old → Put at (x ∷ ys) old next new
+  put-cons p q h = put-then p q (omega (arith, p .place))
 
   pub put-first : {xs old new : List A} {next : ℕ} → Put 0 xs old next new → new ≡ xs ++ drop (length xs) old
   put-first {xs} {old} p = p .content ∙ placed-first xs old
@@ -88,9 +99,12 @@ module _ {A : Type 0} where
         left-goes (x ∷ []) rest next (set buf cur x) l (record { place = e; content = placed-one cur x buf (omega (arith, l .room)) })
 
     -- element k of a list of which those from k on are left
-    pub left-next : (z : A) (xs : List A) (k next : ℕ) (x : A) → k < length xs → x ≡ getD xs k z → next ≡ cur + 1 →
-        Left at all old cur (drop k xs) buf → Left at all old next (drop (k + 1) xs) (set buf cur x)
-    left-next z xs k next x h e n l = rw e (left-word (getD xs k z) (drop (k + 1) xs) next n (rw (drop-next z xs k h) at l))
+    module _ (z : A) (xs : List A) (k : ℕ) (h : k < length xs) (l : Left at all old cur (drop k xs) buf) where
+      pub left-one : (next : ℕ) (new : List A) → Put cur (getD xs k z ∷ []) buf next new → Left at all old next (drop (k + 1) xs) new
+      left-one next new p = left-goes (getD xs k z ∷ []) (drop (k + 1) xs) next new (rw (drop-next z xs k h) at l) p
+
+      pub left-next : (next : ℕ) (x : A) → x ≡ getD xs k z → next ≡ cur + 1 → Left at all old next (drop (k + 1) xs) (set buf cur x)
+      left-next next x e n = rw e (left-word (getD xs k z) (drop (k + 1) xs) next n (rw (drop-next z xs k h) at l))
 
     pub left-none : (xs : List A) (k : ℕ) → length xs ≤ k → Left at all old cur (drop k xs) buf → Put at all old cur buf
     left-none xs k h l = left-ends (rw (drop-of-length-le xs h) at l)
