@@ -27,8 +27,11 @@ loop-holds c = (search needs, refl)
 abbrev looked : tie.After-beyond Inv-loop μ-loop → tie.At-loop Inv-loop μ-loop
 looked c = c .before .before .before
 
+abbrev counted : tie.At-loop Inv-loop μ-loop → tie.After-vertex-count Inv-loop μ-loop
+counted c = c .before .before
+
 abbrev start : tie.At-loop Inv-loop μ-loop → tie.Start Inv-loop μ-loop
-start c = c .before .before .before .before .before
+start c = counted c .before .before .before
 
 -- the vertices of cell p are tested
 here : (c : tie.After-beyond Inv-loop μ-loop) → let l = looked c in let b = start l .args .b .now in

@@ -22,8 +22,11 @@ Inv-loop b out₀ count m p₀ to₀ out p to = (p ≤ count) × Left 0 (fileWor
 abbrev μ-loop : tie.MeasureT-loop
 μ-loop b out₀ count m p₀ to₀ out p to = count - p
 
+abbrev sized : tie.At-loop Inv-loop μ-loop → tie.After-dimension Inv-loop μ-loop
+sized l = l .before
+
 abbrev start : tie.At-loop Inv-loop μ-loop → tie.Start Inv-loop μ-loop
-start l = l .before .before .before .before .before
+start l = sized l .before .before .before .before
 
 abbrev turn : tie.After-write-cell Inv-loop μ-loop → tie.In-loop Inv-loop μ-loop
 turn c = c .before .before .before
