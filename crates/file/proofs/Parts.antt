@@ -23,7 +23,8 @@ use Rattle.words.proofs.Bytes.{words-of}
 use Rattle.simplex.specs.Cell.{Cell, cell}
 use Rattle.simplex.specs.SignWords.{signWord}
 use Rattle.complex.specs.Layout.{cellWords}
-use Rattle.file.specs.File.{headerSize, dimensionOf, cellCountOf, pointCount, cellsStart, cellBytes, fileLength, filePoints, cellPart, signBytes, fileCells}
+use Rattle.file.specs.File.{headerSize, dimensionOf, cellCountOf, pointCount, cellsStart, cellBytes, fileLength}
+use Rattle.file.specs.File.{filePoints, cellPart, signBytes, fileCells}
 
 abbrev pub cellPlace : List ℕ → ℕ → ℕ
 cellPlace b p = cellsStart b + p * cellBytes (dimensionOf b)

@@ -7,6 +7,7 @@ use mathlib.Core.List.{List, map}
 use Prim.Native.Nat.{ℕ, suc, _+_, _*_, _<_}
 use native.Mathlib.Omega.{arith}
 use lib.ListN.{length, getD}
+use Rattle.words.specs.Records.{concat}
 use Rattle.words.proofs.Records.{length-tabulated, tabulate-map, tabulate-getD}
 use Rattle.words.proofs.Bytes.{words-length}
 use Rattle.simplex.specs.Cell.{Cell}
@@ -18,7 +19,8 @@ use Rattle.file.proofs.Parts.{cellPlace, noCell, cells-length, words-at
 module _ (b : List ℕ) (whole : length b ≡ fileLength b) where
   pub one-length : (p : ℕ) → p < cellCountOf b → length (cellWords (getD (fileCells b) p noCell)) ≡ listSize (dimensionOf b)
   one-length p h =
-      omega (arith, sym (ap length (words-at b whole p h (cellPlace b p) (suc (dimensionOf b)) refl refl)), words-length b (cellPlace b p + 1) (suc (dimensionOf b)))
+      let d = dimensionOf b in
+      omega (arith, sym (ap length (words-at b whole p h (cellPlace b p) (suc d) refl refl)), words-length b (cellPlace b p + 1) (suc d))
 
   pub words-count : length (fileWords b) ≡ cellsLength b
   unfolding fileWords

@@ -61,7 +61,8 @@ thin R f = record {
   outlives = [];
   params = 2;
   locals =
-      local (T′.mir (named 0)) valueLocal ∷ local (T′.mir (named 0)) valueLocal ∷ local (sliceTy (tyRef (named 1) imm (pointee (R .written)))) valueLocal
+      local (T′.mir (named 0)) valueLocal ∷ local (T′.mir (named 0)) valueLocal ∷ local (sliceTy (tyRef (named 1) imm (pointee (R .written))))
+      valueLocal
       ∷ local (tyInt w64) valueLocal ∷ local (tyInt w64) valueLocal ∷ lent (lent []);
   body =
       seq (assign (place 3 []) (rvOpd (copy (place 1 (field 1 ∷ [])))))

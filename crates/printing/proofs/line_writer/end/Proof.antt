@@ -135,10 +135,12 @@ module _ {M : Type 1} (𝓤 : URA M) (H : Heap 𝓤) (A : Atoms 𝓤) (W : Given
         move ! (13 ∷ 0 ∷ []) $ use2 W (raw (Callee 𝓤 H A mem run .pre to)) (goes within) $
         calls-at ! (fmOf 𝓤 H (W .laws) 𝓣) (Callee 𝓤 H A mem run) known to (and-then ! (cell ! 3 refl)
         (and-then ! (cell ! 7 refl) (and-then ! (lit ! tt) (no-more !)))) (λ w.
-        use1 W (later (some (λ (r : ℕ). ((‵ (flft κ q) ⊛ ‵ ftrue) ⊛ ‵ (usize .own r (w ∷ []))) ⊛ raw (ensured 𝓤 H A callee.ended (callee.clauses 𝓤 H A mem run) (κ, tt) a tt r)))) (id⊢ 𝓤 _) $ await ! tt $ pick ! (λ r.
+        use1 W
+        (later (some (λ (r : ℕ). ((‵ (flft κ q) ⊛ ‵ ftrue) ⊛ ‵ (usize .own r (w ∷ []))) ⊛ raw (ensured 𝓤 H A callee.ended (callee.clauses 𝓤 H A mem run) (κ, tt) a tt r)))) (id⊢ 𝓤 _) $ await ! tt $ pick ! (λ r.
         -- what `put_byte` ensures, at some last list
         split ! $ move ! (1 ∷ []) $
-        use1 W (some (λ (zs : List ℕ × (Unit {0} × (Unit {0} × Unit {0}))). ‵ (lasts callee.ended (κ, tt) a zs) ⊛ raw (fact 𝓤 (Ended r (zs .0))))) (id⊢ 𝓤 _) $ pick ! (λ zs.
+        use1 W (some (λ (zs : List ℕ × (Unit {0} × (Unit {0} × Unit {0}))). ‵ (lasts callee.ended (κ, tt) a zs) ⊛ raw (fact 𝓤 (Ended r (zs .0)))))
+        (id⊢ 𝓤 _) $ pick ! (λ zs.
         split ! $ move ! (1 ∷ []) $ heard ! (Ended r (zs .0)) (λ e. fsplit ! $ fsplit ! $ move ! (1 ∷ []) $ feqL ! (λ l.
         -- [the last list; …; the token and the result; …]
         move ! (2 ∷ []) $ split ! $ move ! (1 ∷ []) $ peeks ! usize (Is usize) (shows 𝓤 H A usize) r (w ∷ []) (λ is.

@@ -6,7 +6,8 @@ use Rattle.printing.proofs.writing.put_field.Statement.{statement}
 use Rattle.printing.proofs.writing.put_field.Tie as tie
 
 returns : tie.Need-returns
-returns c = let call = c .before .before in put-cons (call .before .before .before .before .put-byte .ensures) (call .put-number .ensures) (omega arith)
+returns c =
+    let call = c .before .before in put-cons (call .before .before .before .before .put-byte .ensures) (call .put-number .ensures) (omega arith)
 
 pub put-field-spec : {M : Type 1} → statement M
 put-field-spec =

@@ -6,7 +6,8 @@ use Rattle.printing.proofs.writing.put_point.Statement.{statement}
 use Rattle.printing.proofs.writing.put_point.Tie as tie
 
 returns : tie.Need-returns
-returns c = let call = c .before .before in put-cons (call .before .before .before .before .put-byte .ensures) (call .put-coordinate .ensures) (omega arith)
+returns c =
+    let call = c .before .before in put-cons (call .before .before .before .before .put-byte .ensures) (call .put-coordinate .ensures) (omega arith)
 
 pub put-point-spec : {M : Type 1} → statement M
 put-point-spec =

@@ -12,7 +12,9 @@ use Rattle.printing.proofs.writing.put_thousandths.Statement.{statement
 use Rattle.printing.proofs.writing.put_thousandths.Tie as tie
 
 -- the lengths of the three pieces
-pieces : (c : tie.Start) → length (thousandthsText (c .args .minus) (c .args .t)) ≡ length (minusText (c .args .minus) (c .args .t)) + (length (digits (c .args .t / 1000)) + 4)
+pieces : (c : tie.Start) →
+    length (thousandthsText (c .args .minus) (c .args .t)) ≡ length (minusText (c .args .minus) (c .args .t)) +
+    (length (digits (c .args .t / 1000)) + 4)
 pieces c = thousandths-length (c .args .minus) (c .args .t)
 
 abbrev start : tie.After-put-minus → tie.Start
