@@ -89,7 +89,8 @@ pub falls-not : (d : ℕ) (u : Row) → length u ≡ suc d → fallsIn d u ≡ f
 falls-not d u e k = steps-asc d u e (step-below u d k)
 
 pub not-falls : (d : ℕ) (u : Row) → length u ≡ suc d → Asc u → fallsIn d u ≡ false
-not-falls d u e a = none-below (λ j. leb (getD u (suc j) 0) (getD u j 0)) d (λ j h. lt-leb (getD u (suc j) 0) (getD u j 0) (asc-steps u a j (omega arith)))
+not-falls d u e a =
+    none-below (λ j. leb (getD u (suc j) 0) (getD u j 0)) d (λ j h. lt-leb (getD u (suc j) 0) (getD u j 0) (asc-steps u a j (omega arith)))
 
 no-repeats : (w : Row) → ((x : ℕ) → occurs x w ≤ 1) → repeats w ≡ false
 no-repeats [] h = refl

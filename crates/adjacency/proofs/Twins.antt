@@ -81,7 +81,8 @@ module _ (d : ℕ) (rows : List ℕ) (cs : List Cell) (P : List ℕ) (long : All
     where
       before : {f g : ℕ} → Dec (f / k < g / k) → f < g → g % k ≡ 0 → f % k ≡ 0 → f / k < g / k
       before (yes l) h a b = l
-      before {f} {g} (no l) h a b = absurd (omega (arith, div-add-mod' f k, div-add-mod' g k, mul-le-mul-right {m = g / k} {n = f / k} k (omega arith)))
+      before {f} {g} (no l) h a b =
+          absurd (omega (arith, div-add-mod' f k, div-add-mod' g k, mul-le-mul-right {m = g / k} {n = f / k} k (omega arith)))
 
   once : anyBelow n (twinAt k n rows P) ≡ false → (w : Row) → Dec (1 < total w cs) → total w cs ≤ 1
   once e w (no l) = omega arith

@@ -11,7 +11,7 @@ use Rattle.words.specs.Records.{concat}
 use Rattle.words.proofs.Records.{length-tabulated, tabulate-map, tabulate-getD}
 use Rattle.words.proofs.Bytes.{words-length}
 use Rattle.simplex.specs.Cell.{Cell}
-use Rattle.complex.specs.Layout.{listSize, cellWords}
+use Rattle.records.specs.Layout.{listSize, cellWords}
 use Rattle.file.specs.File.{dimensionOf, cellCountOf, fileLength, fileCells}
 use Rattle.file.specs.Tests.{cellsLength, fileWords}
 use Rattle.file.proofs.Parts.{cellPlace, noCell, cells-length, words-at}

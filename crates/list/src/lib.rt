@@ -14,7 +14,7 @@ ghost use lib.ListN.{length};
 ghost use Rattle.rules.specs.Limits.{maxDimension, axesOk};
 ghost use Rattle.rules.specs.Shapes.{shapeOk};
 ghost use Rattle.rules.specs.Numbers.{outcomeOf};
-ghost use Rattle.complex.specs.Layout.{tableLength};
+ghost use Rattle.records.specs.Layout.{tableLength};
 ghost use Rattle.list.specs.Listing.{listInput, listOutcome, listBuffer};
 
 // Row 2.

@@ -35,8 +35,8 @@ pub some-below : (p : ℕ → Bool) (n : ℕ) → anyBelow n p ≡ true → (g :
 some-below p zero e = absurd (false≢true e)
 some-below p (suc n) e = go (p n) refl e (some-below p n)
   where
-    go : (t : Bool) → p n ≡ t → (t || anyBelow n p) ≡ true → (anyBelow n p ≡ true → (g : ℕ) × (g < n) × (p g ≡ true)) →
-        (g : ℕ) × (g < suc n) × (p g ≡ true)
+    go : (t : Bool) → p n ≡ t → (t || anyBelow n p) ≡ true →
+        (anyBelow n p ≡ true → (g : ℕ) × (g < n) × (p g ≡ true)) → (g : ℕ) × (g < suc n) × (p g ≡ true)
     go true k e h = (n, omega arith, k)
     go false k e h = let r = h e in (r .0, omega (arith, r .1), r .2)
 

@@ -8,7 +8,7 @@ use borrow.Author.Needs.{needs}
 use Rattle.words.specs.Records.{concat}
 use Rattle.words.specs.Placed.{placed}
 use Rattle.words.proofs.Writing.{Left, left-starts, left-item, left-item-fits, left-items, put-first}
-use Rattle.complex.specs.Layout.{cellWords}
+use Rattle.records.specs.Layout.{cellWords}
 use Rattle.file.specs.File.{fileCells}
 use Rattle.file.specs.Tests.{fileWords}
 use Rattle.file.proofs.Parts.{noCell, cells-length, words-at}
