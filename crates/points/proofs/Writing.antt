@@ -106,7 +106,10 @@ module _ (step : Step) (n v h : ℕ) (ps old : List Float) (long : length ps ≡
       ∙ part-tabulated w (suc h) i f (λ j m. length-level step n v ps long j) (omega arith) in
       let next : movedAll step n v (take w (drop (i * w) out)) ≡ f (i + 1) = ap (movedAll step n v) read ∙ ap f (sym (add-one i)) in
       left-record (suc h) (i + 1) f (omega arith) left _ _
-      (record { place = omega (arith, record-next w (i + 1), length-level step n v ps long (i + 1)); content = e ∙ ap (λ xs. placed ((i + 1) * w) xs out) next })
+      (record {
+        place = omega (arith, record-next w (i + 1), length-level step n v ps long (i + 1));
+        content = e ∙ ap (λ xs. placed ((i + 1) * w) xs out) next;
+      })
 
   pub climbing-ends : (i : ℕ) (out : List Float) → h ≤ i → Climbing step n v h ps (ps ++ drop (length ps) old) i out →
       out ≡ levels step n v h ps ++ drop (length (levels step n v h ps)) old

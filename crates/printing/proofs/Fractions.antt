@@ -6,7 +6,8 @@
 use mathlib.Core.Path.{_≡_, refl, sym, ap, _∙_, subst}
 use mathlib.Core.Bool.{Bool, true, false, not, cond, _&&_, true≢false}
 use Prim.Native.Nat.{ℕ, zero, suc, _+_, _-_, _*_, _/_, _%_, _^_, _≤_, _<_}
-use native.Mathlib.Nat.{add-mul, mul-assoc, mul-comm, mul-right-comm, mul-div-mul-left, mul-div-mul-right, div-eq-of-lt, mul-lt-mul-of-pos-right, lt-of-mul-lt-mul-right, lt-of-le-of-lt, mul-le-mul-right, pow-suc, not-le-of-lt}
+use native.Mathlib.Nat.{add-mul, mul-assoc, mul-comm, mul-right-comm, mul-div-mul-left, mul-div-mul-right, div-eq-of-lt, mul-lt-mul-of-pos-right}
+use native.Mathlib.Nat.{lt-of-mul-lt-mul-right, lt-of-le-of-lt, mul-le-mul-right, pow-suc, not-le-of-lt}
 use native.Mathlib.Omega.{arith}
 use native.Mathlib.Decide.{decLt}
 use lib.IntN.{ℤ, pos}
@@ -208,4 +209,5 @@ module _ (x : Float) (f : fits binary64 x ≡ true) (r : inRange x ≡ true) whe
   unfolding sign-bit
   negative-bits =
       sym
-      (ap negative (fields-of x f) ∙ value-sign (ofFields binary64 sign-bit (fieldOf x) (digitsOf x)) sign-bit _ _ (fields-value sign-bit (fieldOf x) (digitsOf x) range-fields))
+      (ap negative (fields-of x f)
+      ∙ value-sign (ofFields binary64 sign-bit (fieldOf x) (digitsOf x)) sign-bit _ _ (fields-value sign-bit (fieldOf x) (digitsOf x) range-fields))

@@ -44,7 +44,8 @@ answered c =
     let k = t .before .loop .k in
     c .stays .ensures
     ∙ ap (staysIn (a .step) (a .n) (a .h))
-    (loaded (a .n) (a .v) k _ (now (a .points)) (c .before .load .result) (add-sub-cancel-left (k * a .n) (a .n)) (t .loop-test .taken) (s .pre .1) (c .before .load .ensures))
+    (loaded (a .n) (a .v) k _ (now (a .points)) (c .before .load .result)
+    (add-sub-cancel-left (k * a .n) (a .n)) (t .loop-test .taken) (s .pre .1) (c .before .load .ensures))
 
 loop-holds : tie.Need-loop-holds Inv-loop μ-loop
 loop-holds c = (search needs, refl)

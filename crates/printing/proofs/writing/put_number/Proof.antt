@@ -14,7 +14,8 @@ use Rattle.printing.proofs.writing.put_number.Tie as tie
 
 abbrev Inv-loop : tie.InvT-loop
 Inv-loop buf₀ at n end i₀ rest₀ buf i rest =
-    (i ≡ at + length (digits rest)) × (i ≤ end) × (length buf ≡ length buf₀) × (rest < 18446744073709551616) × (placed at (digits rest) buf ≡ placed at (digits n) buf₀)
+    (i ≡ at + length (digits rest)) × (i ≤ end) × (length buf ≡ length buf₀) × (rest < 18446744073709551616)
+    × (placed at (digits rest) buf ≡ placed at (digits n) buf₀)
 
 abbrev μ-loop : tie.MeasureT-loop
 μ-loop buf₀ at n end i₀ rest₀ buf i rest = rest
