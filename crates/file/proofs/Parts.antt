@@ -11,19 +11,20 @@ use mathlib.Core.Path.{_≡_, sym, ap, ap₂, _∙_}
 use mathlib.Core.Bool.{true}
 use mathlib.Core.List.{List, [], _∷_}
 use Prim.Native.Nat.{ℕ, suc, _+_, _*_, _≤_, _<_, zero-le}
-use native.Mathlib.Nat.{mul-le-mul-left, mul-le-mul-right, mul-lt-mul-of-pos-right, lt-of-le-of-lt, le-of-lt, suc-mul}
+use native.Mathlib.Nat.{mul-le-mul-left, mul-lt-mul-of-pos-right, lt-of-le-of-lt, le-of-lt}
 use native.Mathlib.Omega.{arith}
 use lib.Dec.{eqb}
 use lib.ListN.{length, drop, getD, length-drop}
 use lib.Seq.{getD-take, getD-drop, length-take-le}
 use lib.Ieee.{nan}
 use Rattle.words.specs.Bytes.{float64, words16, wordsFrom}
-use Rattle.words.proofs.Records.{tabulate-length, tabulate-at}
+use Rattle.words.proofs.Records.{record-fits, tabulate-length, tabulate-at}
 use Rattle.words.proofs.Bytes.{words-of}
 use Rattle.simplex.specs.Cell.{Cell, cell}
 use Rattle.simplex.specs.SignWords.{signWord}
 use Rattle.records.specs.Layout.{cellWords}
-use Rattle.file.specs.File.{headerSize, dimensionOf, cellCountOf, pointCount, cellsStart, cellBytes, fileLength, filePoints, cellPart, signBytes, fileCells}
+use Rattle.file.specs.File.{headerSize, dimensionOf, cellCountOf, pointCount, cellsStart, cellBytes, fileLength}
+use Rattle.file.specs.File.{filePoints, cellPart, signBytes, fileCells}
 
 abbrev pub cellPlace : List ℕ → ℕ → ℕ
 cellPlace b p = cellsStart b + p * cellBytes (dimensionOf b)
@@ -34,10 +35,6 @@ noCell = cell true []
 
 pub product-below : {a b m n : ℕ} → a < m → b < n → a * b < m * n
 product-below {a} {b} {m} {n} h k = lt-of-le-of-lt (mul-le-mul-left a (le-of-lt k)) (mul-lt-mul-of-pos-right h (lt-of-le-of-lt zero-le k))
-
--- record p of s, of one size
-pub within-records : (size p s : ℕ) → p < s → p * size + size ≤ s * size
-within-records size p s h = omega (arith, suc-mul p size, mul-le-mul-right size h)
 
 module _ (b : List ℕ) where
   pub points-length : length (filePoints b) ≡ pointCount b
@@ -71,7 +68,7 @@ module _ (b : List ℕ) where
 
   module _ (whole : length b ≡ fileLength b) (p : ℕ) (h : p < cellCountOf b) where
     pub cell-room : cellPlace b p + cellBytes (dimensionOf b) ≤ length b
-    cell-room = omega (arith, within-records (cellBytes (dimensionOf b)) p (cellCountOf b) h)
+    cell-room = omega (arith, record-fits (cellBytes (dimensionOf b)) (cellCountOf b) p h)
 
     part-length : length (cellPart b p) ≡ cellBytes (dimensionOf b)
     part-length =

@@ -4,11 +4,11 @@
 -- Assumes nothing.
 use mathlib.Core.Path.{_≡_, refl, sym, ap, _∙_}
 use mathlib.Core.List.{List, map}
-use Prim.Native.Nat.{ℕ, zero, suc, _+_, _*_, _<_}
+use Prim.Native.Nat.{ℕ, suc, _+_, _*_, _<_}
 use native.Mathlib.Omega.{arith}
-use lib.ListN.{length, getD, length-map}
-use Rattle.words.specs.Records.{tabulate}
-use Rattle.words.proofs.Records.{EachLong, concat-length, tabulate-getD}
+use lib.ListN.{length, getD}
+use Rattle.words.specs.Records.{concat}
+use Rattle.words.proofs.Records.{length-tabulated, tabulate-map, tabulate-getD}
 use Rattle.words.proofs.Bytes.{words-length}
 use Rattle.simplex.specs.Cell.{Cell}
 use Rattle.records.specs.Layout.{listSize, cellWords}
@@ -16,22 +16,19 @@ use Rattle.file.specs.File.{dimensionOf, cellCountOf, fileLength, fileCe
 use Rattle.file.specs.Tests.{cellsLength, fileWords}
 use Rattle.file.proofs.Parts.{cellPlace, noCell, cells-length, words-at}
 
-each-long : (k n : ℕ) (f : ℕ → Cell) → ((i : ℕ) → i < n → length (cellWords (f i)) ≡ k) → EachLong k (map cellWords (tabulate n f))
-each-long k zero f h = tt
-each-long k (suc n) f h = (h 0 (omega arith), each-long k n (λ i. f (suc i)) (λ i l. h (suc i) (omega arith)))
-
 module _ (b : List ℕ) (whole : length b ≡ fileLength b) where
   pub one-length : (p : ℕ) → p < cellCountOf b → length (cellWords (getD (fileCells b) p noCell)) ≡ listSize (dimensionOf b)
   one-length p h =
-      omega (arith, sym (ap length (words-at b whole p h (cellPlace b p) (suc (dimensionOf b)) refl refl)), words-length b (cellPlace b p + 1) (suc (dimensionOf b)))
-
-  all-long : EachLong (listSize (dimensionOf b)) (map cellWords (fileCells b))
-  all-long =
-      rw (sym (tabulate-getD noCell (fileCells b)))
-      (each-long (listSize (dimensionOf b)) (length (fileCells b)) (λ p. getD (fileCells b) p noCell) (λ p h. one-length p (omega (arith, cells-length b))))
+      let d = dimensionOf b in
+      omega (arith, sym (ap length (words-at b whole p h (cellPlace b p) (suc d) refl refl)), words-length b (cellPlace b p + 1) (suc d))
 
   pub words-count : length (fileWords b) ≡ cellsLength b
   unfolding fileWords
   words-count =
-      concat-length (listSize (dimensionOf b)) (map cellWords (fileCells b)) all-long
-      ∙ ap (λ n. n * listSize (dimensionOf b)) (length-map (fileCells b) cellWords ∙ cells-length b)
+      let cells = fileCells b in
+      let size = listSize (dimensionOf b) in
+      let at : ℕ → Cell = λ p. getD cells p noCell in
+      ap (λ cs. length (concat (map cellWords cs))) (sym (tabulate-getD noCell cells))
+      ∙ ap (λ ws. length (concat ws)) (tabulate-map cellWords (length cells) at)
+      ∙ length-tabulated size (length cells) (λ p. cellWords (at p)) (λ p h. one-length p (omega (arith, cells-length b)))
+      ∙ ap (λ n. n * size) (cells-length b)

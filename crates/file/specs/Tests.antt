@@ -16,7 +16,8 @@ use Rattle.rules.specs.Shapes.{shapeOk}
 use Rattle.simplex.specs.Cell.{sameRow}
 use Rattle.records.specs.Layout.{listSize, cellWords}
 use Rattle.points.specs.Step.{inRange}
-use Rattle.file.specs.File.{mark, version, headerSize, dimensionOf, axesOf, vertexCountOf, cellCountOf, stepsOf, kindOf, amountOf, filePoints, fileCells}
+use Rattle.file.specs.File.{mark, version, headerSize, dimensionOf, axesOf, vertexCountOf, cellCountOf, stepsOf, kindOf, amountOf, filePoints}
+use Rattle.file.specs.File.{fileCells}
 
 -- 1: under 40 bytes, or mark or version wrong
 abbrev pub notOurs : List ℕ → Bool

@@ -47,7 +47,8 @@ module _ {ℓ} {A : Type ℓ} (q : A → Bool) where
   pub allOf-tabulate : (n : ℕ) (f : ℕ → A) → ((k : ℕ) → k < n → q (f k) ≡ true) → allOf q (tabulate n f) ≡ true
   allOf-tabulate zero f h = refl
   allOf-tabulate (suc n) f h =
-      and-true (q (f 0)) (allOf q (tabulate n (λ i. f (suc i)))) (h 0 (omega arith)) (allOf-tabulate n (λ i. f (suc i)) (λ k l. h (suc k) (omega arith)))
+      and-true (q (f 0)) (allOf q (tabulate n (λ i. f (suc i)))) (h 0 (omega arith))
+      (allOf-tabulate n (λ i. f (suc i)) (λ k l. h (suc k) (omega arith)))
 
   pub allOf-tabulate-at : (n : ℕ) (f : ℕ → A) → allOf q (tabulate n f) ≡ true → (k : ℕ) → k < n → q (f k) ≡ true
   allOf-tabulate-at zero f e k l = absurd (not-suc-le-zero l)

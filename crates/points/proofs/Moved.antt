@@ -16,19 +16,20 @@ use Rattle.points.specs.declared.step.Step.{Step}
 use Rattle.points.specs.declared.step.Step.the-variants as S
 use Rattle.points.specs.declared.step.Turn.{Turn}
 
-pub fits-slide : (n a : ℕ) (x : Float) → stepFits n (S.Slide a x) ≡ true → a < n
-unfolding stepFits
-fits-slide n a x e = ltb-true a n e
+module _ (n : ℕ) (step : Step) where
+  pub fits-slide : (a : ℕ) (x : Float) → step ≡ S.Slide a x → stepFits n step ≡ true → a < n
+  unfolding stepFits
+  fits-slide a x s e = ltb-true a n (rw s at e)
 
-pub fits-slant : (n a : ℕ) (x : Float) (b : ℕ) (y : Float) → stepFits n (S.Slant a x b y) ≡ true → (a < n) × (b < n)
-unfolding stepFits
-fits-slant n a x b y e =
-    let axes = and-parts (ltb a n) (ltb b n) (and-parts (not (eqb a b)) (ltb a n && ltb b n) e .1) in
-    (ltb-true a n (axes .0), ltb-true b n (axes .1))
+  pub fits-slant : (a : ℕ) (x : Float) (b : ℕ) (y : Float) → step ≡ S.Slant a x b y → stepFits n step ≡ true → (a < n) × (b < n)
+  unfolding stepFits
+  fits-slant a x b y s e =
+      let axes = and-parts (ltb a n) (ltb b n) (and-parts (not (eqb a b)) (ltb a n && ltb b n) (rw s at e) .1) in
+      (ltb-true a n (axes .0), ltb-true b n (axes .1))
 
-pub fits-turn : (n : ℕ) (t : Turn) → stepFits n (S.Turn t) ≡ true → 3 ≤ n
-unfolding stepFits
-fits-turn n t e = leb-true 3 n (and-parts (leb 3 n) (onCircle t) e .0)
+  pub fits-turn : (t : Turn) → step ≡ S.Turn t → stepFits n step ≡ true → 3 ≤ n
+  unfolding stepFits
+  fits-turn t s e = leb-true 3 n (and-parts (leb 3 n) (onCircle t) (rw s at e) .0)
 
 length-add : (a : ℕ) (x : Float) (p : List Float) → length (addAt a x p) ≡ length p
 unfolding addAt

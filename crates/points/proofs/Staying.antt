@@ -35,16 +35,19 @@ stays-each step n (suc h) p e i l =
     let parts = and-parts (allOf inRange q) (staysIn step n h q) e in
     first-or i l (parts .0) (λ j m. ap (allOf inRange) (sym (climbed-first step n (suc j) p)) ∙ stays-each step n h q (parts .1) j m)
   where
-    first-or : (i : ℕ) → i < suc h → allOf inRange (movedPoint step n p) ≡ true → ((j : ℕ) → j < h → allOf inRange (climbed step n (suc (suc j)) p) ≡ true) →
+    first-or : (i : ℕ) → i < suc h → allOf inRange (movedPoint step n p) ≡ true →
+        ((j : ℕ) → j < h → allOf inRange (climbed step n (suc (suc j)) p) ≡ true) →
         allOf inRange (climbed step n (suc i) p) ≡ true
     first-or zero l a rest = a
     first-or (suc j) l a rest = rest j (le-of-suc-le-suc l)
 
-each-stays : (step : Step) (n h : ℕ) (p : List Float) → ((i : ℕ) → i < h → allOf inRange (climbed step n (suc i) p) ≡ true) → staysIn step n h p ≡ true
+each-stays : (step : Step) (n h : ℕ) (p : List Float) → ((i : ℕ) → i < h → allOf inRange (climbed step n (suc i) p) ≡ true) →
+    staysIn step n h p ≡ true
 each-stays step n zero p each = refl
 each-stays step n (suc h) p each =
     let q = movedPoint step n p in
-    let later : staysIn step n h q ≡ true = each-stays step n h q (λ i l. ap (allOf inRange) (climbed-first step n (suc i) p) ∙ each (suc i) (omega arith)) in
+    let later : staysIn step n h q ≡ true =
+    each-stays step n h q (λ i l. ap (allOf inRange) (climbed-first step n (suc i) p) ∙ each (suc i) (omega arith)) in
     rw (each 0 (omega arith), later)
 
 module _ (step : Step) (n v h : ℕ) (ps : List Float) (long : length ps ≡ v * n) where
@@ -65,7 +68,8 @@ module _ (step : Step) (n v h : ℕ) (ps : List Float) (long : length ps ≡ v *
       allOf-tabulate-at (allOf inRange) (suc h) (levelOf step n v ps) (sym (allOf-concat inRange (tabulate (suc h) (levelOf step n v ps))) ∙ e) in
       allOf-tabulate (staysIn step n h) v (λ k. part n k ps) (λ k l.
       each-stays step n h (part n k ps) (λ i m.
-      ap (allOf inRange) (sym (level-point i k l)) ∙ allOf-tabulate-at (allOf inRange) v (moved-at i) (sym (level-test i) ∙ at (suc i) (omega arith)) k l))
+      ap (allOf inRange) (sym (level-point i k l))
+      ∙ allOf-tabulate-at (allOf inRange) v (moved-at i) (sym (level-test i) ∙ at (suc i) (omega arith)) k l))
 
   stay-then-all : allOf inRange ps ≡ true → allStay step n v h ps ≡ true → allOf inRange (levels step n v h ps) ≡ true
   stay-then-all start e =

@@ -31,7 +31,8 @@ source n v at d = take (v * n) (drop at d)
 
 abbrev pub Moving : Step → ℕ → ℕ → ℕ → List Float → ℕ → List Float → Type 0
 Moving step n v at d k out =
-    Left at (movedAll step n v (source n v at d)) d (at + k * n) (concat (drop k (tabulate v (λ p. movedPoint step n (part n p (source n v at d)))))) out
+    Left at (movedAll step n v (source n v at d)) d (at + k * n) (concat (drop k (tabulate v (λ p. movedPoint step n (part n p (source n v at d))))))
+    out
 
 module _ (step : Step) (n v at : ℕ) (d : List Float) (room : at + v * n ≤ length d) where
   long : length (source n v at d) ≡ v * n
@@ -88,7 +89,8 @@ module _ (step : Step) (n v h : ℕ) (ps old : List Float) (long : length ps ≡
   climbing-starts =
       let d = ps ++ drop (length ps) old in
       let d-long : length d ≡ length old = ap length first ∙ placed-length 0 ps old (omega (arith, fits)) in
-      left-record (suc h) 0 (levelOf step n v ps) (omega arith) (left-starts 0 (levels step n v h ps) d (omega (arith, all-long, mul-assoc (suc h) v n))) _ _
+      left-record (suc h) 0 (levelOf step n v ps) (omega arith)
+      (left-starts 0 (levels step n v h ps) d (omega (arith, all-long, mul-assoc (suc h) v n))) _ _
       (record {
         place = omega (arith, one-mul (v * n));
         content = first ∙ sym (placed-over 0 ps ps old (omega arith) (omega (arith, fits))) ∙ ap (placed 0 ps) (sym first);
@@ -100,10 +102,14 @@ module _ (step : Step) (n v h : ℕ) (ps old : List Float) (long : length ps ≡
       let w = v * n in
       let f = levelOf step n v ps in
       let read : take w (drop (i * w) out) ≡ f i =
-      left-read _ left refl (i * w) w (omega (arith, record-next w i)) ∙ part-tabulated w (suc h) i f (λ j m. length-level step n v ps long j) (omega arith) in
+      left-read _ left refl (i * w) w (omega (arith, record-next w i))
+      ∙ part-tabulated w (suc h) i f (λ j m. length-level step n v ps long j) (omega arith) in
       let next : movedAll step n v (take w (drop (i * w) out)) ≡ f (i + 1) = ap (movedAll step n v) read ∙ ap f (sym (add-one i)) in
       left-record (suc h) (i + 1) f (omega arith) left _ _
-      (record { place = omega (arith, record-next w (i + 1), length-level step n v ps long (i + 1)); content = e ∙ ap (λ xs. placed ((i + 1) * w) xs out) next })
+      (record {
+        place = omega (arith, record-next w (i + 1), length-level step n v ps long (i + 1));
+        content = e ∙ ap (λ xs. placed ((i + 1) * w) xs out) next;
+      })
 
   pub climbing-ends : (i : ℕ) (out : List Float) → h ≤ i → Climbing step n v h ps (ps ++ drop (length ps) old) i out →
       out ≡ levels step n v h ps ++ drop (length (levels step n v h ps)) old

@@ -21,7 +21,8 @@ use base.Fml.{Lft, Share, GName, Fml, ftrue, fsep, feq, flft}
 use prog.Wp.{Heap, Env, Calls, Loops}
 use ghost.Atoms.{Atoms, sem}
 use contract.Monad.{fact}
-use types.Kit.{Given, Item, Post, Goal, Soaks, Seq, runs, lands, ‵, raw, _⊛_, some, later, _$_, _∵_, !, qed, move, group, drop, use1, use2, split, join, pick, rewrite, fsplit, fjoin, feqL, frame, await, done}
+use types.Kit.{Given, Item, Post, Goal, Soaks, Seq, runs, lands, ‵, raw, _⊛_, some, later, _$_, _∵_, !, qed, move, group, drop, use1, use2, split}
+use types.Kit.{join, pick, rewrite, fsplit, fjoin, feqL, frame, await, done}
 use types.Run.{Opds}
 use sound.WpLaws.{FmC}
 use denote.RattleType.{RattleType, owns}

@@ -69,7 +69,11 @@ leading : (n : ℕ) → n < 10 ^ 20 → Leading n (digits n)
 leading =
     by-digits Leading
     (λ n h. (omega arith, λ e. omega arith))
-    (λ n bs h p. (simp length-append (omega arith), λ e. absurd (let z = p .1 (sym (List·getD-append bs (digit n ∷ []) 0 0 (p .0)) ∙ e) in omega arith)))
+    (λ n bs h p. (
+      simp length-append (omega arith),
+      λ e.
+          absurd (let z = p .1 (sym (List·getD-append bs (digit n ∷ []) 0 0 (p .0)) ∙ e) in omega arith),
+    ))
 
 pub digits-some : (n : ℕ) → n < 10 ^ 20 → 0 < length (digits n)
 digits-some n h = leading n h .0

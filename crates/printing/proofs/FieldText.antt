@@ -38,6 +38,7 @@ module _ (word : List ℕ) where
       ∙ ap (λ (l : List ℕ). word ++ (l ++ 10 ∷ [])) (fields-append xs ys)
       ∙ ap (λ (l : List ℕ). word ++ l) (append-assoc (fields xs) (fields ys) (10 ∷ []))
 
-  pub line-of-points : (ws : List ℕ) (xs : List Float) → line word (map digits ws ++ map coordinate xs) ≡ word ++ (fields ws ++ (pointFields xs ++ 10 ∷ []))
+  pub line-of-points : (ws : List ℕ) (xs : List Float) →
+      line word (map digits ws ++ map coordinate xs) ≡ word ++ (fields ws ++ (pointFields xs ++ 10 ∷ []))
   line-of-points ws xs =
       ap (λ (l : List ℕ). word ++ l) (rest-numbers ws (map coordinate xs) ∙ ap (λ (l : List ℕ). fields ws ++ l) (rest-points xs))

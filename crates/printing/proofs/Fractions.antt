@@ -6,7 +6,8 @@
 use mathlib.Core.Path.{_≡_, refl, sym, ap, _∙_, subst}
 use mathlib.Core.Bool.{Bool, true, false, not, cond, _&&_, true≢false}
 use Prim.Native.Nat.{ℕ, zero, suc, _+_, _-_, _*_, _/_, _%_, _^_, _≤_, _<_}
-use native.Mathlib.Nat.{add-mul, mul-assoc, mul-comm, mul-right-comm, mul-div-mul-left, mul-div-mul-right, div-eq-of-lt, mul-lt-mul-of-pos-right, lt-of-mul-lt-mul-right, lt-of-le-of-lt, mul-le-mul-right, pow-suc, not-le-of-lt}
+use native.Mathlib.Nat.{add-mul, mul-assoc, mul-comm, mul-right-comm, mul-div-mul-left, mul-div-mul-right, div-eq-of-lt, mul-lt-mul-of-pos-right}
+use native.Mathlib.Nat.{lt-of-mul-lt-mul-right, lt-of-le-of-lt, mul-le-mul-right, pow-suc, not-le-of-lt}
 use native.Mathlib.Omega.{arith}
 use native.Mathlib.Decide.{decLt}
 use lib.IntN.{ℤ, pos}
@@ -96,7 +97,8 @@ shifted m x j =
     let p = 2 ^ x in
     let q = 2 ^ suc j in
     let num : 2000 * (m * p) + q * p ≡ (2 * (1000 * m + 2 ^ j)) * p =
-    omega (arith, ap (λ (z : ℕ). z * p) (pow-suc 2 j), mul-right-comm (2 ^ j) 2 p, mul-assoc 2 (1000 * m + 2 ^ j) p, add-mul (1000 * m) (2 ^ j) p, mul-assoc 1000 m p) in
+    omega
+    (arith, ap (λ (z : ℕ). z * p) (pow-suc 2 j), mul-right-comm (2 ^ j) 2 p, mul-assoc 2 (1000 * m + 2 ^ j) p, add-mul (1000 * m) (2 ^ j) p, mul-assoc 1000 m p) in
     ap (λ (z : ℕ). (2000 * (m * p) + z) / (2 * z)) (pow-add 2 (suc j) x)
     ∙ ap (λ (z : ℕ). z / (2 * (q * p))) num
     ∙ ap (λ (z : ℕ). (2 * (1000 * m + 2 ^ j)) * p / z) (sym (mul-assoc 2 q p))
@@ -122,7 +124,8 @@ expo-below zero h = omega arith
 expo-below (suc x) h = omega arith
 
 -- both laws, of the fields y and t
-fields-zero : (s : Bool) (y t : ℕ) → t < 4503599627370496 → y < 1012 → inRange (ofFields binary64 s y t) ≡ true → thousandths (ofFields binary64 s y t) ≡ 0
+fields-zero : (s : Bool) (y t : ℕ) → t < 4503599627370496 → y < 1012 → inRange (ofFields binary64 s y t) ≡ true →
+    thousandths (ofFields binary64 s y t) ≡ 0
 fields-zero s y t h l r =
     let x = expo y in
     let lx = expo-below y l in
@@ -140,7 +143,8 @@ field-below : (s : Bool) (x t : ℕ) → inRange (ofFields binary64 s (suc x) t)
 unfolding mant expo
 field-below s x t r =
     let m = 4503599627370496 + t in
-    let v : m * 2 ^ x < 1048576 * 2 ^ 1074 = value-below (ofFields binary64 s (suc x) t) s (m * 2 ^ x) (2 ^ 1074) (pow-pos 1074) r (fields-value s (suc x) t r) in
+    let v : m * 2 ^ x < 1048576 * 2 ^ 1074 =
+    value-below (ofFields binary64 s (suc x) t) s (m * 2 ^ x) (2 ^ 1074) (pow-pos 1074) r (fields-value s (suc x) t r) in
     let low : 2 ^ (52 + x) ≤ m * 2 ^ x = subst (λ (z : ℕ). z ≤ m * 2 ^ x) (sym (pow-add 2 52 x)) (mul-le-mul-right (2 ^ x) (omega arith)) in
     let high : 1048576 * 2 ^ 1074 ≡ 2 ^ 1094 = sym (pow-add 2 20 1074) in
     let b = power-below (52 + x) 1094 (subst (λ (z : ℕ). 2 ^ (52 + x) < z) high (lt-of-le-of-lt low v)) (decLt (52 + x) 1094) in
@@ -196,10 +200,14 @@ module _ (x : Float) (f : fits binary64 x ≡ true) (r : inRange x ≡ true) whe
   pub field-in-range : 1012 ≤ fieldOf x → fieldOf x < 1043
   field-in-range l = fields-shifted sign-bit (fieldOf x) (digitsOf x) l range-fields .0
 
-  pub thousandths-shifted : 1012 ≤ fieldOf x → (1000 * (4503599627370496 + digitsOf x) + 2 ^ (1075 - fieldOf x - 1)) / 2 ^ (1075 - fieldOf x) ≡ thousandths x
+  pub thousandths-shifted : 1012 ≤ fieldOf x →
+      (1000 * (4503599627370496 + digitsOf x) + 2 ^ (1075 - fieldOf x - 1)) / 2 ^ (1075 - fieldOf x) ≡ thousandths x
   unfolding sign-bit
   thousandths-shifted l = sym (ap thousandths (fields-of x f) ∙ fields-shifted sign-bit (fieldOf x) (digitsOf x) l range-fields .1)
 
   pub negative-bits : leb 9223372036854775808 (toBits binary64 x) ≡ negative x
   unfolding sign-bit
-  negative-bits = sym (ap negative (fields-of x f) ∙ value-sign (ofFields binary64 sign-bit (fieldOf x) (digitsOf x)) sign-bit _ _ (fields-value sign-bit (fieldOf x) (digitsOf x) range-fields))
+  negative-bits =
+      sym
+      (ap negative (fields-of x f)
+      ∙ value-sign (ofFields binary64 sign-bit (fieldOf x) (digitsOf x)) sign-bit _ _ (fields-value sign-bit (fieldOf x) (digitsOf x) range-fields))

@@ -30,7 +30,8 @@ use denote.Signature.{Slot, plain, mutSlice, namedLft}
 use denote.Signature.Struct.{structAt, makes}
 use denote.Steps.{only, owned, nothing}
 use denote.Struct.Laws as LL
-use denote.Triple.Walked.{Stay, Fields, stay-dropped, gave-slice, stay-struct-at, stay-declared, Goes, goes-dropped, goes-gave-slice, goes-struct-at, goes-declared}
+use denote.Triple.Walked.{Stay, Fields, stay-dropped, gave-slice, stay-struct-at, stay-declared, Goes, goes-dropped, goes-gave-slice, goes-struct-at}
+use denote.Triple.Walked.{goes-declared}
 use Rattle.printing.specs.declared.line_writer.LineWriter.{LineWriter}
 use Rattle.printing.specs.Advanced.{writerAt}
 use Rattle.printing.proofs.Locals.{nothings, nothings-had}

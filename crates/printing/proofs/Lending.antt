@@ -17,7 +17,8 @@ use base.Fml.{Lft, Share, GName, Fml, ftrue, fsep, feq, flft}
 use prog.Wp.{Heap, Env, Calls, Loops}
 use ghost.Atoms.{Atoms, sem}
 use contract.Monad.{fact}
-use types.Kit.{Given, Item, Post, Seq, runs, lands, ‵, raw, _⊛_, some, later, _$_, _∵_, !, qed, move, group, regoal, drop, use1, use2, use3, split, join, pick, fsplit, fjoin, feqL, frame, await, done}
+use types.Kit.{Given, Item, Post, Seq, runs, lands, ‵, raw, _⊛_, some, later, _$_, _∵_, !, qed, move, group, regoal, drop, use1, use2, use3, split}
+use types.Kit.{join, pick, fsplit, fjoin, feqL, frame, await, done}
 use types.Run.{Opds}
 use types.Tokens.{lft-new, lft-end}
 use sound.WpLaws.{FmC}
@@ -97,7 +98,8 @@ module _ {M : Type 1} (𝓤 : URA M) (H : Heap 𝓤) (A : Atoms 𝓤) where
     Puts C f = (κ κ′ : Lft) (q q′ : Share) (x : RefT (List ℕ)) (n : ℕ) (y : RefT (List (R .Denot)))
         → ent 𝓤 (Asks κ κ′ q q′ x n y) (C f (valueOf x ∷ vint w64 n ∷ valueOf y ∷ []) (Answers κ κ′ q q′ x n y))
 
-module _ {M : Type 1} {𝓤 : URA M} {H : Heap 𝓤} {A : Atoms 𝓤} {K : Type 0} {W : Given 𝓤 H A} {Γ : List (Item 𝓤)} {E : Env 𝓤 H} {C : Calls 𝓤 H} {Λ : Loops 𝓤 H} {f : Name} {xs : List Operand} {goal : Post 𝓤 H} {d : Place} {rest : Body} where
+module _ {M : Type 1} {𝓤 : URA M} {H : Heap 𝓤} {A : Atoms 𝓤} {K : Type 0} {W : Given 𝓤 H A} {Γ : List (Item 𝓤)}
+    {E : Env 𝓤 H} {C : Calls 𝓤 H} {Λ : Loops 𝓤 H} {f : Name} {xs : List Operand} {goal : Post 𝓤 H} {d : Place} {rest : Body} where
   pub puts : K → FmC 𝓤 H (W .laws) C → (R : RattleType) (need : ℕ → List ℕ → List (R .Denot) → Type 0) (text : List (R .Denot) → List ℕ)
       → Puts 𝓤 H A R need text C f
       → (κ κ′ : Lft) (q q′ : Share) (b o : ℕ) (γ : GName) (ys : List ℕ) (n : ℕ) (y : RefT (List (R .Denot))) → n < 2 ^ 64 → Room u8 (length ys)
@@ -120,7 +122,8 @@ module _ {M : Type 1} {𝓤 : URA M} {H : Heap 𝓤} {A : Atoms 𝓤} {K : Type 
       calls-from t fm _ _ (Answers 𝓤 H A R need text (ν ∷ []) κ′ fullShare q′ (bytesAt b o δ ys) n y)
       (met (ν ∷ []) κ′ fullShare q′ (bytesAt b o δ ys) n y) (operands _ _) (λ w.
       use1 W {i =
-      raw (Answers 𝓤 H A R need text (ν ∷ []) κ′ fullShare q′ (bytesAt b o δ ys) n y w)} (answered 𝓤 H A R need text (ν ∷ []) κ′ fullShare q′ (bytesAt b o δ ys) n y w) (id⊢ 𝓤 _) $ await t tt $ pick t (λ r. split t $
+      raw (Answers 𝓤 H A R need text (ν ∷ []) κ′ fullShare q′ (bytesAt b o δ ys) n y w)}
+      (answered 𝓤 H A R need text (ν ∷ []) κ′ fullShare q′ (bytesAt b o δ ys) n y w) (id⊢ 𝓤 _) $ await t tt $ pick t (λ r. split t $
       move t (1 ∷ []) $ pick t (λ zs. split t $ move t (1 ∷ []) $ heard t (Put n (text (y .now)) ys r (zs .0))
       (λ e. fsplit t $ fsplit t $ move t (1 ∷ []) $ feqL t (λ l.
       -- [the last list; true; the tokens and the result; what is kept]

@@ -29,7 +29,8 @@ nothings (suc k) = fsep ftrue (nothings k)
 
 module _ {M : Type 1} {𝓤 : URA M} {H : Heap 𝓤} {A : Atoms 𝓤} {K : Type 0} {W : Given 𝓤 H A} {Γ : List (Item 𝓤)} where
   pub alloc3 : K → {τ₀ τ₁ τ₂ : Ty} {h₀ h₁ h₂ : Home} {ls : List Local} {Kt : Env 𝓤 H → Goal 𝓤 H}
-      → ((l₀ l₁ l₂ : ℕ) → Seq K W (‵ (froom τ₂ l₂ zero) ∷ ‵ (fdies τ₂ l₂) ∷ ‵ (froom τ₁ l₁ zero) ∷ ‵ (fdies τ₁ l₁) ∷ ‵ (froom τ₀ l₀ zero) ∷ ‵ (fdies τ₀ l₀) ∷ Γ) (allocs ls (λ E. Kt ((τ₀, l₀) ∷ (τ₁, l₁) ∷ (τ₂, l₂) ∷ E))))
+      → ((l₀ l₁ l₂ : ℕ) → Seq K W (‵ (froom τ₂ l₂ zero) ∷ ‵ (fdies τ₂ l₂) ∷ ‵ (froom τ₁ l₁ zero) ∷ ‵ (fdies τ₁ l₁) ∷ ‵ (froom τ₀ l₀ zero) ∷ ‵ (fdies τ₀ l₀) ∷ Γ)
+      (allocs ls (λ E. Kt ((τ₀, l₀) ∷ (τ₁, l₁) ∷ (τ₂, l₂) ∷ E))))
       → Seq K W Γ (allocs (local τ₀ h₀ ∷ local τ₁ h₁ ∷ local τ₂ h₂ ∷ ls) Kt)
   alloc3 t k = alloc1 t (λ l₀. alloc1 t (λ l₁. alloc1 t (λ l₂. k l₀ l₁ l₂)))
 

@@ -1,6 +1,7 @@
 -- Pieces and lines of text: one space between fields, a line feed after each line.
 --   minusText s t             a minus sign for a negative number of t thousandths, if t is not 0
 --   decimalsText t            the point and the three decimals of t thousandths
+--   thousandthsText s t       a number of t thousandths
 --   field n                   a number's field with the space before it
 --   fields ws                 the fields of a list of numbers
 --   pointField x              a coordinate's field with the space before it
@@ -9,7 +10,7 @@
 --   line f fs                 a line of these fields
 use mathlib.Core.Bool.{Bool, cond, _&&_}
 use mathlib.Core.List.{List, [], _∷_, _++_, map}
-use Prim.Native.Nat.{ℕ}
+use Prim.Native.Nat.{ℕ, _/_}
 use lib.Dec.{ltb}
 use lib.Ieee.{Float}
 use Rattle.words.specs.Records.{concat}
@@ -21,6 +22,9 @@ minusText s t = cond (s && ltb 0 t) (ascii "-") []
 
 abbrev pub decimalsText : ℕ → List ℕ
 decimalsText t = ascii "." ++ threeDigits t
+
+abbrev pub thousandthsText : Bool → ℕ → List ℕ
+thousandthsText s t = minusText s t ++ (digits (t / 1000) ++ decimalsText t)
 
 abbrev pub field : ℕ → List ℕ
 field n = 32 ∷ digits n

@@ -22,10 +22,8 @@ pub fn digits_len(n: u64) -> usize
 fn minus_len(minus: bool, t: u64) -> usize
     ensures { λ r. ⌜ r ≡ length (minusText minus t) ⌝ }
 {
-    if minus {
-        if 0 < t {
-            return 1;
-        }
+    if minus & (0 < t) {
+        return 1;
     }
     0
 }

@@ -6,7 +6,7 @@ ghost use Prim.Native.Nat.{_+_, _≤_, _<_};
 ghost use lib.ListN.{length};
 ghost use Rattle.points.specs.Step.{inRange};
 ghost use Rattle.printing.specs.Decimal.{digit, digits, coordinate};
-ghost use Rattle.printing.specs.Fields.{minusText, decimalsText, field, pointField};
+ghost use Rattle.printing.specs.Fields.{minusText, decimalsText, thousandthsText, field, pointField};
 ghost use Rattle.words.specs.Placed.{Put};
 
 pub fn put_byte(buf: &mut [u8], at: usize, b: u8) -> usize
@@ -60,12 +60,18 @@ fn put_minus(buf: &mut [u8], at: usize, minus: bool, t: u64) -> usize
     requires { ⌜ at + length (minusText minus t) ≤ length (now buf) ⌝ }
     ensures { λ r. ⌜ Put at (minusText minus t) (now (buf .entry)) r (now (buf .exit)) ⌝ }
 {
-    if minus {
-        if 0 < t {
-            return put_byte(buf, at, b'-');
-        }
+    if minus & (0 < t) {
+        return put_byte(buf, at, b'-');
     }
     at
+}
+
+// The last digit of a number.
+fn put_digit(buf: &mut [u8], at: usize, n: u64) -> usize
+    requires { ⌜ at < length (now buf) ⌝ }
+    ensures { λ r. ⌜ Put at (digit n ∷ []) (now (buf .entry)) r (now (buf .exit)) ⌝ }
+{
+    put_byte(buf, at, digit_byte(n))
 }
 
 // The point and the three decimals of a number of thousandths.
@@ -74,9 +80,19 @@ fn put_decimals(buf: &mut [u8], at: usize, t: u64) -> usize
     ensures { λ r. ⌜ Put at (decimalsText t) (now (buf .entry)) r (now (buf .exit)) ⌝ }
 {
     let tenths = put_byte(buf, at, b'.');
-    let hundredths = put_byte(buf, tenths, digit_byte(t / 100));
-    let last = put_byte(buf, hundredths, digit_byte(t / 10));
-    put_byte(buf, last, digit_byte(t))
+    let hundredths = put_digit(buf, tenths, t / 100);
+    let last = put_digit(buf, hundredths, t / 10);
+    put_digit(buf, last, t)
+}
+
+// A number of thousandths, with a minus sign if it is to have one.
+fn put_thousandths(buf: &mut [u8], at: usize, minus: bool, t: u64) -> usize
+    requires { ⌜ at + length (thousandthsText minus t) ≤ length (now buf) ⌝ }
+    ensures { λ r. ⌜ Put at (thousandthsText minus t) (now (buf .entry)) r (now (buf .exit)) ⌝ }
+{
+    let start = put_minus(buf, at, minus, t);
+    let point = put_number(buf, start, t / 1000);
+    put_decimals(buf, point, t)
 }
 
 fn put_coordinate(buf: &mut [u8], at: usize, x: f64) -> usize
@@ -84,9 +100,7 @@ fn put_coordinate(buf: &mut [u8], at: usize, x: f64) -> usize
     ensures { λ r. ⌜ Put at (coordinate x) (now (buf .entry)) r (now (buf .exit)) ⌝ }
 {
     let t = crate::nearest::thousandths_of(x);
-    let start = put_minus(buf, at, crate::nearest::is_negative(x), t);
-    let point = put_number(buf, start, t / 1000);
-    put_decimals(buf, point, t)
+    put_thousandths(buf, at, crate::nearest::is_negative(x), t)
 }
 
 // A number's field, with the space before it.

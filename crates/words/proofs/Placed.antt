@@ -44,7 +44,8 @@ module _ {A : Type 0} where
         length-take-le at buf (omega arith),
       )
 
-  pub placed-then : (at : ℕ) (xs ys buf : List A) → at + length xs ≤ length buf → placed (at + length xs) ys (placed at xs buf) ≡ placed at (xs ++ ys) buf
+  pub placed-then : (at : ℕ) (xs ys buf : List A) → at + length xs ≤ length buf →
+      placed (at + length xs) ys (placed at xs buf) ≡ placed at (xs ++ ys) buf
   unfolding placed
   placed-then at xs ys buf h =
       ap₂ {C = List A} (λ a b. a ++ (ys ++ b)) front back ∙ append-assoc (take at buf) xs (ys ++ drop (at + length (xs ++ ys)) buf)
@@ -93,7 +94,8 @@ module _ {A : Type 0} where
       ap (take (length xs)) (drop-at (take at buf) (xs ++ drop (at + length xs) buf) at (length-take-le at buf room)) ∙ take-at xs _ (length xs) refl
 
   -- a longer list written over a list
-  pub placed-over : (at : ℕ) (xs ys buf : List A) → length xs ≤ length ys → at + length xs ≤ length buf → placed at ys (placed at xs buf) ≡ placed at ys buf
+  pub placed-over : (at : ℕ) (xs ys buf : List A) → length xs ≤ length ys → at + length xs ≤ length buf →
+      placed at ys (placed at xs buf) ≡ placed at ys buf
   unfolding placed
   placed-over at xs ys buf h room = ap₂ {C = List A} (λ a b. a ++ (ys ++ b)) front back
     where
@@ -117,7 +119,8 @@ module _ {A : Type 0} where
   placed-cons at x xs buf h = ap (placed (at + 1) xs) (placed-one at x buf h) ∙ placed-then at (x ∷ []) xs buf (omega arith)
 
   -- the last element may be written first
-  pub placed-last : (at : ℕ) (a : List A) (b : A) (old : List A) → at + length a < length old → placed at (a ++ b ∷ []) old ≡ placed at a (set old (at + length a) b)
+  pub placed-last : (at : ℕ) (a : List A) (b : A) (old : List A) → at + length a < length old →
+      placed at (a ++ b ∷ []) old ≡ placed at a (set old (at + length a) b)
   unfolding placed
   placed-last at a b old h =
       let n = length a in
@@ -144,7 +147,8 @@ placed-word at j x xs buf out hj room e ex =
 module _ {A : Type 0} where
   concat-snoc : (n : ℕ) (f : ℕ → List A) → concat (tabulate (suc n) f) ≡ concat (tabulate n f) ++ f n
   concat-snoc zero f = append-nil (f 0)
-  concat-snoc (suc n) f = ap (λ r. f 0 ++ r) (concat-snoc n (λ k. f (suc k))) ∙ sym (append-assoc (f 0) (concat (tabulate n (λ k. f (suc k)))) (f (suc n)))
+  concat-snoc (suc n) f =
+      ap (λ r. f 0 ++ r) (concat-snoc n (λ k. f (suc k))) ∙ sym (append-assoc (f 0) (concat (tabulate n (λ k. f (suc k)))) (f (suc n)))
 
   pub concat-more : (n : ℕ) (f : ℕ → List A) → concat (tabulate (n + 1) f) ≡ concat (tabulate n f) ++ f n
   concat-more n f = ap (λ m. concat (tabulate m f)) (add-one n) ∙ concat-snoc n f
@@ -172,7 +176,8 @@ map-append g [] ys = refl
 map-append {B = B} g (x ∷ xs) ys = ap {B = List B} (λ r. g x ∷ r) (map-append g xs ys)
 
 -- the words of n lists, one list after the other
-pub words-concat : {A : Type 0} (g : A → List ℕ) (n : ℕ) (f : ℕ → List A) → concat (map g (concat (tabulate n f))) ≡ concat (tabulate n (λ i. concat (map g (f i))))
+pub words-concat : {A : Type 0} (g : A → List ℕ) (n : ℕ) (f : ℕ → List A) →
+    concat (map g (concat (tabulate n f))) ≡ concat (tabulate n (λ i. concat (map g (f i))))
 words-concat g zero f = refl
 words-concat g (suc n) f =
     ap concat (map-append g (f 0) (concat (tabulate n (λ i. f (suc i)))))
@@ -202,7 +207,8 @@ module _ (n at k here next : ℕ) (f : ℕ → List ℕ) (buf old out : List ℕ
   pub placed-record : k < n → at + length (concat (tabulate n f)) ≤ length buf →
       here ≡ at + length (concat (tabulate k f)) → old ≡ placed at (concat (tabulate k f)) buf →
       next ≡ here + length (f k) → out ≡ placed here (f k) old → Added at k f buf out next
-  placed-record hk room eh e en e' = record { words = words; place = place; long = ap length words ∙ placed-length at all buf (omega (arith, fits, more-long)) }
+  placed-record hk room eh e en e' =
+      record { words = words; place = place; long = ap length words ∙ placed-length at all buf (omega (arith, fits, more-long)) }
     where
       all : List ℕ
       all = concat (tabulate (k + 1) f)

@@ -46,7 +46,8 @@ module _ {ℓ} {A : Type ℓ} where
   part-concat n p [] a h = absurd (not-suc-le-zero h)
   part-concat n zero (xs ∷ xss) a h = rw (zero-mul n) (take-at xs (concat xss) n (a .0))
   part-concat n (suc p) (xs ∷ xss) a h =
-      ap (take n) (rw (suc-mul p n, add-comm (p * n) n) (sym (drop-drop (p * n) n (xs ++ concat xss)) ∙ ap (drop (p * n)) (drop-at xs (concat xss) n (a .0))))
+      ap (take n)
+      (rw (suc-mul p n, add-comm (p * n) n) (sym (drop-drop (p * n) n (xs ++ concat xss)) ∙ ap (drop (p * n)) (drop-at xs (concat xss) n (a .0))))
       ∙ part-concat n p xss (a .1) (le-of-suc-le-suc h)
 
 -- record k of v records of n elements ends within them, and there record k + 1 starts

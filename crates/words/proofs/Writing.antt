@@ -3,7 +3,7 @@
 --   left-starts, left-goes, left-ends     all is left; a piece less is; nothing is
 --   left-last                         and with the last piece put
 --   left-word                         one element less
---   left-next, left-none              of a list: the element at a place less; no element is left
+--   left-one, left-next, left-none    of a list: the element at a place less, put or set; no element is left
 --   left-item, left-items             of the lists of a list's elements: one less; none is left
 --   left-record, left-records         of tabulated lists: one less; none is left
 --   left-fits, left-item-fits, left-record-fits     the piece has room
@@ -33,11 +33,25 @@ module _ {A : Type 0} where
   pub put-as : {at cur next : ℕ} {xs old buf new : List A} → Put at xs old cur buf → next ≡ cur → new ≡ buf → Put at xs old next new
   put-as p e f = record { place = e ∙ p .place; content = f ∙ p .content }
 
+  -- one list behind another, and one behind an element
+  pub put-then : {at cur next : ℕ} {xs ys old buf new : List A} → Put at xs old cur buf → Put cur ys buf next new → cur ≤ length old →
+      Put at (xs ++ ys) old next new
+  put-then {at} {cur} {next} {xs} {ys} {old} {buf} {new} p q h =
+      record {
+        place = omega (arith, p .place, q .place, length-append xs ys);
+        content = q .content ∙ rw (p .place, p .content) (placed-then at xs ys old (omega (arith, p .place)));
+      }
+
+  pub put-cons : {at cur next : ℕ} {x : A} {ys old buf new : List A} → Put at (x ∷ []) old cur buf → Put cur ys buf next new → at < length old →
+      Put at (x ∷ ys) old next new
+  put-cons p q h = put-then p q (omega (arith, p .place))
+
   pub put-first : {xs old new : List A} {next : ℕ} → Put 0 xs old next new → new ≡ xs ++ drop (length xs) old
   put-first {xs} {old} p = p .content ∙ placed-first xs old
 
   -- a part of a buffer after a call that was lent it
-  pub put-part : (at m : ℕ) (xs old : List A) (next : ℕ) → length xs ≡ m → next ≡ at + m → Put at xs old next (take at old ++ (xs ++ drop m (drop at old)))
+  pub put-part : (at m : ℕ) (xs old : List A) (next : ℕ) → length xs ≡ m → next ≡ at + m →
+      Put at xs old next (take at old ++ (xs ++ drop m (drop at old)))
   unfolding placed
   put-part at m xs old next e n = record { place = rw e n; content = rw (drop-drop m at old, e) }
 
@@ -51,7 +65,8 @@ module _ {A : Type 0} where
   pub left-starts : (at : ℕ) (all old : List A) → at + length all ≤ length old → Left at all old at all old
   left-starts at all old h = record { done = []; parts = refl; put = put-nothing at old; room = h; same = refl }
 
-  pub left-as : {at cur next : ℕ} {all old rest buf new : List A} → Left at all old cur rest buf → next ≡ cur → new ≡ buf → Left at all old next rest new
+  pub left-as : {at cur next : ℕ} {all old rest buf new : List A} → Left at all old cur rest buf → next ≡ cur → new ≡ buf →
+      Left at all old next rest new
   left-as l e f = rw (e, f) l
 
   pub left-ends : {at : ℕ} {all old : List A} {cur : ℕ} {buf : List A} → Left at all old cur [] buf → Put at all old cur buf
@@ -83,14 +98,18 @@ module _ {A : Type 0} where
     pub left-last : (a : List A) (next : ℕ) (new : List A) → Left at all old cur a buf → Put cur a buf next new → Put at all old next new
     left-last a next new l p = left-ends (left-goes a [] next new (rw append-nil l) p)
 
-    pub left-word : (x : A) (rest : List A) (next : ℕ) → next ≡ cur + 1 → Left at all old cur (x ∷ rest) buf → Left at all old next rest (set buf cur x)
+    pub left-word : (x : A) (rest : List A) (next : ℕ) → next ≡ cur + 1 → Left at all old cur (x ∷ rest) buf →
+        Left at all old next rest (set buf cur x)
     left-word x rest next e l =
         left-goes (x ∷ []) rest next (set buf cur x) l (record { place = e; content = placed-one cur x buf (omega (arith, l .room)) })
 
     -- element k of a list of which those from k on are left
-    pub left-next : (z : A) (xs : List A) (k next : ℕ) (x : A) → k < length xs → x ≡ getD xs k z → next ≡ cur + 1 →
-        Left at all old cur (drop k xs) buf → Left at all old next (drop (k + 1) xs) (set buf cur x)
-    left-next z xs k next x h e n l = rw e (left-word (getD xs k z) (drop (k + 1) xs) next n (rw (drop-next z xs k h) at l))
+    module _ (z : A) (xs : List A) (k : ℕ) (h : k < length xs) (l : Left at all old cur (drop k xs) buf) where
+      pub left-one : (next : ℕ) (new : List A) → Put cur (getD xs k z ∷ []) buf next new → Left at all old next (drop (k + 1) xs) new
+      left-one next new p = left-goes (getD xs k z ∷ []) (drop (k + 1) xs) next new (rw (drop-next z xs k h) at l) p
+
+      pub left-next : (next : ℕ) (x : A) → x ≡ getD xs k z → next ≡ cur + 1 → Left at all old next (drop (k + 1) xs) (set buf cur x)
+      left-next next x e n = rw e (left-word (getD xs k z) (drop (k + 1) xs) next n (rw (drop-next z xs k h) at l))
 
     pub left-none : (xs : List A) (k : ℕ) → length xs ≤ k → Left at all old cur (drop k xs) buf → Put at all old cur buf
     left-none xs k h l = left-ends (rw (drop-of-length-le xs h) at l)
@@ -112,14 +131,16 @@ module _ {A : Type 0} where
         left-ends (rw (drop-of-length-le (tabulate n f) none) at l)
 
     -- the same of the elements of a list, each by a list of its own
-    module _ {B : Type 0} (g : B → List A) (z : B) (xs : List B) (k : ℕ) (h : k < length xs) (l : Left at all old cur (concat (map g (drop k xs))) buf) where
+    module _ {B : Type 0} (g : B → List A) (z : B) (xs : List B) (k : ℕ)
+        (h : k < length xs) (l : Left at all old cur (concat (map g (drop k xs))) buf) where
       pub left-item-fits : cur + length (g (getD xs k z)) ≤ length buf
       left-item-fits = left-fits (g (getD xs k z)) (concat (map g (drop (k + 1) xs))) (rw (drop-next z xs k h) at l)
 
       pub left-item : (next : ℕ) (new : List A) → Put cur (g (getD xs k z)) buf next new → Left at all old next (concat (map g (drop (k + 1) xs))) new
       left-item next new p = left-goes (g (getD xs k z)) (concat (map g (drop (k + 1) xs))) next new (rw (drop-next z xs k h) at l) p
 
-    pub left-items : {B : Type 0} (g : B → List A) (xs : List B) (k : ℕ) → length xs ≤ k → Left at all old cur (concat (map g (drop k xs))) buf → Put at all old cur buf
+    pub left-items : {B : Type 0} (g : B → List A) (xs : List B) (k : ℕ) → length xs ≤ k → Left at all old cur (concat (map g (drop k xs))) buf →
+        Put at all old cur buf
     left-items g xs k h l = left-ends (rw (drop-of-length-le xs h) at l)
 
     pub left-ahead : (rest : List A) → Left at all old cur rest buf → drop cur buf ≡ drop cur old

@@ -42,8 +42,10 @@ returns c =
 loop-again : tie.Need-loop-again Inv-loop μ-loop
 loop-again c =
     let l = looked (c .before) in
-    let b = bytes l in
-    (omega arith, any-goes noSign 0 (signBytes b) _ (l .loop .p) (signs-length b) (omega arith) _ (sign-at b _ (omega arith)) _ (cc) (l .loop .inv .1))
+    let b = bytes l in (
+      omega arith,
+      any-goes noSign 0 (signBytes b) _ (l .loop .p) (signs-length b) (omega arith) _ (sign-at b _ (omega arith)) _ (cc) (l .loop .inv .1),
+    )
 
 returns-2 : tie.Need-returns-2 Inv-loop μ-loop
 returns-2 c = let l = c .before in any-ends noSign 0 (signBytes (bytes l)) _ (l .loop .p) (signs-length (bytes l)) (omega arith) _ (l .loop .inv .1)

@@ -27,35 +27,43 @@ loop-holds c = (search needs, refl)
 abbrev looked : tie.After-beyond Inv-loop μ-loop → tie.At-loop Inv-loop μ-loop
 looked c = c .before .before .before
 
+abbrev counted : tie.At-loop Inv-loop μ-loop → tie.After-vertex-count Inv-loop μ-loop
+counted c = c .before .before
+
 abbrev start : tie.At-loop Inv-loop μ-loop → tie.Start Inv-loop μ-loop
-start c = c .before .before .before .before .before
+start c = counted c .before .before .before
 
 -- the vertices of cell p are tested
 here : (c : tie.After-beyond Inv-loop μ-loop) → let l = looked c in let b = start l .args .b .now in
     anyOf (λ y. leb (vertexCountOf b) y) (getD (fileCells b) (l .loop .p) noCell .row) ≡ c .beyond .result
 here c =
-    let s = start (looked c) in
-    cc (row-at (s .args .b .now) (s .pre) (looked c .loop .p) (omega arith) _ (c .before .before .before .before .dimension .result + 1) (c .before .cell-at .ensures .0) (omega arith))
+    let l = looked c in
+    let s = start l in
+    let m = l .before .dimension .result + 1 in
+    cc (row-at (s .args .b .now) (s .pre) (l .loop .p) (omega arith) _ m (c .before .cell-at .ensures .0) (omega arith))
 
 returns : tie.Need-returns Inv-loop μ-loop
 returns c =
     let l = looked (c .before) in
     let b = start l .args .b .now in
-    any-stops (λ x. anyOf (λ y. leb (vertexCountOf b) y) (x .row)) noCell (fileCells b) _ (l .loop .p) (cells-length b) (omega arith) _ refl _ (cc (here (c .before))) (l .loop .inv .1)
+    any-stops (λ x. anyOf (λ y. leb (vertexCountOf b) y) (x .row)) noCell (fileCells b) _ (l .loop .p) (cells-length b) (omega arith) _ refl _
+    (cc (here (c .before))) (l .loop .inv .1)
 
 loop-again : tie.Need-loop-again Inv-loop μ-loop
 loop-again c =
     let l = looked (c .before) in
     let b = start l .args .b .now in (
       omega arith,
-      any-goes (λ x. anyOf (λ y. leb (vertexCountOf b) y) (x .row)) noCell (fileCells b) _ (l .loop .p) (cells-length b) (omega arith) _ refl _ (cc (here (c .before))) (l .loop .inv .1),
+      any-goes (λ x. anyOf (λ y. leb (vertexCountOf b) y) (x .row)) noCell (fileCells b) _ (l .loop .p) (cells-length b) (omega arith) _ refl _
+          (cc (here (c .before))) (l .loop .inv .1),
     )
 
 returns-2 : tie.Need-returns-2 Inv-loop μ-loop
 returns-2 c =
     let l = c .before in
     let b = start l .args .b .now in
-    any-ends (λ x. anyOf (λ y. leb (vertexCountOf b) y) (x .row)) noCell (fileCells b) _ (l .loop .p) (cells-length b) (omega arith) _ (l .loop .inv .1)
+    any-ends (λ x. anyOf (λ y. leb (vertexCountOf b) y) (x .row)) noCell (fileCells b) _ (l .loop .p) (cells-length b) (omega arith) _
+    (l .loop .inv .1)
 
 pub bad-vertex-spec : {M : Type 1} → statement M
 bad-vertex-spec =

@@ -13,7 +13,8 @@ use Rattle.file.proofs.cells.beyond.Statement.{statement}
 use Rattle.file.proofs.cells.beyond.Tie as tie
 
 abbrev Inv-loop : tie.InvT-loop
-Inv-loop b at m v from₀ left₀ from left = (from + left * 2 ≤ length b) × (anyOf (λ x. leb v x) (wordsFrom b at m) ≡ anyOf (λ x. leb v x) (wordsFrom b from left))
+Inv-loop b at m v from₀ left₀ from left =
+    (from + left * 2 ≤ length b) × (anyOf (λ x. leb v x) (wordsFrom b at m) ≡ anyOf (λ x. leb v x) (wordsFrom b from left))
 
 abbrev μ-loop : tie.MeasureT-loop
 μ-loop b at m v from₀ left₀ from left = left
@@ -28,13 +29,17 @@ returns : tie.Need-returns Inv-loop μ-loop
 returns c =
     let l = c .before .before .before in
     let a = start l .args in
-    row-stops (a .b .now) (l .loop .from) (l .loop .left) _ (omega arith) _ (c .before .word16 .ensures) (λ x. leb (a .v) x) (l .loop .inv .1) (le-leb _ _ (c .if1 .taken))
+    row-stops (a .b .now) (l .loop .from) (l .loop .left) _ (omega arith) _ (c .before .word16 .ensures) (λ x. leb (a .v) x) (l .loop .inv .1)
+    (le-leb _ _ (c .if1 .taken))
 
 loop-again : tie.Need-loop-again Inv-loop μ-loop
 loop-again c =
     let l = c .before .before .before in
-    let a = start l .args in
-    (omega arith, row-goes (a .b .now) (l .loop .from) (l .loop .left) _ (omega arith) _ (c .before .word16 .ensures) (λ x. leb (a .v) x) (l .loop .inv .1) (lt-leb _ _ (c .if1 .left)))
+    let a = start l .args in (
+      omega arith,
+      row-goes (a .b .now) (l .loop .from) (l .loop .left) _ (omega arith) _ (c .before .word16 .ensures) (λ x. leb (a .v) x) (l .loop .inv .1)
+          (lt-leb _ _ (c .if1 .left)),
+    )
 
 returns-2 : tie.Need-returns-2 Inv-loop μ-loop
 returns-2 c =

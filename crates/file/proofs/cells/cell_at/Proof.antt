@@ -1,5 +1,5 @@
 -- `cell_at` answers where a cell stands, and that all of it is within the file. Assumes nothing.
-use mathlib.Core.Path.{_≡_, ap, _∙_}
+use mathlib.Core.Path.{_≡_}
 use Prim.Native.Nat.{_≤_, _+_, _*_}
 use native.Mathlib.Omega.{arith}
 use lib.ListN.{length}
@@ -10,14 +10,12 @@ use Rattle.file.proofs.cells.cell_at.Statement.{statement}
 use Rattle.file.proofs.cells.cell_at.Tie as tie
 
 -- the product that the code computes, and that the cell is within the file
-sized : (c : tie.After-cell-size) →
-    (c .before .before .before .before .args .p * c .cell-size .result ≡ c .before .before .before .before .args .p * cellBytes (dimensionOf (c .before .before .before .before .args .b .now)))
-    × (cellPlace (c .before .before .before .before .args .b .now) (c .before .before .before .before .args .p)
-    + cellBytes (dimensionOf (c .before .before .before .before .args .b .now)) ≤ length (c .before .before .before .before .args .b .now))
+sized : (c : tie.After-cell-size) → let a = c .before .before .before .before .args in let bytes = cellBytes (dimensionOf (a .b .now)) in
+    (a .p * c .cell-size .result ≡ a .p * bytes) × (cellPlace (a .b .now) (a .p) + bytes ≤ length (a .b .now))
 sized c =
-    let a = c .before .before .before .before .args in
-    let pre = c .before .before .before .before .pre in
-    (ap (λ k. a .p * k) (c .cell-size .ensures .0 ∙ ap cellBytes (c .before .dimension .ensures .0)), cell-room (a .b .now) (pre .0) (a .p) (pre .1))
+    let s = c .before .before .before .before in
+    let a = s .args in
+    (cc, cell-room (a .b .now) (s .pre .0) (a .p) (s .pre .1))
 
 mul-result-2 : tie.Need-mul-result-2
 mul-result-2 c = record { fits = omega (arith, sized c) }

@@ -28,13 +28,17 @@ returns : tie.Need-returns Inv-loop μ-loop
 returns c =
     let l = c .before .before .before in
     let a = start l .args in
-    row-stops (a .b .now) (l .loop .from) (l .loop .left) _ (omega arith) _ (c .before .word16 .ensures) (eqb (a .x)) (l .loop .inv .1) (eq-eqb _ _ (c .if1 .taken))
+    row-stops (a .b .now) (l .loop .from) (l .loop .left) _ (omega arith) _ (c .before .word16 .ensures) (eqb (a .x)) (l .loop .inv .1)
+    (eq-eqb _ _ (c .if1 .taken))
 
 loop-again : tie.Need-loop-again Inv-loop μ-loop
 loop-again c =
     let l = c .before .before .before in
-    let a = start l .args in
-    (omega arith, row-goes (a .b .now) (l .loop .from) (l .loop .left) _ (omega arith) _ (c .before .word16 .ensures) (eqb (a .x)) (l .loop .inv .1) (ne-eqb _ _ (c .if1 .left)))
+    let a = start l .args in (
+      omega arith,
+      row-goes (a .b .now) (l .loop .from) (l .loop .left) _ (omega arith) _ (c .before .word16 .ensures) (eqb (a .x)) (l .loop .inv .1)
+          (ne-eqb _ _ (c .if1 .left)),
+    )
 
 returns-2 : tie.Need-returns-2 Inv-loop μ-loop
 returns-2 c =

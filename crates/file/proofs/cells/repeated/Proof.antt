@@ -29,8 +29,11 @@ returns c =
 
 loop-again : tie.Need-loop-again Inv-loop μ-loop
 loop-again c =
-    let l = c .before .before .before .before in
-    (omega arith, again-goes (start l .args .b .now) (l .loop .from) (l .loop .left) _ (omega arith) _ (c .before .before .word16 .ensures) (l .loop .inv .1) (cc))
+    let l = c .before .before .before .before in (
+      omega arith,
+      again-goes (start l .args .b .now) (l .loop .from) (l .loop .left) _ (omega arith) _ (c .before .before .word16 .ensures) (l .loop .inv .1)
+          (cc),
+    )
 
 returns-2 : tie.Need-returns-2 Inv-loop μ-loop
 returns-2 c = let l = c .before in again-ends (start l .args .b .now) (l .loop .from) (l .loop .left) _ (omega arith) (l .loop .inv .1)

@@ -31,21 +31,25 @@ start c = c .before .before .before .before
 here : (c : tie.After-repeated Inv-loop μ-loop) → let l = looked c in
     repeats (getD (fileCells (start l .args .b .now)) (l .loop .p) noCell .row) ≡ c .repeated .result
 here c =
-    let s = start (looked c) in
-    cc (row-at (s .args .b .now) (s .pre) (looked c .loop .p) (omega arith) _ (c .before .before .before .before .dimension .result + 1) (c .before .cell-at .ensures .0) (omega arith))
+    let l = looked c in
+    let s = start l in
+    let m = l .before .dimension .result + 1 in
+    cc (row-at (s .args .b .now) (s .pre) (l .loop .p) (omega arith) _ m (c .before .cell-at .ensures .0) (omega arith))
 
 returns : tie.Need-returns Inv-loop μ-loop
 returns c =
     let l = looked (c .before) in
     let b = start l .args .b .now in
-    any-stops (λ x. repeats (x .row)) noCell (fileCells b) _ (l .loop .p) (cells-length b) (omega arith) _ refl _ (cc (here (c .before))) (l .loop .inv .1)
+    any-stops (λ x. repeats (x .row)) noCell (fileCells b) _ (l .loop .p) (cells-length b) (omega arith) _ refl _ (cc (here (c .before)))
+    (l .loop .inv .1)
 
 loop-again : tie.Need-loop-again Inv-loop μ-loop
 loop-again c =
     let l = looked (c .before) in
     let b = start l .args .b .now in (
       omega arith,
-      any-goes (λ x. repeats (x .row)) noCell (fileCells b) _ (l .loop .p) (cells-length b) (omega arith) _ refl _ (cc (here (c .before))) (l .loop .inv .1),
+      any-goes (λ x. repeats (x .row)) noCell (fileCells b) _ (l .loop .p) (cells-length b) (omega arith) _ refl _ (cc (here (c .before)))
+          (l .loop .inv .1),
     )
 
 returns-2 : tie.Need-returns-2 Inv-loop μ-loop

@@ -3,10 +3,10 @@ use mathlib.Core.Path.{ap, _∙_}
 use mathlib.Core.List.{map}
 use Prim.Native.Nat.{_≤_, _<_, _-_, _+_}
 use native.Mathlib.Omega.{arith}
-use lib.ListN.{length, drop, getD}
+use lib.ListN.{length, drop}
 use borrow.Author.Needs.{needs}
 use Rattle.words.specs.Records.{concat}
-use Rattle.words.specs.Placed.{placed, Put}
+use Rattle.words.specs.Placed.{placed}
 use Rattle.words.proofs.Writing.{Left, left-starts, left-item, left-item-fits, left-items, put-first}
 use Rattle.records.specs.Layout.{cellWords}
 use Rattle.file.specs.File.{fileCells}
@@ -22,8 +22,11 @@ Inv-loop b out₀ count m p₀ to₀ out p to = (p ≤ count) × Left 0 (fileWor
 abbrev μ-loop : tie.MeasureT-loop
 μ-loop b out₀ count m p₀ to₀ out p to = count - p
 
+abbrev sized : tie.At-loop Inv-loop μ-loop → tie.After-dimension Inv-loop μ-loop
+sized l = l .before
+
 abbrev start : tie.At-loop Inv-loop μ-loop → tie.Start Inv-loop μ-loop
-start l = l .before .before .before .before .before
+start l = sized l .before .before .before .before
 
 abbrev turn : tie.After-write-cell Inv-loop μ-loop → tie.In-loop Inv-loop μ-loop
 turn c = c .before .before .before
@@ -35,7 +38,8 @@ room c =
     let s = start l in
     let b = s .args .b .now in
     let here : l .loop .p < length (fileCells b) = omega (arith, cells-length b) in
-    omega (arith, left-item-fits cellWords noCell (fileCells b) (l .loop .p) here (l .loop .inv .1), one-length b (s .pre .0) (l .loop .p) (omega arith))
+    omega
+    (arith, left-item-fits cellWords noCell (fileCells b) (l .loop .p) here (l .loop .inv .1), one-length b (s .pre .0) (l .loop .p) (omega arith))
 
 loop-holds : tie.Need-loop-holds Inv-loop μ-loop
 unfolding fileWords
@@ -56,10 +60,17 @@ loop-again c =
     let b = s .args .b .now in
     let p = l .loop .p in
     let here : p < length (fileCells b) = omega (arith, cells-length b) in
-    let words = words-at b (s .pre .0) p (omega arith) _ (l .before .dimension .result + 1) (c .before .before .before .before .cell-at .ensures .0) (omega arith) in
-    let put : Put (l .loop .to) (cellWords (getD (fileCells b) p noCell)) (l .loop .out) (l .loop .to + (l .before .dimension .result + 1 + 1)) (c .before .before .write-cell .last .1 .1 .1 .0) =
-    record { place = omega (arith, one-length b (s .pre .0) p (omega arith)); content = c .before .before .write-cell .ensures ∙ ap (λ ws. placed (l .loop .to) ws (l .loop .out)) words } in
-    (omega arith, left-item cellWords noCell (fileCells b) p here (l .loop .inv .1) _ _ put)
+    let call = c .before .before in
+    let size = l .before .dimension .result + 1 in
+    let words = words-at b (s .pre .0) p (omega arith) _ size (call .before .before .cell-at .ensures .0) (omega arith) in
+    let goes = left-item cellWords noCell (fileCells b) p here (l .loop .inv .1) (l .loop .to + (size + 1)) (call .write-cell .last .1 .1 .1 .0) in (
+      omega arith,
+      goes
+          (record {
+            place = omega (arith, one-length b (s .pre .0) p (omega arith));
+            content = call .write-cell .ensures ∙ ap (λ ws. placed (l .loop .to) ws (l .loop .out)) words;
+          }),
+    )
 
 returns : tie.Need-returns Inv-loop μ-loop
 returns c =

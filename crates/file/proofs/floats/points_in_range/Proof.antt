@@ -33,8 +33,10 @@ bytes c = c .before .before .before .args .b .now
 loop-again : tie.Need-loop-again Inv-loop μ-loop
 loop-again c =
     let l = looked (c .before) in
-    let b = bytes l in
-    (omega arith, all-goes inRange nan (filePoints b) _ (l .loop .k) (points-length b) (omega arith) _ (point-at b _ (omega arith)) _ (cc) (l .loop .inv .1))
+    let b = bytes l in (
+      omega arith,
+      all-goes inRange nan (filePoints b) _ (l .loop .k) (points-length b) (omega arith) _ (point-at b _ (omega arith)) _ (cc) (l .loop .inv .1),
+    )
 
 returns : tie.Need-returns Inv-loop μ-loop
 returns c =
@@ -43,7 +45,8 @@ returns c =
     all-stops inRange nan (filePoints b) _ (l .loop .k) (points-length b) (omega arith) _ (point-at b _ (omega arith)) _ (cc) (l .loop .inv .1)
 
 returns-2 : tie.Need-returns-2 Inv-loop μ-loop
-returns-2 c = let l = c .before in all-ends inRange nan (filePoints (bytes l)) _ (l .loop .k) (points-length (bytes l)) (omega arith) _ (l .loop .inv .1)
+returns-2 c =
+    let l = c .before in all-ends inRange nan (filePoints (bytes l)) _ (l .loop .k) (points-length (bytes l)) (omega arith) _ (l .loop .inv .1)
 
 pub points-in-range-spec : {M : Type 1} → statement M
 points-in-range-spec =

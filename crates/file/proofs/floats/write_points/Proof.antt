@@ -37,7 +37,7 @@ loop-again c =
     let l = c .before .before in
     let b = start l .args .b .now in
     let k = l .loop .k in
-    (omega arith, left-next nan (filePoints b) k (k + 1) _ (omega (arith, points-length b)) (cc (point-at b k (omega arith))) refl (l .loop .inv .1))
+    (omega arith, left-next nan (filePoints b) k (omega (arith, points-length b)) (l .loop .inv .1) (k + 1) _ (cc (point-at b k (omega arith))) refl)
 
 returns : tie.Need-returns Inv-loop μ-loop
 returns c =

@@ -44,7 +44,8 @@ answered c =
     let k = t .before .loop .k in
     c .stays .ensures
     ∙ ap (staysIn (a .step) (a .n) (a .h))
-    (loaded (a .n) (a .v) k _ (now (a .points)) (c .before .load .result) (add-sub-cancel-left (k * a .n) (a .n)) (t .loop-test .taken) (s .pre .1) (c .before .load .ensures))
+    (loaded (a .n) (a .v) k _ (now (a .points)) (c .before .load .result)
+    (add-sub-cancel-left (k * a .n) (a .n)) (t .loop-test .taken) (s .pre .1) (c .before .load .ensures))
 
 loop-holds : tie.Need-loop-holds Inv-loop μ-loop
 loop-holds c = (search needs, refl)
@@ -55,7 +56,8 @@ returns c =
     let a = start t .args in
     let k = t .before .loop .k in
     all-stops (staysIn (a .step) (a .n) (a .h)) [] (each (a .n) (a .v) (a .points .now)) (a .v) k (tabulate-length _ _) (t .loop-test .taken)
-    _ (tabulate-at _ _ k [] (t .loop-test .taken)) _ (cc (answered (c .before), not-true (c .before .stays .result) (c .if1 .taken))) (t .before .loop .inv .1)
+    _ (tabulate-at _ _ k [] (t .loop-test .taken)) _ (cc (answered (c .before), not-true (c .before .stays .result) (c .if1 .taken)))
+    (t .before .loop .inv .1)
 
 loop-again : tie.Need-loop-again Inv-loop μ-loop
 loop-again c =
@@ -64,13 +66,15 @@ loop-again c =
     let k = t .before .loop .k in (
       omega arith,
       all-goes (staysIn (a .step) (a .n) (a .h)) [] (each (a .n) (a .v) (a .points .now)) (a .v) k (tabulate-length _ _) (t .loop-test .taken)
-          _ (tabulate-at _ _ k [] (t .loop-test .taken)) _ (cc (answered (c .before), not-false (c .before .stays .result) (c .if1 .left))) (t .before .loop .inv .1),
+          _ (tabulate-at _ _ k [] (t .loop-test .taken)) _ (cc (answered (c .before), not-false (c .before .stays .result) (c .if1 .left)))
+          (t .before .loop .inv .1),
     )
 
 returns-2 : tie.Need-returns-2 Inv-loop μ-loop
 returns-2 c =
     let a = c .before .before .before .args in
-    all-ends (staysIn (a .step) (a .n) (a .h)) [] (each (a .n) (a .v) (a .points .now)) (a .v) (c .before .loop .k) (tabulate-length _ _) (omega arith) _ (c .before .loop .inv .1)
+    all-ends (staysIn (a .step) (a .n) (a .h)) [] (each (a .n) (a .v) (a .points .now)) (a .v) (c .before .loop .k) (tabulate-length _ _)
+    (omega arith) _ (c .before .loop .inv .1)
 
 pub all-stay-spec : {M : Type 1} → statement M
 all-stay-spec =

@@ -33,8 +33,10 @@ loop-again c =
     let a = l .before .args in
     let j = l .loop .j in
     let read = left-before _ (l .loop .inv .1) (a .from + j) nan (omega arith) (omega arith) in
-    let here = getD-take (a .w) (drop (a .from) (a .out .now)) j nan (c .before .loop-test .taken) ∙ getD-drop (a .from) (a .out .now) j nan in
-    (omega arith, left-next nan (copied (a .w) (a .from) (a .out .now)) j _ _ (omega (arith, long (l .before))) (read ∙ sym here) (omega arith) (l .loop .inv .1))
+    let here = getD-take (a .w) (drop (a .from) (a .out .now)) j nan (c .before .loop-test .taken) ∙ getD-drop (a .from) (a .out .now) j nan in (
+      omega arith,
+      left-next nan (copied (a .w) (a .from) (a .out .now)) j (omega (arith, long (l .before))) (l .loop .inv .1) _ _ (read ∙ sym here) (omega arith),
+    )
 
 returns : tie.Need-returns Inv-loop μ-loop
 returns c =

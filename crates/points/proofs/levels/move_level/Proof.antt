@@ -29,8 +29,11 @@ loop-again c =
     let s = start t in
     let a = s .args in
     let l = t .before .loop in
-    let moves = moving-goes (a .step) (a .n) (a .v) (a .at) (a .out .now) (s .pre .1) (l .k) (l .out) in
-    (omega arith, moves (c .before .before .move-point .last .1 .1 .0) _ (add-sub-cancel-left (a .at + l .k * a .n) (a .n)) (t .loop-test .taken) (l .inv .1) (c .before .before .move-point .ensures))
+    let moves = moving-goes (a .step) (a .n) (a .v) (a .at) (a .out .now) (s .pre .1) (l .k) (l .out) in (
+      omega arith,
+      moves (c .before .before .move-point .last .1 .1 .0) _ (add-sub-cancel-left (a .at + l .k * a .n) (a .n)) (t .loop-test .taken) (l .inv .1)
+          (c .before .before .move-point .ensures),
+    )
 
 returns : tie.Need-returns Inv-loop μ-loop
 returns c =

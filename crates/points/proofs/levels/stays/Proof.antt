@@ -1,9 +1,10 @@
 -- `stays` answers `staysIn`. The invariant: what is asked of the point is what is left to ask of the moved one. Assumes nothing.
 use mathlib.Core.Path.{refl, sym, _∙_, _≡_}
 use mathlib.Core.Bool.{_&&_}
-use mathlib.Core.List.{_++_}
+use mathlib.Core.List.{List, _++_}
 use Prim.Native.Nat.{_≤_, _-_}
 use native.Mathlib.Omega.{arith}
+use lib.Ieee.{Float}
 use lib.ListN.{take, drop, length}
 use lib.Seq.{length-front, take-at, length-take-le}
 use borrow.Author.Needs.{needs}
@@ -21,50 +22,50 @@ Inv-loop step n h q₀ left₀ q left = (length q ≡ 8) × (staysIn step n h (t
 abbrev μ-loop : tie.MeasureT-loop
 μ-loop step n h q₀ left₀ q left = left
 
--- the row after a step: as long as it was, and its first n floats are the moved point
-row : (c : tie.After-move-point Inv-loop μ-loop) → let l = c .before .before .before in let a = l .before .args in
-    (length (c .move-point .last .1 .1 .0 ++ drop (a .n) (l .loop .q)) ≡ 8)
-    × (take (a .n) (c .move-point .last .1 .1 .0 ++ drop (a .n) (l .loop .q)) ≡ movedPoint (a .step) (a .n) (take (a .n) (l .loop .q)))
+abbrev turn : tie.After-move-point Inv-loop μ-loop → tie.At-loop Inv-loop μ-loop
+turn c = c .before .before .before
+
+-- the row after a step
+abbrev moved : tie.After-move-point Inv-loop μ-loop → List Float
+moved c = c .move-point .last .1 .1 .0 ++ drop (turn c .before .args .n) (turn c .loop .q)
+
+-- it is as long as it was, and its first n floats are the moved point
+row : (c : tie.After-move-point Inv-loop μ-loop) → let l = turn c in let a = l .before .args in
+    (length (moved c) ≡ 8) × (take (a .n) (moved c) ≡ movedPoint (a .step) (a .n) (take (a .n) (l .loop .q)))
 row c =
-    let l = c .before .before .before in
-    let a = l .before .args in
+    let l = turn c in
+    let n = l .before .args .n in
     let q = l .loop .q in
     let last = c .move-point .last .1 .1 .0 in
-    let kept : length last ≡ length (take (a .n) q) = c .move-point .kept .1 .1 .0 in
-    let room : a .n ≤ length q = omega (arith, l .loop .inv .0, l .before .pre .0) in
-    (length-front q last (a .n) kept ∙ l .loop .inv .0, take-at last (drop (a .n) q) (a .n) (kept ∙ length-take-le (a .n) q room) ∙ c .move-point .ensures)
+    let kept : length last ≡ length (take n q) = c .move-point .kept .1 .1 .0 in
+    let room : n ≤ length q = omega arith in
+    (length-front q last n kept ∙ l .loop .inv .0, take-at last (drop n q) n (kept ∙ length-take-le n q room) ∙ c .move-point .ensures)
 
 -- one step: the test of the moved point, and what is left to ask of it
-one : (c : tie.After-move-point Inv-loop μ-loop) → let l = c .before .before .before in let a = l .before .args in
-    let q = c .move-point .last .1 .1 .0 ++ drop (a .n) (l .loop .q) in
-    staysIn (a .step) (a .n) (a .h) (take (a .n) (a .p)) ≡ (allOf inRange (take (a .n) q) && staysIn (a .step) (a .n) (l .loop .left - 1) (take (a .n) q))
+one : (c : tie.After-move-point Inv-loop μ-loop) → let l = turn c in let a = l .before .args in let p = take (a .n) (moved c) in
+    staysIn (a .step) (a .n) (a .h) (take (a .n) (a .p)) ≡ (allOf inRange p && staysIn (a .step) (a .n) (l .loop .left - 1) p)
 one c =
-    let l = c .before .before .before in
+    let l = turn c in
     let a = l .before .args in
-    l .loop .inv .1 ∙ stays-one (a .step) (a .n) (l .loop .left) (take (a .n) (l .loop .q)) (c .before .before .loop-test .taken) ∙ rw (row c .1) refl
-
-slice-aggregate-move-point : tie.Need-slice-aggregate-move-point Inv-loop μ-loop
-slice-aggregate-move-point c = sym (length-take-le _ (c .before .before .loop .q) (omega (arith, c .before .before .loop .inv .0)))
+    l .loop .inv .1 ∙ stays-one (a .step) (a .n) (l .loop .left) (take (a .n) (l .loop .q)) (omega arith) ∙ rw (row c .1) refl
 
 move-point-requires : tie.Need-move-point-requires Inv-loop μ-loop
-move-point-requires c κs = (length-take-le _ (c .before .before .loop .q) (omega (arith, c .before .before .loop .inv .0)), c .before .before .before .pre .1)
-
-array-share-prefix-q : tie.Need-array-share-prefix-q Inv-loop μ-loop
-array-share-prefix-q c = omega (arith, row (c .before) .0, c .before .before .before .before .before .pre .0)
-
-slice-aggregate-all-in-range : tie.Need-slice-aggregate-all-in-range Inv-loop μ-loop
-slice-aggregate-all-in-range c = sym (length-take-le (c .before .before .before .before .before .before .args .n) (c .before .before .move-point .last .1 .1 .0 ++ drop (c .before .before .before .before .before .before .args .n) (c .before .before .before .before .before .loop .q)) (omega (arith, row (c .before .before) .0, c .before .before .before .before .before .before .pre .0)))
+move-point-requires c κs = (length-take-le _ (c .before .before .loop .q) (omega arith), c .before .before .before .pre .1)
 
 returns : tie.Need-returns Inv-loop μ-loop
-returns c = sym (one (c .before .before .before .before) ∙ rw (sym (c .before .all-in-range .ensures) ∙ not-true (c .before .all-in-range .result) (c .if1 .taken)) refl)
+returns c =
+    let t = c .before in
+    let out = sym (t .all-in-range .ensures) ∙ not-true (t .all-in-range .result) (c .if1 .taken) in
+    sym (one (t .before .before .before) ∙ rw out refl)
 
 loop-again : tie.Need-loop-again Inv-loop μ-loop
-loop-again c = (row (c .before .before .before .before) .0, one (c .before .before .before .before) ∙ rw (sym (c .before .all-in-range .ensures) ∙ not-false (c .before .all-in-range .result) (c .if1 .left)) refl)
+loop-again c =
+    let t = c .before in
+    let m = t .before .before .before in
+    (row m .0, one m ∙ rw (sym (t .all-in-range .ensures) ∙ not-false (t .all-in-range .result) (c .if1 .left)) refl)
 
 returns-2 : tie.Need-returns-2 Inv-loop μ-loop
-returns-2 c =
-    let none : c .before .loop .left ≡ 0 = omega arith in
-    sym (c .before .loop .inv .1 ∙ rw none)
+returns-2 c = let none : c .before .loop .left ≡ 0 = omega arith in sym (c .before .loop .inv .1 ∙ rw none)
 
 pub stays-spec : {M : Type 1} → statement M
 stays-spec =
@@ -74,10 +75,10 @@ stays-spec =
     μ-loop
     (λ c. search needs)
     (λ c. search needs)
-    slice-aggregate-move-point
+    (λ c. sym (length-take-le _ (c .before .before .loop .q) (omega arith)))
     move-point-requires
-    array-share-prefix-q
-    slice-aggregate-all-in-range
+    (λ c. omega (arith, row (c .before)))
+    (λ c. sym (length-take-le _ (moved (c .before .before)) (omega (arith, row (c .before .before)))))
     (λ c κs. search needs)
     returns
     (λ c. search needs)

@@ -14,7 +14,8 @@ returns c =
     let copy = m .before .before .before .before in
     let s = start copy in
     let a = s .args in
-    (rw (copy .copy-up .ensures) at (m .move-level .ensures)) ∙ (level-copied (a .step) (a .n) (a .v) (a .from) (a .to) (a .out .now) (s .pre .1 .0) (s .pre .1 .1))
+    (rw (copy .copy-up .ensures) at (m .move-level .ensures))
+    ∙ (level-copied (a .step) (a .n) (a .v) (a .from) (a .to) (a .out .now) (s .pre .1 .0) (s .pre .1 .1))
 
 pub write-level-spec : {M : Type 1} → statement M
 write-level-spec =

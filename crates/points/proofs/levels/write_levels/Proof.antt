@@ -26,8 +26,11 @@ next c = let a = start (put (c .before)) .args in inside (a .n) (a .v) (a .h) (c
 loop-holds : tie.Need-loop-holds Inv-loop μ-loop
 loop-holds c =
     let s = start (c .before .before) in
-    let a = s .args in
-    (search needs, rw (c .before .before .put .ensures) (climbing-starts (a .step) (a .n) (a .v) (a .h) (a .points .now) (a .out .now) (s .pre .1 .0) (s .pre .1 .1)))
+    let a = s .args in (
+      search needs,
+      rw (c .before .before .put .ensures)
+          (climbing-starts (a .step) (a .n) (a .v) (a .h) (a .points .now) (a .out .now) (s .pre .1 .0) (s .pre .1 .1)),
+    )
 
 write-level-requires : tie.Need-write-level-requires Inv-loop μ-loop
 write-level-requires c κs = (start (put (c .before .before)) .pre .0, (next (c .before) .0, omega (arith, next (c .before))))
@@ -46,7 +49,8 @@ returns c =
     let l = c .before in
     let s = start (put l) in
     let a = s .args in
-    let ends = climbing-ends (a .step) (a .n) (a .v) (a .h) (a .points .now) (a .out .now) (s .pre .1 .0) (s .pre .1 .1) (l .loop .i) _ (omega arith) in
+    let ends =
+    climbing-ends (a .step) (a .n) (a .v) (a .h) (a .points .now) (a .out .now) (s .pre .1 .0) (s .pre .1 .1) (l .loop .i) _ (omega arith) in
     ends (rw (put l .put .ensures) at (l .loop .inv .1))
 
 pub write-levels-spec : {M : Type 1} → statement M

@@ -21,7 +21,7 @@ loop-holds c = (search needs, left-starts 0 _ _ (omega arith))
 loop-again : tie.Need-loop-again Inv-loop μ-loop
 loop-again c =
     let l = c .before .before in
-    (omega arith, left-next nan (l .before .args .xs .now) (l .loop .i) _ _ (c .before .loop-test .taken) refl refl (l .loop .inv .1))
+    (omega arith, left-next nan (l .before .args .xs .now) (l .loop .i) (omega arith) (l .loop .inv .1) _ _ refl refl)
 
 returns : tie.Need-returns Inv-loop μ-loop
 returns c = let l = c .before in put-first (left-none (l .before .args .xs .now) (l .loop .i) (omega arith) (l .loop .inv .1))

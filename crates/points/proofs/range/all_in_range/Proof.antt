@@ -28,12 +28,16 @@ loop-holds c = (search needs, refl)
 returns : tie.Need-returns Inv-loop μ-loop
 returns c =
     let l = c .before .before .before .before in
-    all-stops inRange nan (floats l) _ (l .loop .i) refl (omega arith) _ refl _ (cc (not-true (c .before .in-range .result) (c .if1 .taken))) (l .loop .inv .1)
+    all-stops inRange nan (floats l) _ (l .loop .i) refl (omega arith) _ refl _ (cc (not-true (c .before .in-range .result) (c .if1 .taken)))
+    (l .loop .inv .1)
 
 loop-again : tie.Need-loop-again Inv-loop μ-loop
 loop-again c =
-    let l = c .before .before .before .before in
-    (omega arith, all-goes inRange nan (floats l) _ (l .loop .i) refl (omega arith) _ refl _ (cc (not-false (c .before .in-range .result) (c .if1 .left))) (l .loop .inv .1))
+    let l = c .before .before .before .before in (
+      omega arith,
+      all-goes inRange nan (floats l) _ (l .loop .i) refl (omega arith) _ refl _ (cc (not-false (c .before .in-range .result) (c .if1 .left)))
+          (l .loop .inv .1),
+    )
 
 returns-2 : tie.Need-returns-2 Inv-loop μ-loop
 returns-2 c = let l = c .before in all-ends inRange nan (floats l) _ (l .loop .i) refl (omega arith) _ (l .loop .inv .1)

@@ -1,6 +1,7 @@
 -- `fields::fields_len` meets its contract: what is counted and what is left make the whole. Assumes nothing.
 use mathlib.Core.Path.{ap, _≡_}
-use Prim.Native.Nat.{_≤_, _-_, _+_}
+use mathlib.Core.List.{List}
+use Prim.Native.Nat.{ℕ, _≤_, _-_, _+_}
 use native.Mathlib.Omega.{arith}
 use lib.ListN.{length-append, length, drop, getD, drop-of-length-le}
 use borrow.Author.Needs.{needs}
@@ -17,42 +18,23 @@ Inv-loop words k₀ i₀ k i = (i ≤ length words) × (k + length (fields (drop
 abbrev μ-loop : tie.MeasureT-loop
 μ-loop words k₀ i₀ k i = length words - i
 
-loop-holds : tie.Need-loop-holds Inv-loop μ-loop
-loop-holds c = (omega arith, omega arith)
+abbrev turn : tie.After-digits-len Inv-loop μ-loop → tie.At-loop Inv-loop μ-loop
+turn c = c .before .before .before .before
 
-add-k : tie.Need-add-k Inv-loop μ-loop
-add-k c = omega (arith, c .digits-len .ensures, digits-length (c .before .wide .result))
-
-add-k-2 : tie.Need-add-k-2 Inv-loop μ-loop
-add-k-2 c =
-    let start = c .before .before .before .before .before .before in
-    let ws = start .args .words .now in
-    omega (
-      arith,
-      c .digits-len .ensures,
-      digits-length (c .before .wide .result),
-      c .before .before .before .before .loop .inv .1,
-      fields-length ws,
-      start .pre,
-    )
+abbrev numbers : tie.At-loop Inv-loop μ-loop → List ℕ
+numbers l = l .before .before .args .words .now
 
 loop-again : tie.Need-loop-again Inv-loop μ-loop
 loop-again c =
-    let start = c .before .before .before .before .before .before in
-    let turn = c .before .before .before .before in
-    let ws = start .args .words .now in
-    let i = turn .loop .i in
-    let len = rw (c .before .wide .ensures .0) at (c .digits-len .ensures) in
-    let next = drop-next 0 ws i (c .before .before .before .loop-test .taken) in (
-      omega arith,
-      omega (arith, len, turn .loop .inv .1, ap (λ l. length (fields l)) next, length-append (field (getD ws i 0)) (fields (drop (i + 1) ws))),
-    )
+    let l = turn c in
+    let ws = numbers l in
+    let i = l .loop .i in
+    let next = drop-next 0 ws i (omega arith) in
+    let long = rw (c .before .wide .ensures .0) at (c .digits-len .ensures) in
+    (omega arith, omega (arith, ap (λ r. length (fields r)) next, length-append (field (getD ws i 0)) (fields (drop (i + 1) ws))))
 
 returns : tie.Need-returns Inv-loop μ-loop
-returns c =
-    let start = c .before .before .before in
-    let none = drop-of-length-le (start .args .words .now) (c .loop-test .left) in
-    omega (arith, c .before .loop .inv .1, ap (λ l. length (fields l)) none)
+returns c = omega (arith, ap (λ r. length (fields r)) (drop-of-length-le (numbers (c .before)) (c .loop-test .left)))
 
 pub fields-len-spec : {M : Type 1} → statement M
 fields-len-spec =
@@ -60,13 +42,13 @@ fields-len-spec =
     (tie.spec
     Inv-loop
     μ-loop
-    loop-holds
+    (λ c. (omega arith, omega arith))
     (λ c. search needs)
     (λ c. search needs)
     (λ c κs. search needs)
     (λ c κs. search needs)
-    add-k
-    add-k-2
+    (λ c. omega (arith, digits-length (c .before .wide .result)))
+    (λ c. omega (arith, digits-length (c .before .wide .result), fields-length (numbers (turn c))))
     (λ c. search needs)
     (λ c. search needs)
     loop-again

@@ -1,11 +1,11 @@
 -- `fields::put_fields` meets its contract, field by field. Assumes nothing.
-use Prim.Native.Nat.{_≤_, _-_, _+_}
+use mathlib.Core.List.{List}
+use Prim.Native.Nat.{ℕ, _≤_, _-_}
 use native.Mathlib.Omega.{arith}
-use lib.ListN.{length, drop, getD, drop-of-length-le}
+use lib.ListN.{length, drop}
 use borrow.Author.Needs.{needs}
-use Rattle.words.proofs.Loops.{drop-next}
+use Rattle.words.proofs.Writing.{Left, left-starts, left-item, left-item-fits, left-items}
 use Rattle.printing.specs.Fields.{field, fields}
-use Rattle.words.proofs.Writing.{Left, left-starts, left-goes, left-fits, left-ends}
 use Rattle.printing.proofs.fields.put_fields.Statement.{statement}
 use Rattle.printing.proofs.fields.put_fields.Tie as tie
 
@@ -15,35 +15,29 @@ Inv-loop buf₀ at words cur₀ i₀ buf cur i = (i ≤ length words) × Left at
 abbrev μ-loop : tie.MeasureT-loop
 μ-loop buf₀ at words cur₀ i₀ buf cur i = length words - i
 
+abbrev turn : tie.After-wide Inv-loop μ-loop → tie.At-loop Inv-loop μ-loop
+turn c = c .before .before .before .before
+
+abbrev numbers : tie.At-loop Inv-loop μ-loop → List ℕ
+numbers l = l .before .before .before .args .words .now
+
 loop-holds : tie.Need-loop-holds Inv-loop μ-loop
-loop-holds c =
-    let start = c .before .before in
-    (omega arith, left-starts (start .args .at) (fields (start .args .words .now)) (start .args .buf .now) (start .pre))
+loop-holds c = (omega arith, left-starts _ _ _ (c .before .before .pre))
 
 put-field-requires : tie.Need-put-field-requires Inv-loop μ-loop
 put-field-requires c κs =
-    let start = c .before .before .before .before .before .before .before in
-    let turn = c .before .before .before .before in
-    let ws = start .args .words .now in
-    let i = turn .loop .i in
-    let rest = rw (drop-next 0 ws i (c .before .before .before .loop-test .taken)) at (turn .loop .inv .1) in
-    rw (c .wide .ensures .0) (left-fits (field (getD ws i 0)) (fields (drop (i + 1) ws)) rest)
+    let l = turn c in
+    rw (c .wide .ensures .0) (left-item-fits field 0 (numbers l) (l .loop .i) (omega arith) (l .loop .inv .1))
 
 loop-again : tie.Need-loop-again Inv-loop μ-loop
 loop-again c =
-    let start = c .before .before .before .before .before .before .before .before .before .before in
-    let turn = c .before .before .before .before .before .before .before in
-    let ws = start .args .words .now in
-    let i = turn .loop .i in
-    let rest = rw (drop-next 0 ws i (c .before .before .before .before .before .before .loop-test .taken)) at (turn .loop .inv .1) in
-    let put = rw (c .before .before .before .wide .ensures .0) at (c .before .before .put-field .ensures) in
-    (omega arith, left-goes (field (getD ws i 0)) (fields (drop (i + 1) ws)) _ _ rest put)
-
-same-length : tie.Need-same-length Inv-loop μ-loop
-same-length c = c .before .loop .inv .1 .same
+    let w = c .before .before .before in
+    let l = turn w in
+    let put = rw (w .wide .ensures .0) at (c .before .before .put-field .ensures) in
+    (omega arith, left-item field 0 (numbers l) (l .loop .i) (omega arith) (l .loop .inv .1) _ _ put)
 
 returns : tie.Need-returns Inv-loop μ-loop
-returns c = left-ends (rw (drop-of-length-le (c .before .before .before .before .args .words .now) (c .loop-test .left)) at (c .before .loop .inv .1))
+returns c = let l = c .before in left-items field (numbers l) (l .loop .i) (omega arith) (l .loop .inv .1)
 
 pub put-fields-spec : {M : Type 1} → statement M
 put-fields-spec =
@@ -59,5 +53,5 @@ put-fields-spec =
     (λ c. search needs)
     (λ c. search needs)
     loop-again
-    same-length
+    (λ c. c .before .loop .inv .1 .same)
     returns)

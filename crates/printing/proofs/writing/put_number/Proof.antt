@@ -1,9 +1,9 @@
 -- `writing::put_number` meets its contract: with the digits of the rest placed, the buffer has the number's. Assumes nothing.
 use mathlib.Core.Path.{refl, ap, _∙_, sym, _≡_}
-use mathlib.Core.List.{List, [], _∷_, _++_}
-use Prim.Native.Nat.{_/_, ℕ, _≤_, _<_, _-_, _+_}
+use mathlib.Core.List.{[], _∷_, _++_}
+use Prim.Native.Nat.{_/_, _≤_, _<_, _-_, _+_}
 use native.Mathlib.Omega.{arith}
-use lib.ListN.{length-append, length-set, length, set}
+use lib.ListN.{length-append, length-set, length}
 use borrow.Author.Needs.{needs}
 use Rattle.words.specs.Placed.{placed}
 use Rattle.words.proofs.Placed.{placed-one, placed-last}
@@ -13,73 +13,46 @@ use Rattle.printing.proofs.writing.put_number.Statement.{statement}
 use Rattle.printing.proofs.writing.put_number.Tie as tie
 
 abbrev Inv-loop : tie.InvT-loop
-Inv-loop buf₀ at n end i₀ rest₀ buf i rest = (i ≡ at + length (digits rest)) × (i ≤ end) × (length buf ≡ length buf₀) × (rest < 18446744073709551616) × (placed at (digits rest) buf ≡ placed at (digits n) buf₀)
+Inv-loop buf₀ at n end i₀ rest₀ buf i rest =
+    (i ≡ at + length (digits rest)) × (i ≤ end) × (length buf ≡ length buf₀) × (rest < 18446744073709551616)
+    × (placed at (digits rest) buf ≡ placed at (digits n) buf₀)
 
 abbrev μ-loop : tie.MeasureT-loop
 μ-loop buf₀ at n end i₀ rest₀ buf i rest = rest
 
-add-end : tie.Need-add-end Inv-loop μ-loop
-add-end c = omega (arith, c .digits-len .ensures, c .before .before .pre)
-
 loop-holds : tie.Need-loop-holds Inv-loop μ-loop
 loop-holds c = (omega (arith, c .digits-len .ensures), omega arith, refl, omega arith, refl)
 
-sub-i : tie.Need-sub-i Inv-loop μ-loop
-sub-i c = omega (arith, digits-some (c .before .loop .rest) (omega (arith, c .before .loop .inv .3)), c .before .loop .inv .0)
-
-slice-write-buf : tie.Need-slice-write-buf Inv-loop μ-loop
-slice-write-buf c =
-    let turn = c .before .before in
-    omega (arith, digits-some (turn .loop .rest) (omega (arith, turn .loop .inv .3)), turn .loop .inv .0, turn .loop .inv .1, turn .loop .inv .2, c .before .before .before .digits-len .ensures, c .before .before .before .before .before .pre)
+-- the rest has a digit, and its place is within the buffer
+digit-fits : (c : tie.At-loop Inv-loop μ-loop) → (0 < length (digits (c .loop .rest))) × (c .loop .i ≤ length (c .loop .buf))
+digit-fits c = (digits-some (c .loop .rest) (omega arith), omega arith)
 
 loop-again : tie.Need-loop-again Inv-loop μ-loop
 loop-again c =
-    let start = c .before .before .before .before .before in
-    let turn = c .before .before in
-    let rest = turn .loop .rest in
-    let at = start .args .at in
-    let buf = turn .loop .buf in
+    let l = c .before .before in
+    let at = l .before .before .before .args .at in
+    let rest = l .loop .rest in
+    let buf = l .loop .buf in
     let less = digits (rest / 10) in
-    let more : digits rest ≡ less ++ digit rest ∷ [] = digits-more rest (omega arith) (omega (arith, turn .loop .inv .3)) in
+    let more : digits rest ≡ less ++ digit rest ∷ [] = digits-more rest (omega arith) (omega arith) in
     let long : length (digits rest) ≡ length less + 1 = ap length more ∙ length-append less (digit rest ∷ []) in
-    let place : turn .loop .i - 1 ≡ at + length less = omega (arith, turn .loop .inv .0) in
-    let room : at + length less < length buf = omega (arith, turn .loop .inv .0, turn .loop .inv .1, turn .loop .inv .2, c .before .before .before .digits-len .ensures, start .pre) in (
+    let place : l .loop .i - 1 ≡ at + length less = omega arith in (
       place,
-      omega (arith, turn .loop .inv .1),
-      length-set buf _ _ ∙ turn .loop .inv .2,
-      omega (arith, turn .loop .inv .3),
-      ap (λ (k : ℕ). placed at less (set buf k (c .digit-byte .result))) place
-          ∙ ap (λ (b : ℕ). placed at less (set buf (at + length less) b)) (c .digit-byte .ensures)
-          ∙ sym (placed-last at less (digit rest) buf room)
-          ∙ ap (λ (l : List ℕ). placed at l buf) (sym more)
-          ∙ turn .loop .inv .4,
+      omega arith,
+      length-set buf _ _ ∙ l .loop .inv .2,
+      omega arith,
+      rw (place, c .digit-byte .ensures) (sym (placed-last at less (digit rest) buf (omega (arith, digit-fits l)))) ∙ rw more at (l .loop .inv .4),
     )
-
-slice-write-buf-2 : tie.Need-slice-write-buf-2 Inv-loop μ-loop
-slice-write-buf-2 c =
-    let turn = c .before .before in
-    omega (arith, digits-some (turn .loop .rest) (omega (arith, turn .loop .inv .3)), turn .loop .inv .0, turn .loop .inv .1, turn .loop .inv .2, c .before .before .before .digits-len .ensures, c .before .before .before .before .before .pre)
-
-same-length : tie.Need-same-length Inv-loop μ-loop
-same-length c =
-    let turn = c .before .before in
-    length-set (turn .loop .buf) _ _ ∙ turn .loop .inv .2
 
 returns : tie.Need-returns Inv-loop μ-loop
 returns c =
-    let start = c .before .before .before .before .before in
-    let turn = c .before .before in
-    let rest = turn .loop .rest in
-    let at = start .args .at in
-    let buf = turn .loop .buf in
-    let room : at < length buf = omega (arith, digits-some (start .args .n) (omega arith), turn .loop .inv .2, start .pre) in
+    let l = c .before .before in
+    let at = l .before .before .before .args .at in
+    let rest = l .loop .rest in
+    let one : digits rest ≡ digit rest ∷ [] = digits-one rest (omega arith) in
     record {
-      place = omega (arith, c .before .before .before .digits-len .ensures);
-      content =
-          ap (set buf at) (c .digit-byte2 .ensures)
-          ∙ placed-one at (digit rest) buf room
-          ∙ ap (λ (l : List ℕ). placed at l buf) (sym (digits-one rest (omega arith)))
-          ∙ turn .loop .inv .4;
+      place = omega arith;
+      content = rw (c .digit-byte2 .ensures) (placed-one at (digit rest) (l .loop .buf) (omega (arith, digit-fits l))) ∙ rw one at (l .loop .inv .4);
     }
 
 pub put-number-spec : {M : Type 1} → statement M
@@ -89,14 +62,14 @@ put-number-spec =
     Inv-loop
     μ-loop
     (λ c κs. search needs)
-    add-end
+    (λ c. omega arith)
     loop-holds
-    sub-i
+    (λ c. omega (arith, digit-fits (c .before)))
     (λ c κs. search needs)
-    slice-write-buf
+    (λ c. omega (arith, digit-fits (c .before .before)))
     (λ c. omega arith)
     loop-again
     (λ c κs. search needs)
-    slice-write-buf-2
-    same-length
+    (λ c. omega (arith, digit-fits (c .before .before)))
+    (λ c. length-set (c .before .before .loop .buf) _ _ ∙ c .before .before .loop .inv .2)
     returns)

@@ -29,8 +29,11 @@ loop-again : tie.Need-loop-again Inv-loop μ-loop
 loop-again c =
     let l = c .before .before .loop in
     let b = start (c .before .before) .args .b .now in
-    let next = words-next b (l .from) (l .left) (c .before .loop-test .taken) in
-    (omega arith, simp length-set (omega arith), rw (c .word16 .ensures) (left-word (word16 b (l .from)) (wordsFrom b (l .from + 2) (l .left - 1)) _ refl (rw next at (l .inv .2))))
+    let next = words-next b (l .from) (l .left) (c .before .loop-test .taken) in (
+      omega arith,
+      simp length-set (omega arith),
+      rw (c .word16 .ensures) (left-word (word16 b (l .from)) (wordsFrom b (l .from + 2) (l .left - 1)) _ refl (rw next at (l .inv .2))),
+    )
 
 returns : tie.Need-returns Inv-loop μ-loop
 returns c =

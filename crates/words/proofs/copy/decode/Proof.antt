@@ -7,8 +7,8 @@ use Rattle.words.proofs.copy.decode.Tie as tie
 
 returns : tie.Need-returns
 returns c =
-    let b = c .before .before .before .before .before .before .args .b .now in
-    rw (← words-all b, placed-first, words-count) at (c .before .before .copy16 .ensures)
+    let call = c .before .before in
+    rw (← words-all (call .before .before .before .before .args .b .now), placed-first, words-count) at (call .copy16 .ensures)
 
 pub decode-spec : {M : Type 1} → statement M
 decode-spec = tie.close (tie.spec (λ c κs. search needs) (λ c. search needs) returns)

@@ -28,7 +28,8 @@ loop-again c =
     let words = c .before .before .before .args .words .now in
     let w = getD words (l .p) 0 in
     let rest = bytesOf (drop (l .p + 1) words) in
-    let low = left-word (w % 256) ((w / 256 % 256) ∷ rest) (l .p * 2 + 1) refl (rw (drop-next 0 words (l .p) (c .before .loop-test .taken)) at (l .inv .2)) in
+    let low =
+    left-word (w % 256) ((w / 256 % 256) ∷ rest) (l .p * 2 + 1) refl (rw (drop-next 0 words (l .p) (c .before .loop-test .taken)) at (l .inv .2)) in
     (omega arith, simp length-set (l .inv .1), left-word (w / 256 % 256) rest _ (omega arith) low)
 
 returns : tie.Need-returns Inv-loop μ-loop
