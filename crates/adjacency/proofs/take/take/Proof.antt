@@ -12,9 +12,8 @@ bad-sign-requires c κs =
 
 returns : tie.Need-returns
 returns c =
-    let a = c .before .before .before .args in
     let pre = c .before .before .before .pre in (
-      sym (refused-6 (a .size) (a .d) (a .v) (a .s) (a .words .now) (pre .0 .1) (pre .0 .4) (sym (c .before .bad-sign .ensures) ∙ c .if1 .taken)),
+      sym (refused-6 _ _ _ _ _ (pre .0 .1) (pre .0 .4) (sym (c .before .bad-sign .ensures) ∙ c .if1 .taken)),
       (λ z. absurd (omega (arith, z))),
     )
 
@@ -30,14 +29,11 @@ beyond-requires c κs =
 
 returns-2 : tie.Need-returns-2
 returns-2 c =
-    let a = c .before .before .before .before .before .before .before .before .before .args in
     let pre = c .before .before .before .before .before .before .before .before .before .pre in
     let rows = c .before .before .before .gather .last .1 .1 .1 .1 .0 in
     let signs = c .before .before .before .gather .last .1 .1 .1 .1 .1 .0 in (
-      sym (refused-7 (a .size) (a .d) (a .v) (a .s) (a .words .now) (pre .0 .1) (pre .0 .4) rows signs (pre .0 .3)
-          (pre .0 .0) (c .before .before .before .gather .ensures .0 .0) (c .before .before .before .gather .ensures .1)
-          (sym (c .before .before .before .before .before .before .before .bad-sign .ensures)
-          ∙ c .before .before .before .before .before .before .if1 .left) (sym (c .before .beyond .ensures) ∙ c .if2 .taken)),
+      sym (refused-7 _ _ _ _ _ (pre .0 .1) (pre .0 .4) rows signs (pre .0 .3) (pre .0 .0) (cc) (c .before .before .before .gather .ensures .1)
+          (cc) (sym (c .before .beyond .ensures) ∙ c .if2 .taken)),
       (λ z. absurd (omega (arith, z))),
     )
 
@@ -48,17 +44,11 @@ any-falls-requires c κs =
 
 returns-3 : tie.Need-returns-3
 returns-3 c =
-    let a = c .before .before .before .before .before .before .before .before .before .before .before .before .args in
     let pre = c .before .before .before .before .before .before .before .before .before .before .before .before .pre in
     let rows = c .before .before .before .before .before .before .gather .last .1 .1 .1 .1 .0 in
     let signs = c .before .before .before .before .before .before .gather .last .1 .1 .1 .1 .1 .0 in (
-      sym (refused-8 (a .size) (a .d) (a .v) (a .s) (a .words .now) (pre .0 .1) (pre .0 .4) rows signs
-          (pre .0 .3) (pre .0 .0) (c .before .before .before .before .before .before .gather .ensures .0 .0)
-          (c .before .before .before .before .before .before .gather .ensures .1)
-          (sym (c .before .before .before .before .before .before .before .before .before .before .bad-sign .ensures)
-          ∙ c .before .before .before .before .before .before .before .before .before .if1 .left)
-          (sym (c .before .before .before .before .beyond .ensures) ∙ c .before .before .before .if2 .left)
-          (sym (c .before .any-falls .ensures) ∙ c .if3 .taken)),
+      sym (refused-8 _ _ _ _ _ (pre .0 .1) (pre .0 .4) rows signs (pre .0 .3) (pre .0 .0) (cc)
+          (c .before .before .before .before .before .before .gather .ensures .1) (cc) (cc) (sym (c .before .any-falls .ensures) ∙ c .if3 .taken)),
       (λ z. absurd (omega (arith, z))),
     )
 
@@ -76,18 +66,12 @@ returns-4 c =
     c .before .before .before .before .before .before .before .before .before .before .before .before .before .before .before .before .pre in
     let rows = c .before .before .before .before .before .before .before .before .before .before .gather .last .1 .1 .1 .1 .0 in
     let signs = c .before .before .before .before .before .before .before .before .before .before .gather .last .1 .1 .1 .1 .1 .0 in (
-      c .adjacent .ensures .0 ∙ sym (refused-rest (a .size) (a .d) (a .v) (a .s) (a .words .now) (pre .0 .1) (pre .0 .4) rows signs
-          (pre .0 .3) (pre .0 .0) (c .before .before .before .before .before .before .before .before .before .before .gather .ensures .0 .0)
-          (c .before .before .before .before .before .before .before .before .before .before .gather .ensures .1)
-          (sym (c .before .before .before .before .before .before .before .before .before .before .before .before .before .before .bad-sign .ensures)
-          ∙ c .before .before .before .before .before .before .before .before .before .before .before .before .before .if1 .left)
-          (sym (c .before .before .before .before .before .before .before .before .beyond .ensures)
-          ∙ c .before .before .before .before .before .before .before .if2 .left)
-          (sym (c .before .before .before .before .before .any-falls .ensures) ∙ c .before .before .before .before .if3 .left)),
+      c .adjacent .ensures .0 ∙ sym (refused-rest _ _ _ _ _ (pre .0 .1) (pre .0 .4) rows signs (pre .0 .3) (pre .0 .0) (cc)
+          (c .before .before .before .before .before .before .before .before .before .before .gather .ensures .1) (cc) (cc)
+          (sym (cc) ∙ c .before .before .before .before .if3 .left)),
       (λ z. record {
         wide = c .before .before .before .before .before .before .before .before .before .before .gather .ensures .0 .0;
-        cells = solid-held (a .size) (a .d) (a .v) (a .s) (a .words .now) (pre .0 .1) (pre .0 .4) rows signs (pre .0 .3)
-            (pre .0 .0) (c .before .before .before .before .before .before .before .before .before .before .gather .ensures .0 .0)
+        cells = solid-held _ _ (a .v) _ _ (pre .0 .1) (pre .0 .4) rows signs (pre .0 .3) (pre .0 .0) (cc)
             (c .before .before .before .before .before .before .before .before .before .before .gather .ensures .1);
         winged = c .adjacent .ensures .1 z;
       }),
