@@ -9,7 +9,7 @@ use Rattle.sweeping.proofs.reading.wing.Statement.{statement}
 use Rattle.sweeping.proofs.reading.wing.Tie as tie
 
 index : (c : tie.Start) → c .args .p * recordSize (c .args .d) + (c .args .d + 2 + c .args .a) < length (c .args .table .now)
-index c = omega (arith, c .pre .0, inside (c .args .s) (recordSize (c .args .d)) (c .args .p) (c .args .d + 2 + c .args .a) (c .pre .1) (omega arith))
+index c = omega (arith, c .pre .0, inside _ (recordSize (c .args .d)) _ (c .args .d + 2 + c .args .a) (c .pre .1) (omega arith))
 
 add-word : tie.Need-add-word
 add-word c = omega (arith, index (c .before))
@@ -22,9 +22,8 @@ word-requires c κs = (c .before .pre .0, c .before .pre .1, omega arith)
 
 returns : tie.Need-returns
 returns c =
-    let a = c .before .before .args in
     c .word .ensures
-    ∙ sym (solid-wing (a .d) (a .s) (a .table .now) (a .p) (c .before .before .pre .1) (a .a) (c .before .before .pre .2) (c .before .before .pre .0))
+    ∙ sym (solid-wing _ _ _ _ (c .before .before .pre .1) _ (c .before .before .pre .2) (c .before .before .pre .0))
 
 pub wing-spec : {M : Type 1} → statement M
 wing-spec = tie.close (tie.spec add-word add-word-2 word-requires returns)

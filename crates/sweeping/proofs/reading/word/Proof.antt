@@ -9,10 +9,10 @@ use Rattle.sweeping.proofs.reading.word.Statement.{statement}
 use Rattle.sweeping.proofs.reading.word.Tie as tie
 
 index : (c : tie.Start) → c .args .p * recordSize (c .args .d) + c .args .j < length (c .args .table .now)
-index c = omega (arith, c .pre .0, inside (c .args .s) (recordSize (c .args .d)) (c .args .p) (c .args .j) (c .pre .1) (c .pre .2))
+index c = omega (arith, c .pre .0, inside _ (recordSize _) _ _ (c .pre .1) (c .pre .2))
 
 one : (c : tie.Start) → recordSize (c .args .d) ≤ length (c .args .table .now)
-one c = omega (arith, c .pre .0, inside (c .args .s) (recordSize (c .args .d)) (c .args .p) (c .args .d + c .args .d + 2) (c .pre .1) (omega arith))
+one c = omega (arith, c .pre .0, inside _ (recordSize (c .args .d)) _ (c .args .d + c .args .d + 2) (c .pre .1) (omega arith))
 
 add-result : tie.Need-add-result
 add-result c = omega (arith, index c, one c)
@@ -34,7 +34,7 @@ shared-slice-read-result c = index (c .before)
 
 returns : tie.Need-returns
 returns c =
-    sym (part-at (recordSize (c .before .args .d)) (c .before .args .p) (c .before .args .j) (c .before .args .table .now) (c .before .pre .2))
+    sym (part-at (recordSize _) _ _ _ (c .before .pre .2))
 
 pub word-spec : {M : Type 1} → statement M
 word-spec =

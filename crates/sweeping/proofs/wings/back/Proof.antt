@@ -20,12 +20,12 @@ abbrev μ-loop : tie.MeasureT-loop
 
 small : (c : tie.Start Inv-loop μ-loop) → c .args .d < length (c .args .table .now)
 small c =
-    omega (arith, c .pre .0, inside (c .args .s) (recordSize (c .args .d)) (c .args .q) (c .args .d) (c .pre .1) (omega arith))
+    omega (arith, c .pre .0, inside _ (recordSize (c .args .d)) _ (c .args .d) (c .pre .1) (omega arith))
 
 loop-holds : tie.Need-loop-holds Inv-loop μ-loop
 loop-holds c =
     let a = c .before .args in
-    (omega arith, back-start (solidWing (a .d) (a .s) (a .table .now)) (a .p) (a .q) (a .d))
+    (omega arith, back-start (solidWing _ _ _) _ _ (a .d))
 
 wing-requires : tie.Need-wing-requires Inv-loop μ-loop
 wing-requires c κs = search needs
@@ -36,9 +36,8 @@ wide-requires c κs = search needs
 returns : tie.Need-returns Inv-loop μ-loop
 returns c =
     let at = c .before .before .before .before in
-    let a = at .before .before .args in
     let b = at .loop .b in
-    sym (at .loop .inv .1 ∙ back-here (solidWing (a .d) (a .s) (a .table .now)) (a .p) (a .q) (a .d) b (c .before .before .before .loop-test .taken)
+    sym (at .loop .inv .1 ∙ back-here (solidWing _ _ _) _ _ _ b (omega arith)
     (sym (c .before .before .wing .ensures) ∙ sym (c .before .wide .ensures) ∙ c .if1 .taken))
 
 add-b : tie.Need-add-b Inv-loop μ-loop
@@ -55,14 +54,13 @@ loop-again c =
     let n : solidWing (a .d) (a .s) (a .table .now) (a .q) b ≡ a .p → ⊥ =
     λ e. c .if1 .left (c .before .wide .ensures ∙ c .before .before .wing .ensures ∙ e) in (
       omega arith,
-      at .loop .inv .1 ∙ back-next (solidWing (a .d) (a .s) (a .table .now)) (a .p) (a .q) (a .d) b (c .before .before .before .loop-test .taken) n,
+      at .loop .inv .1 ∙ back-next (solidWing _ _ _) _ _ _ b (omega arith) n,
     )
 
 returns-2 : tie.Need-returns-2 Inv-loop μ-loop
 returns-2 c =
     let at = c .before in
-    let a = at .before .before .args in
-    sym (at .loop .inv .1 ∙ back-end (solidWing (a .d) (a .s) (a .table .now)) (a .p) (a .q) (a .d) (at .loop .b) (c .loop-test .left))
+    sym (at .loop .inv .1 ∙ back-end (solidWing _ _ _) _ _ _ _ (c .loop-test .left))
 
 pub back-spec : {M : Type 1} → statement M
 back-spec =
