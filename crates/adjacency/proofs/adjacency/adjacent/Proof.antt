@@ -1,7 +1,7 @@
 -- Each return is a case of the laws of Faults. Assumes nothing.
 --   held              the cells that are held
 --   after-pair        what pairing found, in the words of those laws
-use mathlib.Core.Bool.{Bool, true, false}
+use mathlib.Core.Bool.{true, false}
 use mathlib.Core.List.{List, []}
 use mathlib.Core.Path.{_≡_, refl, sym, ap, _∙_}
 use Prim.Native.Nat.{ℕ, _+_, _*_}

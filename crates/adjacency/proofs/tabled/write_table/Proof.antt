@@ -1,7 +1,7 @@
 -- `write_table` answers `tableRefusal` and leaves `tableAfter`: each return is a case of the laws of Tabling. Assumes nothing.
 use mathlib.Core.Bool.{Bool, false}
-use mathlib.Core.Path.{refl, sym, _∙_}
-use Prim.Native.Nat.{ℕ, _+_, _*_, _≤_}
+use mathlib.Core.Path.{_∙_}
+use Prim.Native.Nat.{ℕ, _+_, _≤_}
 use native.Mathlib.Nat.{mul-le-mul}
 use native.Mathlib.Omega.{arith}
 use lib.ListN.{length, length-replicate}
