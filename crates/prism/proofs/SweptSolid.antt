@@ -135,7 +135,8 @@ pub swept-solid : (nv h : ℕ) (cs : List Cell) → Solid nv cs → Solid (suc h
 swept-solid nv h cs s = record {
   rows = all-sweep (Good (suc h * nv)) (Good nv) nv h cs (s .rows) (λ i v l g k hk. good-cell nv h i k v l (g .1) hk);
   asc =
-      all-sweep Asc (λ v. Good nv v × Asc v) nv h cs (All-both (Good nv) Asc cs (s .rows) (s .asc)) (λ i v l g k hk. asc-cell nv i k v (g .0 .1) (g .1));
+      all-sweep Asc (λ v. Good nv v × Asc v) nv h cs (All-both (Good nv) Asc cs (s .rows) (s .asc))
+      (λ i v l g k hk. asc-cell nv i k v (g .0 .1) (g .1));
   distinct = λ w. omega (
     arith,
     sweep-once nv h w cs (s .rows),

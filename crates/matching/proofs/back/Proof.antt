@@ -65,46 +65,51 @@ same-key-requires c κs =
       omega (arith, div-lt-iff-lt-mul {y = 4096} (s .pre .0 .0 .some) .1 (s .pre .0 .2)),
     )
 
+-- the turn in which two keys are compared, and the call's start
+abbrev turn : tie.After-same-key Inv-loop μ-loop → tie.In-loop Inv-loop μ-loop
+turn c = c .before .before .before .before
+
+abbrev start : tie.After-same-key Inv-loop μ-loop → tie.Start Inv-loop μ-loop
+start c = turn c .before .before .before .before
+
 -- the keys as the comparison sees them
 abbrev keys : (c : tie.After-same-key Inv-loop μ-loop) → ℕ → Row
-keys c =
-    let a = c .before .before .before .before .before .before .before .before .args in keyRow (a .rows .now) (a .k) (a .w) (a .first)
+keys c = let a = start c .args in keyRow (a .rows .now) (a .k) (a .w) (a .first)
 
 -- the comparison is that of the two keys
-compares : (c : tie.After-same-key Inv-loop μ-loop) → c .same-key .result ≡ sameRow (keys c (c .before .before .before .before .before .loop .f))
-    (keys c (c .before .before .before .before .before .before .before .before .args .g))
+compares : (c : tie.After-same-key Inv-loop μ-loop) →
+    c .same-key .result ≡ sameRow (keys c (turn c .before .loop .f)) (keys c (start c .args .g))
 compares c =
-    let a = c .before .before .before .before .before .before .before .before .args in
+    let a = start c .args in
     let x = c .before .before .before .place-of2 in
-    let y = c .before .before .before .before .before .before .before .place-of in
+    let y = turn c .before .before .before .place-of in
     compared (a .rows .now) (a .k) _ (a .first) _ _ _ _ _ _ (x .ensures .0) (x .ensures .1) (y .ensures .0) (y .ensures .1) _ (c .same-key .ensures)
 
 returns : tie.Need-returns Inv-loop μ-loop
 unfolding earlier
 returns c =
     let b = c .before in
-    let l = b .before .before .before .before .before .loop in
-    sym (walk-found (keys b) _ _ (l .inv) (omega arith) (sym (compares b) ∙ c .if1 .taken))
+    sym (walk-found (keys b) _ _ (turn b .before .loop .inv) (omega arith) (sym (compares b) ∙ c .if1 .taken))
 
 mul-f-2 : tie.Need-mul-f-2 Inv-loop μ-loop
-mul-f-2 c = omega (arith, lower (c .before .before .before .before .before))
+mul-f-2 c = omega (arith, lower (turn (c .before)))
 
 element-copy-out-f-2 : tie.Need-element-copy-out-f-2 Inv-loop μ-loop
-element-copy-out-f-2 c = omega (arith, lower (c .before .before .before .before .before))
+element-copy-out-f-2 c = omega (arith, lower (turn (c .before)))
 
 loop-less : tie.Need-loop-less Inv-loop μ-loop
 loop-less c =
     let b = c .before .before in
-    let s = b .before .before .before .before .before .before .before .before in
-    let h = lower (b .before .before .before .before) in
+    let s = start b in
+    let h = lower (turn b) in
     rank-less (keys b) _ _ _ (omega arith) (s .pre .1 _ (omega arith))
 
 loop-again : tie.Need-loop-again Inv-loop μ-loop
 loop-again c =
     let b = c .before .before in
-    let s = b .before .before .before .before .before .before .before .before in
-    let l = b .before .before .before .before .before .loop in
-    let h = lower (b .before .before .before .before) in
+    let s = start b in
+    let l = turn b .before .loop in
+    let h = lower (turn b) in
     walk-next (keys b) _ _ _ (omega arith) (l .inv) (omega arith) (sym (compares b) ∙ c .before .if1 .left) (s .pre .1 _ (omega arith))
 
 returns-2 : tie.Need-returns-2 Inv-loop μ-loop
