@@ -9,7 +9,7 @@ use native.Mathlib.Nat.{add-zero, mul-le-mul}
 use lib.ListN.{length, getD, take}
 use lib.Dec.{leb}
 use lib.Seq.{length-take-le}
-use Rattle.words.specs.Records.{part}
+use Rattle.words.specs.Records.{part, anyBelow}
 use Rattle.words.proofs.Records.{tabulate-at, tabulate-length}
 use Rattle.simplex.specs.Cell.{Cell, Row, Sign, alternating, cell, times}
 use Rattle.simplex.specs.Chain.{total}
@@ -21,8 +21,8 @@ use Rattle.complex.specs.Accept.{cellTwice, crowdedFace, equalSigns}
 use Rattle.adjacency.specs.Held.{Blank, Winged, cellHeld, falls, heldCells}
 use Rattle.matching.specs.Matching.{earlier}
 use Rattle.adjacency.specs.Pairing.{faceCount, keySign, paired, twinAt}
-use Rattle.adjacency.specs.Scan.{anyBelow, seenAt, seenLike, seenTwice}
-use Rattle.adjacency.proofs.Below.{below-ext, below-not}
+use Rattle.adjacency.specs.Scan.{seenAt, seenLike, seenTwice}
+use Rattle.words.proofs.Below.{below-ext, below-not}
 use Rattle.complex.proofs.Codec.{part-length}
 use Rattle.adjacency.proofs.FaceKeys.{Holds, earlier-prev, facet-cell, facets-length, key-cell, key-face}
 use Rattle.matching.proofs.KeptRows.{cell-at}

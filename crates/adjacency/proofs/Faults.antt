@@ -7,13 +7,14 @@ use Prim.Native.Nat.{ℕ, _+_, _*_, _≤_, _<_}
 use native.Mathlib.Omega.{arith}
 use native.Mathlib.Numerals.{add-one}
 use lib.ListN.{length, getD}
+use Rattle.words.specs.Records.{anyBelow}
 use Rattle.simplex.specs.Cell.{Sign}
 use Rattle.simplex.specs.Faces.{facets}
 use Rattle.complex.specs.Accept.{cellTwice, crowdedFace, equalSigns}
 use Rattle.adjacency.specs.Held.{Blank, Winged, falls, faults, heldCells}
 use Rattle.matching.specs.Matching.{earlier}
 use Rattle.adjacency.specs.Pairing.{faceCount, keySign, paired, twinAt}
-use Rattle.adjacency.specs.Scan.{anyBelow, seenAt, seenLike, seenTwice}
+use Rattle.adjacency.specs.Scan.{seenAt, seenLike, seenTwice}
 use Rattle.adjacency.proofs.Adjacent.{cells-twice, faces-crowded, faces-equal, faces-paired, faces-twins}
 
 module _ (d s : ℕ) (rows : List ℕ) (signs : List Sign) (hd : d ≤ 7) (hs : s ≤ 4096) (wide : length rows ≡ 32768) where

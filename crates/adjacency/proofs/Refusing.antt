@@ -9,7 +9,7 @@ use lib.Dec.{leb, ltb}
 use lib.ListN.{length, getD, take, drop, length-drop}
 use lib.Seq.{length-take-le, getD-take, getD-drop}
 use borrow.Author.Tests.{leb-true, leb-false, lt-ltb, le-ltb}
-use Rattle.words.specs.Records.{anyOf, part, tabulate}
+use Rattle.words.specs.Records.{anyOf, part, tabulate, anyBelow}
 use Rattle.words.proofs.Records.{EachLong, part-concat, tabulate-at, tabulate-ext, tabulate-length, tabulate-map}
 use Rattle.rules.specs.Calls.{firstRefusal}
 use Rattle.rules.specs.Limits.{within}
@@ -19,9 +19,8 @@ use Rattle.simplex.proofs.Insert.{Each}
 use Rattle.complex.specs.Accept.{Listed, badSign, listedCells, repeats, solidOf, solidRules, vertexBeyond, vertexTwice}
 use Rattle.adjacency.specs.Held.{badAt, beyondAt, cellHeld, cellRead, falls, faults, heldCells, recordList}
 use Rattle.records.specs.Layout.{cellOf, listSize}
-use Rattle.adjacency.specs.Scan.{anyBelow}
 use Rattle.adjacency.proofs.Adjacent.{held-falls, held-vertex}
-use Rattle.adjacency.proofs.Below.{below-not, some-below, true-unless}
+use Rattle.words.proofs.Below.{below-not, some-below, true-unless}
 use Rattle.complex.proofs.Codec.{part-length}
 use Rattle.adjacency.proofs.SortedTests.{beyond-last, fallsIn, twice-falls}
 use Rattle.complex.proofs.Tests.{of-none, or-false}

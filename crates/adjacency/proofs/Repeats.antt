@@ -10,7 +10,7 @@ use native.Mathlib.Decide.{decLt}
 use lib.ListN.{length, getD}
 use lib.Dec.{ltb}
 use borrow.Author.Tests.{lt-ltb, ltb-true}
-use Rattle.words.specs.Records.{anyOf}
+use Rattle.words.specs.Records.{anyOf, anyBelow}
 use Rattle.rules.proofs.Tests.{and-parts}
 use Rattle.simplex.specs.Cell.{Cell, Row, Sign, sameRow, times}
 use Rattle.simplex.specs.Chain.{total}
@@ -19,8 +19,8 @@ use Rattle.simplex.proofs.Signs.{times-same, times-self}
 use Rattle.simplex.proofs.Sums.{plusOn, sumChain}
 use Rattle.complex.specs.Accept.{crowdedFace, equalSigns}
 use Rattle.matching.specs.Matching.{lastBelow}
-use Rattle.adjacency.specs.Scan.{anyBelow, seenAt, seenLike, seenTwice}
-use Rattle.adjacency.proofs.Below.{below-false, some-below, true-unless}
+use Rattle.adjacency.specs.Scan.{seenAt, seenLike, seenTwice}
+use Rattle.words.proofs.Below.{below-false, some-below, true-unless}
 use Rattle.matching.proofs.Earlier.{last-bounds}
 use Rattle.matching.proofs.LastBelow.{last-is}
 use Rattle.complex.proofs.Solid.{rowAt}

@@ -7,9 +7,10 @@ use native.Mathlib.Numerals.{add-one}
 use lib.Dec.{eqb}
 use lib.ListN.{length, getD, set}
 use borrow.Author.Tests.{lt-ltb, le-ltb}
+use Rattle.words.specs.Records.{anyBelow}
 use Rattle.simplex.specs.Cell.{Sign, alternating, times}
 use Rattle.adjacency.specs.Pairing.{Met, Pairing, keySign, paired, pairedAt, twinAt}
-use Rattle.adjacency.specs.Scan.{anyBelow, seenAt, seenLike, seenTwice}
+use Rattle.adjacency.specs.Scan.{seenAt, seenLike, seenTwice}
 use Rattle.adjacency.proofs.Mates.{paired-length}
 
 module _ (n : ℕ) (P : List ℕ) (g f : ℕ) (e : f ≡ getD P g 0) where

@@ -10,15 +10,14 @@ use lib.Dec.{eqb, leb}
 use lib.ListN.{length, getD}
 use lib.Seq.{take-all}
 use borrow.Author.Tests.{eqb-true, eq-eqb, le-leb, lt-leb, leb-true, leb-false}
-use Rattle.words.specs.Records.{anyOf}
+use Rattle.words.specs.Records.{anyOf, anyBelow}
 use Rattle.simplex.specs.Cell.{Row, one}
 use Rattle.simplex.specs.Order.{sorted}
 use Rattle.simplex.specs.Sort.{Asc, Up, occurs}
 use Rattle.simplex.proofs.Sorting.{sorted-ascends, sorted-length, sorted-occurs, sorted-up}
 use Rattle.simplex.proofs.Up.{up-reach}
 use Rattle.complex.specs.Accept.{repeats}
-use Rattle.adjacency.specs.Scan.{anyBelow}
-use Rattle.adjacency.proofs.Below.{below-false, none-below, true-unless}
+use Rattle.words.proofs.Below.{below-false, none-below, true-unless}
 use Rattle.complex.proofs.Tests.{asc-once, once-each, or-false}
 
 -- a test that fails at every vertex of a row fails at the row

@@ -11,6 +11,7 @@ use native.Mathlib.Nat.{div-add-mod', mul-le-mul-right}
 use lib.Dec.{eqb}
 use lib.ListN.{length, getD}
 use borrow.Author.Tests.{eq-eqb, eqb-true}
+use Rattle.words.specs.Records.{anyBelow}
 use Rattle.rules.proofs.Tests.{and-parts}
 use Rattle.simplex.specs.Cell.{Cell, Row}
 use Rattle.simplex.specs.Chain.{total}
@@ -19,8 +20,8 @@ use Rattle.simplex.proofs.Counts.{All}
 use Rattle.simplex.proofs.Rows.{Long, same-rows, sameRow-true}
 use Rattle.complex.specs.Accept.{cellTwice}
 use Rattle.adjacency.specs.Pairing.{twinAt}
-use Rattle.adjacency.specs.Scan.{anyBelow, seenAt}
-use Rattle.adjacency.proofs.Below.{below-false, some-below, true-unless}
+use Rattle.adjacency.specs.Scan.{seenAt}
+use Rattle.words.proofs.Below.{below-false, some-below, true-unless}
 use Rattle.adjacency.proofs.FaceKeys.{facet-cell, facets-length, key-inside}
 use Rattle.matching.proofs.Quotients.{cell-of-key, place-of-key}
 use Rattle.adjacency.proofs.Repeats.{Prev, and-both, is-seen, seen-is, seen-only}

@@ -19,13 +19,12 @@ use mathlib.Core.Path.{_≡_}
 use Prim.Native.Nat.{ℕ, suc, _+_, _*_, _-_, _<_}
 use lib.Dec.{leb, ltb}
 use lib.ListN.{length, take, getD, replicate}
-use Rattle.words.specs.Records.{tabulate, part, concat}
+use Rattle.words.specs.Records.{tabulate, part, concat, anyBelow}
 use Rattle.simplex.specs.Cell.{Row, Sign, Cell, cell}
 use Rattle.simplex.specs.Order.{ascending}
 use Rattle.simplex.specs.Faces.{without, facets}
 use Rattle.simplex.specs.SignWords.{signWord}
 use Rattle.records.specs.Layout.{empty, listSize, cellOf}
-use Rattle.adjacency.specs.Scan.{anyBelow}
 use Rattle.complex.specs.Accept.{Listed, solidOf, cellTwice, crowdedFace, equalSigns}
 use Rattle.complex.specs.Wings.{neighbour}
 

@@ -12,8 +12,9 @@ use mathlib.Core.List.{List}
 use Prim.Native.Nat.{ℕ, zero, suc, _*_, _/_, _%_}
 use lib.Dec.{eqb}
 use lib.ListN.{getD, set}
+use Rattle.words.specs.Records.{anyBelow}
 use Rattle.simplex.specs.Cell.{Sign, times, alternating}
-use Rattle.adjacency.specs.Scan.{anyBelow, seenAt, seenLike, seenTwice}
+use Rattle.adjacency.specs.Scan.{seenAt, seenLike, seenTwice}
 
 abbrev pub faceCount : ℕ → ℕ → ℕ
 faceCount zero s = 0

@@ -10,9 +10,10 @@ ghost use mathlib.Core.Path.{_≡_};
 ghost use Prim.Native.Nat.{_+_, _*_, _/_, _<_, _≤_};
 ghost use lib.Dec.{eqb};
 ghost use lib.ListN.{length, getD};
+ghost use Rattle.words.specs.Records.{anyBelow};
 ghost use Rattle.simplex.specs.Cell.{Sign, times, alternating};
 ghost use Rattle.complex.specs.Accept.{cellTwice};
-ghost use Rattle.adjacency.specs.Scan.{anyBelow, seenAt};
+ghost use Rattle.adjacency.specs.Scan.{seenAt};
 ghost use Rattle.adjacency.specs.Pairing.{Met, Pairing};
 ghost use Rattle.adjacency.specs.Held.{heldCells, falls, faults, Blank, Winged};
 

@@ -4,9 +4,9 @@ use mathlib.Core.Path.{_≡_, sym, _∙_}
 use Prim.Native.Nat.{ℕ, _-_, _≤_, _<_}
 use native.Mathlib.Omega.{arith}
 use borrow.Author.Count.{below-none, below-more}
+use Rattle.words.specs.Records.{anyBelow}
 use Rattle.adjacency.specs.Held.{falls, fallsAt}
-use Rattle.adjacency.specs.Scan.{anyBelow}
-use Rattle.adjacency.proofs.Below.{any-below, below-not, none-below, some-below}
+use Rattle.words.proofs.Below.{any-below, below-not, none-below, some-below}
 use Rattle.adjacency.proofs.gather.any_falls.Statement.{statement}
 use Rattle.adjacency.proofs.gather.any_falls.Tie as tie
 

@@ -8,7 +8,7 @@ use borrow.Author.Count.{below-none, below-more}
 use borrow.Author.Needs.{needs}
 use borrow.Author.Tests.{lt-ltb, le-ltb}
 use Rattle.adjacency.specs.Held.{badAt}
-use Rattle.adjacency.proofs.Below.{any-below, none-below}
+use Rattle.words.proofs.Below.{any-below, none-below}
 use Rattle.adjacency.proofs.gather.bad_sign.Statement.{statement}
 use Rattle.adjacency.proofs.gather.bad_sign.Tie as tie
 

@@ -8,7 +8,7 @@ use borrow.Author.Count.{below-none, below-more}
 use borrow.Author.Needs.{needs}
 use borrow.Author.Tests.{le-leb, lt-leb}
 use Rattle.adjacency.specs.Held.{beyondAt}
-use Rattle.adjacency.proofs.Below.{any-below, none-below}
+use Rattle.words.proofs.Below.{any-below, none-below}
 use Rattle.adjacency.proofs.gather.beyond.Statement.{statement}
 use Rattle.adjacency.proofs.gather.beyond.Tie as tie
 

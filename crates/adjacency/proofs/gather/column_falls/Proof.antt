@@ -6,7 +6,7 @@ use native.Mathlib.Omega.{arith}
 use borrow.Author.Count.{below-none, below-more}
 use borrow.Author.Tests.{le-leb, lt-leb}
 use Rattle.adjacency.specs.Held.{fallsAt}
-use Rattle.adjacency.proofs.Below.{any-below, none-below}
+use Rattle.words.proofs.Below.{any-below, none-below}
 use Rattle.adjacency.proofs.gather.column_falls.Statement.{statement}
 use Rattle.adjacency.proofs.gather.column_falls.Tie as tie
 

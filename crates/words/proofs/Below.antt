@@ -5,7 +5,7 @@ use mathlib.Core.Logic.{⊎-elim}
 use Prim.Native.Nat.{ℕ, zero, suc, _<_}
 use native.Mathlib.Omega.{arith}
 use native.Mathlib.Nat.{eq-or-lt-of-le, le-of-suc-le-suc, not-suc-le-zero}
-use Rattle.adjacency.specs.Scan.{anyBelow}
+use Rattle.words.specs.Records.{anyBelow}
 
 pub true-unless : (t : Bool) → (t ≡ false → ⊥) → t ≡ true
 true-unless true h = refl
