@@ -9,7 +9,7 @@ use native.Mathlib.Nat.{add-zero, mul-le-mul}
 use lib.ListN.{length, getD, take}
 use lib.Dec.{leb}
 use lib.Seq.{length-take-le}
-use Rattle.words.specs.Records.{part, tabulate, anyBelow}
+use Rattle.words.specs.Records.{part, anyBelow}
 use Rattle.words.proofs.Records.{tabulate-at, tabulate-length}
 use Rattle.simplex.specs.Cell.{Cell, Row, Sign, alternating, cell, times}
 use Rattle.simplex.specs.Chain.{total}
@@ -28,14 +28,11 @@ use Rattle.adjacency.proofs.FaceKeys.{Holds, earlier-prev, facet-cell, 
 use Rattle.matching.proofs.KeptRows.{cell-at}
 use Rattle.adjacency.proofs.Repeats.{Prev, crowded-seen, equal-seen, twice-seen}
 use Rattle.adjacency.proofs.SortedTests.{falls-not, fallsIn}
+use Rattle.complex.proofs.Solid.{all-tabulated}
 use Rattle.complex.proofs.Tables.{cellAt}
 use Rattle.complex.proofs.Tests.{few-of}
 use Rattle.adjacency.proofs.Twins.{Heads, twins-seen}
 use Rattle.adjacency.proofs.Winged.{facets-few, paired-winged}
-
-all-tabulated : (R : Row → Type 0) (n : ℕ) (f : ℕ → Cell) → ((p : ℕ) → p < n → R (f p .row)) → All R (tabulate n f)
-all-tabulated R zero f h = tt
-all-tabulated R (suc n) f h = (h 0 (omega arith), all-tabulated R n (λ p. f (suc p)) (λ p l. h (suc p) (omega arith)))
 
 module _ (d s : ℕ) (rows : List ℕ) (signs : List Sign) (hd : d ≤ 7) (hs : s ≤ 4096) (wide : length rows ≡ 32768) where
   abbrev cs : List Cell

@@ -21,7 +21,7 @@ use Rattle.simplex.specs.SignWords.{signWord}
 use Rattle.records.specs.Layout.{recordSize, tableLength}
 use Rattle.complex.proofs.Codec.{part-length}
 use Rattle.matching.proofs.KeptRows.{same-false}
-use Rattle.adjacency.proofs.Repeats.{same-rows}
+use Rattle.simplex.proofs.Rows.{same-rows}
 
 -- the words of a list are f 0, f 1, ..
 pub is-tabulated : (n : ℕ) (f : ℕ → ℕ) (xs : List ℕ) → length xs ≡ n → ((k : ℕ) → k < n → getD xs k 0 ≡ f k) → xs ≡ tabulate n f

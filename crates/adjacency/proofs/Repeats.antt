@@ -1,8 +1,8 @@
 -- Rows that stand twice or three times in a list of cells, told from the keys that were seen before: rows 9, 10 and 11.
 --   prevIn L g        the last cell before g with the row of cell g, or 65535
 --   Prev L P          the list P holds these numbers
-use mathlib.Core.Path.{_≡_, refl, sym, _∙_, subst}
-use mathlib.Core.Bool.{Bool, true, false, _&&_, false≢true}
+use mathlib.Core.Path.{_≡_, refl, sym, _∙_}
+use mathlib.Core.Bool.{Bool, true, false, _&&_}
 use mathlib.Core.List.{List}
 use Prim.Native.Nat.{ℕ, _≤_, _<_}
 use native.Mathlib.Omega.{arith}
@@ -14,7 +14,8 @@ use Rattle.words.specs.Records.{anyOf, anyBelow}
 use Rattle.rules.proofs.Tests.{and-parts}
 use Rattle.simplex.specs.Cell.{Cell, Row, Sign, sameRow, times}
 use Rattle.simplex.specs.Chain.{total}
-use Rattle.simplex.proofs.Rows.{sameRow-refl, sameRow-true}
+use Rattle.simplex.proofs.Rows.{same-rows, sameRow-true}
+use Rattle.simplex.proofs.Signs.{times-same, times-self}
 use Rattle.simplex.proofs.Sums.{plusOn, sumChain}
 use Rattle.complex.specs.Accept.{crowdedFace, equalSigns}
 use Rattle.matching.specs.Matching.{lastBelow}
@@ -33,20 +34,8 @@ prevIn L g = lastBelow (λ f. sameRow (rowAt L f) (rowAt L g)) g
 abbrev pub Prev : List Cell → List ℕ → Type 0
 Prev L P = (g : ℕ) → g < length L → getD P g 0 ≡ prevIn L g
 
-pub same-rows : (v w : Row) → v ≡ w → sameRow v w ≡ true
-same-rows v w e = subst (λ x. sameRow v x ≡ true) e (sameRow-refl v)
-
 pub and-both : (a b : Bool) → a ≡ true → b ≡ true → (a && b) ≡ true
 and-both a b e k = rw (e, k) refl
-
-pub times-self : (s : Sign) → times s s ≡ true
-times-self true = refl
-times-self false = refl
-
-pub times-same : (s t : Sign) → times s t ≡ true → s ≡ t
-times-same true t e = sym e
-times-same false true e = absurd (false≢true e)
-times-same false false e = refl
 
 module _ (L : List Cell) (P : List ℕ) (small : length L ≤ 32768) (prev : Prev L P) where
   -- what was seen before stands before, with the same row

@@ -2,15 +2,13 @@
 use mathlib.Core.Path.{_≡_, refl, sym, ap, ap₂, _∙_}
 use mathlib.Core.Bool.{Bool, false, _&&_, _||_}
 use mathlib.Core.List.{List}
-use Prim.Native.Nat.{ℕ, zero, suc, _/_, _%_, _≤_, _<_, _+_, _*_}
-use native.Mathlib.Omega.{arith}
+use Prim.Native.Nat.{ℕ, _/_, _%_, _≤_, _<_, _+_, _*_}
 use native.Mathlib.Numerals.{add-one}
 use lib.Dec.{eqb}
 use lib.ListN.{length, getD, set}
 use borrow.Author.Tests.{lt-ltb, le-ltb}
 use Rattle.words.specs.Records.{anyBelow}
 use Rattle.simplex.specs.Cell.{Sign, alternating, times}
-use Rattle.simplex.proofs.Signs.{not-not}
 use Rattle.adjacency.specs.Pairing.{Met, Pairing, keySign, paired, pairedAt, twinAt}
 use Rattle.adjacency.specs.Scan.{seenAt, seenLike, seenTwice}
 use Rattle.adjacency.proofs.Mates.{paired-length}

@@ -3,20 +3,15 @@
 --   whole-list            a list of words is the list of its records
 --   taken-table           the table of what was taken
 --   taken-written         what is written of it is what wing writes
-use mathlib.Core.Path.{_≡_, refl, sym, ap, _∙_}
+use mathlib.Core.Path.{_≡_, sym, ap, _∙_}
 use mathlib.Core.Bool.{Bool, true, false, cond}
 use mathlib.Core.List.{List, _++_}
 use Prim.Native.Nat.{ℕ, _*_, _≤_}
 use native.Mathlib.Omega.{arith}
-use lib.Dec.{leb}
 use lib.ListN.{length, drop}
-use borrow.Author.Tests.{leb-true}
 use Rattle.words.specs.Placed.{placed}
 use Rattle.words.proofs.Placed.{placed-first}
 use Rattle.rules.specs.Calls.{firstRefusal, written}
-use Rattle.rules.specs.Limits.{maxCells, maxDimension, sizesOk, verticesOk, within}
-use Rattle.rules.specs.Shapes.{shapeOk}
-use Rattle.rules.proofs.Tests.{and-parts}
 use Rattle.simplex.specs.Cell.{Sign}
 use Rattle.simplex.specs.Faces.{facets}
 use Rattle.complex.specs.Accept.{Listed, badSign, cellTwice, crowdedFace, equalSigns, listedCells, solidOf, solidRules, vertexBeyond, vertexTwice}

@@ -17,14 +17,14 @@ use Rattle.simplex.specs.Cell.{Cell, Row}
 use Rattle.simplex.specs.Chain.{total}
 use Rattle.simplex.specs.Faces.{facets, without}
 use Rattle.simplex.proofs.Counts.{All}
-use Rattle.simplex.proofs.Rows.{Long, sameRow-true}
+use Rattle.simplex.proofs.Rows.{Long, same-rows, sameRow-true}
 use Rattle.complex.specs.Accept.{cellTwice}
 use Rattle.adjacency.specs.Pairing.{twinAt}
 use Rattle.adjacency.specs.Scan.{seenAt}
 use Rattle.words.proofs.Below.{below-false, some-below, true-unless}
 use Rattle.adjacency.proofs.FaceKeys.{facet-cell, facets-length, key-inside}
 use Rattle.matching.proofs.Quotients.{cell-of-key, place-of-key}
-use Rattle.adjacency.proofs.Repeats.{Prev, and-both, is-seen, same-rows, seen-is, seen-only}
+use Rattle.adjacency.proofs.Repeats.{Prev, and-both, is-seen, seen-is, seen-only}
 use Rattle.complex.proofs.Solid.{all-at, rowAt}
 use Rattle.adjacency.proofs.Spots.{count-two, onRow, spots, total-counts}
 use Rattle.complex.proofs.Tests.{few-of, of-few}

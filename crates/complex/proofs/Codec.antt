@@ -33,7 +33,8 @@ words-long d [] a = tt
 words-long d (c ∷ cs) a = (omega (arith, a .0), words-long d cs (a .1))
 
 -- record p of a list's words
-pub list-record : (d : ℕ) (cs : List Cell) (p : ℕ) → All (Long (suc d)) cs → p < length cs → part (listSize d) p (concat (map cellWords cs)) ≡ cellWords (cellAt cs p)
+pub list-record : (d : ℕ) (cs : List Cell) (p : ℕ) → All (Long (suc d)) cs → p < length cs →
+    part (listSize d) p (concat (map cellWords cs)) ≡ cellWords (cellAt cs p)
 list-record d cs p long h = part-concat (listSize d) p (map cellWords cs) (words-long d cs long) (rw (length-map cs cellWords) h) ∙ at cs p h
   where
     at : (cs : List Cell) (p : ℕ) → p < length cs → getD (map cellWords cs) p [] ≡ cellWords (cellAt cs p)
@@ -79,7 +80,8 @@ sized-at d (e ∷ es) (suc p) a h = sized-at d es p (a .2) (le-of-suc-le-suc h)
 entry-back : (d : ℕ) (e : Entry) → length (e .cell .row) ≡ suc d → entryOf d (entryWords e) ≡ e
 entry-back d e l =
     let n : length (cellWords (e .cell)) ≡ listSize d = omega arith in
-    ap₂ {C = Entry} (λ c ws. record { cell = c; wings = ws }) (ap cellOf (take-at (cellWords (e .cell)) (e .wings) (listSize d) n) ∙ cell-back (e .cell)) (drop-at (cellWords (e .cell)) (e .wings) (listSize d) n)
+    ap₂ {C = Entry} (λ c ws. record { cell = c; wings = ws }) (ap cellOf (take-at (cellWords (e .cell)) (e .wings) (listSize d) n)
+    ∙ cell-back (e .cell)) (drop-at (cellWords (e .cell)) (e .wings) (listSize d) n)
 
 -- a table's words give the table back
 pub entries-back : (d : ℕ) (es : List Entry) → Sized d es → entriesOf d (length es) (tableWords es) ≡ es
@@ -89,12 +91,14 @@ entries-back d es a =
     ∙ tabulate-getD (record { cell = cell true []; wings = [] }) es
 
 -- a table without its wings is the list of its cells
-pub own-list : (d : ℕ) (es : List Entry) → Sized d es → ownList d (length es) (tableWords es) ≡ concat (map cellWords (map (λ (e : Entry). e .cell) es))
+pub own-list : (d : ℕ) (es : List Entry) → Sized d es →
+    ownList d (length es) (tableWords es) ≡ concat (map cellWords (map (λ (e : Entry). e .cell) es))
 own-list d es a =
     ap concat
     (tabulate-ext (length es) (λ p. take (listSize d) (part (recordSize d) p (tableWords es))) (λ p. cellWords (entryAt es p .cell))
     (λ p h. ap (take (listSize d)) (record-at d es p a h)
-    ∙ take-at (cellWords (entryAt es p .cell)) (entryAt es p .wings) (listSize d) (let n : length (entryAt es p .cell .row) ≡ suc d = sized-at d es p a h in omega arith))
+    ∙ take-at (cellWords (entryAt es p .cell)) (entryAt es p .wings) (listSize d)
+    (let n : length (entryAt es p .cell .row) ≡ suc d = sized-at d es p a h in omega arith))
     ∙ words es)
   where
     words : (es : List Entry) → tabulate (length es) (λ p. cellWords (entryAt es p .cell)) ≡ map cellWords (map (λ (e : Entry). e .cell) es)
@@ -104,8 +108,11 @@ own-list d es a =
 -- the table of a solid is of one size
 pub table-sized : (d : ℕ) (all : List Cell) (p : ℕ) (cs : List Cell) → All (Long (suc d)) cs → Sized d (entriesFrom all p cs)
 table-sized d all p [] a = tt
-table-sized d all p (c ∷ cs) a =
-    (a .0, ap length (wings-tabulated all p c) ∙ tabulate-length (length (c .row)) (λ j. neighbour p (without j (c .row)) all) ∙ a .0, table-sized d all (suc p) cs (a .1))
+table-sized d all p (c ∷ cs) a = (
+  a .0,
+  ap length (wings-tabulated all p c) ∙ tabulate-length (length (c .row)) (λ j. neighbour p (without j (c .row)) all) ∙ a .0,
+  table-sized d all (suc p) cs (a .1),
+)
 
 -- record p of words
 pub part-length : (n p s : ℕ) (ws : List ℕ) → p < s → s * n ≤ length ws → length (part n p ws) ≡ n

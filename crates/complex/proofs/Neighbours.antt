@@ -104,7 +104,7 @@ neighbour-is p n w [] h = absurd (h refl)
 neighbour-is p n w (c ∷ cs) h = go (eqb p n) refl (hasFace w (c .row)) refl h (neighbour-is p (suc n) w cs)
   where
     next : Wing p (suc n) w cs (neighbourFrom p (suc n) w cs) → Wing p n w (c ∷ cs) (neighbourFrom p (suc n) w cs)
-    next r = (suc (r .0), omega (arith, r .1), omega (arith, r .2), (λ e. r .3 (omega arith)), r .4)
+    next r = (suc (r .0), omega arith, omega arith, (λ e. r .3 (omega arith)), r .4)
 
     go : (s : Bool) → eqb p n ≡ s → (t : Bool) → hasFace w (c .row) ≡ t → (cond (not s && t) n (neighbourFrom p (suc n) w cs) ≡ 65535 → ⊥) →
         ((neighbourFrom p (suc n) w cs ≡ 65535 → ⊥) → Wing p (suc n) w cs (neighbourFrom p (suc n) w cs)) →

@@ -95,13 +95,13 @@ module _ (nv d : ℕ) (cs : List Cell) (solid : Solid nv cs) (long : All (Long (
 
         go : Wing q 0 (without m (rowAt cs q)) cs (wing q m) → ⊥
         go r = two (has-is (without m (rowAt cs q)) (rowAt cs p)
-            (subst (λ k. hasFace (without m (rowAt cs q)) (rowAt cs k) ≡ true) (omega (arith, r .2)) (r .4)))
+            (subst (λ k. hasFace (without m (rowAt cs q)) (rowAt cs k) ≡ true) (omega arith) (r .4)))
 
     across-at : (p a q : ℕ) → 1 ≤ d → p < length cs → a ≤ d → q < length cs → (p ≡ q → ⊥) →
         (b : ℕ) × (b < length (rowAt cs q)) × (without b (rowAt cs q) ≡ without a (rowAt cs p)) → Across p a q
     across-at p a q hd hp ha hq pq r =
         let b = r .0 in
-        let hb : b ≤ d = omega (arith, r .1, row-length q hq) in
+        let hb : b ≤ d = omega (arith, row-length q hq) in
         let e : wing q b ≡ p =
         neighbour-at q p (without b (rowAt cs q)) hq hp (λ z. pq (sym z)) (has-face b (rowAt cs q) (r .1) (omega (arith, row-length q hq)))
         (subst (λ w. hasFace w (rowAt cs p) ≡ true) (sym (r .2))
@@ -116,5 +116,5 @@ module _ (nv d : ℕ) (cs : List Cell) (solid : Solid nv cs) (long : All (Long (
             let two : 2 ≤ length (rowAt cs p) =
             filled-length a (rowAt cs p) (has-filled (without a (rowAt cs p)) (rowAt cs (r .0)) (r .4)) (omega (arith, row-length p hp)) in
             subst (Across p a) (sym (r .2 ∙ zero-add (r .0)))
-            (across-at p a (r .0) (omega (arith, two, row-length p hp)) hp ha (r .1)
+            (across-at p a (r .0) (omega (arith, row-length p hp)) hp ha (r .1)
             (λ z. r .3 (omega arith)) (has-is (without a (rowAt cs p)) (rowAt cs (r .0)) (r .4)))

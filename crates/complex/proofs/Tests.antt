@@ -78,7 +78,7 @@ once-each (y ∷ w) e x = let r = or-false (anyOf (eqb y) w) (repeats w) e in go
 above-all : (x : ℕ) (w : Row) → Asc (x ∷ w) → anyOf (eqb x) w ≡ false
 above-all x [] s = refl
 above-all x (y ∷ []) s = rw (ne-eqb x y (λ e. omega arith)) refl
-above-all x (y ∷ (z ∷ w)) s = rw (ne-eqb x y (λ e. omega arith)) (above-all x (z ∷ w) (omega (arith, s .0, s .1 .0), s .1 .1))
+above-all x (y ∷ (z ∷ w)) s = rw (ne-eqb x y (λ e. omega arith)) (above-all x (z ∷ w) (omega arith, s .1 .1))
 
 pub asc-once : (w : Row) → Asc w → repeats w ≡ false
 asc-once [] s = refl

@@ -96,10 +96,7 @@ module _ (key : ℕ → Row) (g : ℕ) where
   pub walk-start : (x : ℕ) → g < 65535 → x ≡ lastIn key (bucketOf (key g)) g → Walk x
   unfolding lastIn
   walk-start x l e =
-      subst⁻¹ Walk e (
-        skip same near far g (omega arith),
-        ⊎-elim (λ h. inl h) (λ h. inr (h .0, eqb-true _ _ (h .1))) (last-passes near g),
-      )
+      subst⁻¹ Walk e (skip same near far g (omega arith), ⊎-elim (λ h. inl h) (λ h. inr (h .0, eqb-true _ _ (h .1))) (last-passes near g))
 
   pub walk-below : (f : ℕ) → Walk f → (f ≡ 65535 → ⊥) → (f < g) × (bucketOf (key f) ≡ bucketOf (key g))
   walk-below f h n = ⊎-elim (λ e. absurd (n e)) (λ b. b) (h .1)

@@ -11,14 +11,7 @@ use lib.Dec.{lit<}
 module _ (n q r c a w : ℕ) (cut : q * w + r ≡ n) (rest : r < w) (at : a < w) (few : c * w + a < q) where
   product : (c * w + a) * (q + 1) ≡ c * (q * w) + a * q + (c * w + a)
   product =
-      omega (
-        arith,
-        mul-add (c * w + a) q 1,
-        mul-one (c * w + a),
-        add-mul (c * w) a q,
-        mul-assoc c w q,
-        ap (λ t. c * t) (mul-comm w q),
-      )
+      omega (arith, mul-add (c * w + a) q 1, mul-one (c * w + a), add-mul (c * w) a q, mul-assoc c w q, ap (λ t. c * t) (mul-comm w q))
 
   whole : c * n ≡ c * (q * w) + c * r
   whole = omega (arith, ap (λ t. c * t) cut, mul-add c (q * w) r)

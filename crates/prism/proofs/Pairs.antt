@@ -19,7 +19,8 @@ use Rattle.prism.specs.Cells.{level, sweepOf}
 use Rattle.prism.proofs.Decode.{levelIn}
 use Rattle.prism.proofs.FaceBounds.{baseIn, copies-bound, countPrism-bound, flatOn, lowerIn, raisedRow, sideOn}
 use Rattle.prism.proofs.FaceBounds.{upperIn}
-use Rattle.prism.proofs.FaceKinds.{Kind, cond-other, flatCount, innerCount, isFlat, isInner, isSide, kindOf, on-any, on-bottom, on-top, sideCount}
+use Rattle.prism.proofs.FaceKinds.{Kind, cond-other, flatCount, innerCount, isFlat, isInner, isSide, kindOf, on-any, on-bottom, on-top}
+use Rattle.prism.proofs.FaceKinds.{sideCount}
 use Rattle.prism.proofs.Level.{atHeight, dimensionSign, overPrism, raised, raisedPair}
 use Rattle.prism.proofs.Prism.{OnPairs, sumPrism}
 use Rattle.prism.proofs.PrismCounts.{countPrism, doubled, rest}

@@ -123,23 +123,23 @@ module _ (nv n : ℕ) where
   pub len-level : (i : ℕ) (cs : List Cell) → All (Long n) cs → length (level nv i cs) ≡ length cs * n
   len-level i [] a = sym (zero-mul n)
   len-level i (c ∷ cs) a =
-      omega (arith, length-append (prism nv i c) (level nv i cs), len-block i c (a .0), len-level i cs (a .1), suc-mul (length cs) n)
+      omega (arith, length-append (prism nv i c) (level nv i cs), len-block i c (a .0), len-level i cs (a .1))
 
   cell-level : (i p k : ℕ) (cs : List Cell) → All (Long n) cs → p < length cs →
       k < n → cellAt (level nv i cs) (k + p * n) ≡ prismCell nv i k (cellAt cs p)
   cell-level i p k [] a hp hk = absurd (not-suc-le-zero hp)
   cell-level i zero k (c ∷ cs) a hp hk =
-      ap (cellAt (level nv i (c ∷ cs))) (omega (arith, zero-mul n))
+      ap (cellAt (level nv i (c ∷ cs))) (omega arith)
       ∙ cell-left (prism nv i c) (level nv i cs) k (omega (arith, len-block i c (a .0)))
-      ∙ tabulate-at (length (c .row)) (λ k. prismCell nv i k c) k (cell true []) (omega (arith, a .0))
+      ∙ tabulate-at (length (c .row)) (λ k. prismCell nv i k c) k (cell true []) (omega arith)
   cell-level i (suc p) k (c ∷ cs) a hp hk =
-      cell-right (prism nv i c) (level nv i cs) (k + p * n) (k + suc p * n) (omega (arith, len-block i c (a .0), suc-mul p n))
+      cell-right (prism nv i c) (level nv i cs) (k + p * n) (k + suc p * n) (omega (arith, len-block i c (a .0)))
       ∙ cell-level i p k cs (a .1) (le-of-suc-le-suc hp) hk
 
   pub len-sweep : (h : ℕ) (cs : List Cell) → All (Long n) cs → length (sweepOf nv h cs) ≡ h * (length cs * n)
   len-sweep zero cs a = sym (zero-mul (length cs * n))
   len-sweep (suc h) cs a =
-      omega (arith, length-append (sweepOf nv h cs) (level nv h cs), len-sweep h cs a, len-level h cs a, suc-mul h (length cs * n))
+      omega (arith, length-append (sweepOf nv h cs) (level nv h cs), len-sweep h cs a, len-level h cs a)
 
   cell-sweep : (h i r : ℕ) (cs : List Cell) → All (Long n) cs → i < h → r < length cs * n →
       cellAt (sweepOf nv h cs) (r + i * (length cs * n)) ≡ cellAt (level nv i cs) r
@@ -160,7 +160,7 @@ module _ (nv n : ℕ) where
   numberOf S i p k = k + p * n + i * (S * n)
 
   in-level : (S p k : ℕ) → p < S → k < n → k + p * n < S * n
-  in-level S p k hp hk = omega (arith, suc-mul p n, mul-le-mul-right {m = suc p} {n = S} n hp)
+  in-level S p k hp hk = omega (arith, mul-le-mul-right {m = suc p} {n = S} n hp)
 
   pub cell-num : (h i p k : ℕ) (cs : List Cell) → All (Long n) cs → i < h → p < length cs → k < n →
       cellAt (sweepOf nv h cs) (numberOf (length cs) i p k) ≡ prismCell nv i k (cellAt cs p)
@@ -171,4 +171,4 @@ module _ (nv n : ℕ) where
   row-num h i p k cs a hi hp hk = ap (λ (c : Cell). c .row) (cell-num h i p k cs a hi hp hk)
 
   pub num-lt : (h S i p k : ℕ) → i < h → p < S → k < n → numberOf S i p k < h * (S * n)
-  num-lt h S i p k hi hp hk = omega (arith, in-level S p k hp hk, suc-mul i (S * n), mul-le-mul-right {m = suc i} {n = h} (S * n) hi)
+  num-lt h S i p k hi hp hk = omega (arith, in-level S p k hp hk, mul-le-mul-right {m = suc i} {n = h} (S * n) hi)

@@ -4,7 +4,7 @@ use mathlib.Core.Bool.{true, cond}
 use mathlib.Core.List.{List, [], _∷_, _++_}
 use Prim.Native.Nat.{ℕ, zero, suc, _*_, _≤_, _<_}
 use native.Mathlib.Omega.{arith}
-use native.Mathlib.Nat.{suc-mul, mul-le-mul-right}
+use native.Mathlib.Nat.{mul-le-mul-right}
 use lib.Dec.{eqb}
 use lib.ListN.{length, take, drop}
 use Rattle.simplex.specs.Cell.{Cell, Row, sameRow}
@@ -48,13 +48,13 @@ below-append n (x ∷ l) r bl br = (bl .0, below-append n l r (bl .1) br)
 
 below-up : (nv i m : ℕ) (v : Row) → Below nv v → suc i ≤ m → Below (m * nv) (raised (i * nv) v)
 below-up nv i m [] b h = tt
-below-up nv i m (x ∷ v) b h = (omega (arith, suc-mul i nv, mul-le-mul-right {m = suc i} {n = m} nv h), below-up nv i m v (b .1) h)
+below-up nv i m (x ∷ v) b h = (omega (arith, mul-le-mul-right {m = suc i} {n = m} nv h), below-up nv i m v (b .1) h)
 
 -- ascending
 pub asc-up : (m : ℕ) (v : Row) → Asc v → Asc (raised m v)
 asc-up m [] s = tt
 asc-up m (x ∷ []) s = tt
-asc-up m (x ∷ y ∷ v) s = (omega (arith, s .0), asc-up m (y ∷ v) (s .1))
+asc-up m (x ∷ y ∷ v) s = (omega arith, asc-up m (y ∷ v) (s .1))
 
 asc-drop : (k : ℕ) (v : Row) → Asc v → Asc (drop k v)
 asc-drop zero v s = s
@@ -80,7 +80,7 @@ from-up m (x ∷ v) = (omega arith, from-up m v)
 asc-append : (n : ℕ) (l r : Row) → Asc l → Asc r → Below n l → From n r → Asc (l ++ r)
 asc-append n [] r sl sr bl fr = sr
 asc-append n (x ∷ []) [] sl sr bl fr = tt
-asc-append n (x ∷ []) (y ∷ r) sl sr bl fr = (omega (arith, bl .0, fr .0), sr)
+asc-append n (x ∷ []) (y ∷ r) sl sr bl fr = (omega arith, sr)
 asc-append n (x ∷ y ∷ l) r sl sr bl fr = (sl .0, asc-append n (y ∷ l) r (sl .1) sr (bl .1) fr)
 
 asc-cell : (nv i k : ℕ) (v : Row) → Below nv v → Asc v → Asc (prismRow (i * nv) (suc i * nv) k v)
@@ -135,7 +135,8 @@ pub swept-solid : (nv h : ℕ) (cs : List Cell) → Solid nv cs → Solid (suc h
 swept-solid nv h cs s = record {
   rows = all-sweep (Good (suc h * nv)) (Good nv) nv h cs (s .rows) (λ i v l g k hk. good-cell nv h i k v l (g .1) hk);
   asc =
-      all-sweep Asc (λ v. Good nv v × Asc v) nv h cs (All-both (Good nv) Asc cs (s .rows) (s .asc)) (λ i v l g k hk. asc-cell nv i k v (g .0 .1) (g .1));
+      all-sweep Asc (λ v. Good nv v × Asc v) nv h cs (All-both (Good nv) Asc cs (s .rows) (s .asc))
+      (λ i v l g k hk. asc-cell nv i k v (g .0 .1) (g .1));
   distinct = λ w. omega (
     arith,
     sweep-once nv h w cs (s .rows),

@@ -3,8 +3,7 @@ use mathlib.Core.Path.{_≡_, ap, ap₂, fun-ext, subst, sym, _∙_}
 use Prim.Native.Nat.{_%_, _*_, _+_, _/_, _<_, suc, zero, ℕ, _≤_}
 use mathlib.Core.List.{_++_, List, [], _∷_}
 use lib.ListN.{List·getD-append, getD, length}
-use native.Mathlib.Nat.{add-mul, div-add-mod', div-lt-iff-lt-mul, le-of-suc-le-suc, mod-lt, mul-assoc, mul-le-mul-right, mul-zero, not-suc-le-zero}
-use native.Mathlib.Nat.{suc-mul, zero-mul}
+use native.Mathlib.Nat.{div-add-mod', div-lt-iff-lt-mul, le-of-suc-le-suc, mod-lt, mul-assoc, mul-le-mul-right, not-suc-le-zero}
 use native.Mathlib.Omega.{arith}
 use lib.Seq.{ext-getD, getD-append-add}
 use mathlib.Core.Bool.{true}
@@ -32,10 +31,10 @@ concat-at : {A : Type 0} (m : ℕ) (z : A) (xss : List (List A)) (i r : ℕ) →
     i < length xss → r < m → getD (concat xss) (r + i * m) z ≡ getD (getD xss i []) r z
 concat-at m z [] i r a hi hr = absurd (not-suc-le-zero hi)
 concat-at m z (xs ∷ xss) zero r a hi hr =
-    let e : r + 0 * m ≡ r = omega (arith, zero-mul m) in
-    ap (λ n. getD (xs ++ concat xss) n z) e ∙ List·getD-append xs (concat xss) z r (omega (arith, a .0))
+    let e : r + 0 * m ≡ r = omega arith in
+    ap (λ n. getD (xs ++ concat xss) n z) e ∙ List·getD-append xs (concat xss) z r (omega arith)
 concat-at m z (xs ∷ xss) (suc i) r a hi hr =
-    let e : r + suc i * m ≡ length xs + (r + i * m) = omega (arith, suc-mul i m, a .0) in
+    let e : r + suc i * m ≡ length xs + (r + i * m) = omega arith in
     ap (λ n. getD (xs ++ concat xss) n z) e ∙ getD-append-add xs (concat xss) (r + i * m) z ∙ concat-at m z xss i r (a .1) (le-of-suc-le-suc hi) hr
 
 each-tabulated : {A : Type 0} (m n : ℕ) (f : ℕ → List A) → ((i : ℕ) → length (f i) ≡ m) → EachLong m (tabulate n f)
@@ -43,7 +42,7 @@ each-tabulated m zero f h = tt
 each-tabulated m (suc n) f h = (h 0, each-tabulated m n (λ i. f (suc i)) (λ i. h (suc i)))
 
 pos-of : (S n h c : ℕ) → c < h * (S * n) → 0 < S
-pos-of zero n h c l = absurd (omega (arith, rw (zero-mul n, mul-zero h) at l))
+pos-of zero n h c l = absurd (omega arith)
 pos-of (suc S) n h c l = omega arith
 
 module _ (d v s h : ℕ) (es : List Entry) where
@@ -69,7 +68,7 @@ module _ (d v s h : ℕ) (es : List Entry) where
   swept-at i p k hi hp hk =
       concat-at (s * suc d) none (tabulate h levelEntries) i (k + p * suc d)
       (each-tabulated (s * suc d) h levelEntries level-length) (rw (tabulate-length h levelEntries) hi)
-      (omega (arith, suc-mul p (suc d), mul-le-mul-right {m = suc p} {n = s} (suc d) hp))
+      (omega (arith, mul-le-mul-right {m = suc p} {n = s} (suc d) hp))
       ∙ ap (λ xs. getD xs (k + p * suc d) none) (tabulate-at h levelEntries i [] hi)
       ∙ concat-at (suc d) none (tabulate s (prismEntries i)) p k
       (each-tabulated (suc d) s (prismEntries i) (λ p. tabulate-length (suc d) (sweptEntry d v s h es i p)))
@@ -129,13 +128,7 @@ module _ (nv d h : ℕ) (cs : List Cell) (solid : Solid nv cs) (long : All (Long
       c-is : c ≡ cellNumber d S (c / suc d / S) (c / suc d % S) (c % suc d)
       c-is =
           let m = c / suc d in
-          omega (
-            arith,
-            div-add-mod' c (suc d),
-            ap (λ x. x * suc d) (div-add-mod' m S),
-            add-mul (m / S * S) (m % S) (suc d),
-            mul-assoc (m / S) S (suc d),
-          )
+          omega (arith, div-add-mod' c (suc d), ap (λ x. x * suc d) (div-add-mod' m S))
 
       hk : c % suc d ≤ d
       hk = omega (arith, mod-lt c {m = suc d} (omega arith))

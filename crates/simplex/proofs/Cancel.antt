@@ -7,7 +7,7 @@ use mathlib.Core.Bool.{Bool, true, false, not, cond, _&&_, and-false}
 use mathlib.Core.List.{List, [], _∷_}
 use Prim.Native.Nat.{ℕ, zero, suc, _+_, _*_, _≤_}
 use native.Mathlib.Omega.{arith}
-use native.Mathlib.Nat.{add-mul, zero-mul, one-mul}
+use native.Mathlib.Nat.{zero-mul}
 use lib.Dec.{eqb}
 use lib.ListN.{length}
 use Rattle.simplex.specs.Cell.{Cell, Row, filled, one, sameRow, times}
@@ -34,22 +34,16 @@ on-one : (f : Functional) (v : Row) (c : Bool) (y : Row) → cond (sameRow y v) 
 on-one f v c y = go c (sameRow y v) (sameRow-true y v)
   where
     go : (c t : Bool) → (t ≡ true → y ≡ v) → cond t (f c y) 0 ≡ one (c && t) * f true v + one (not c && t) * f false v
-    go true true h = omega (arith, ap (f true) (h refl), one-mul (f true v), zero-mul (f false v))
-    go false true h = omega (arith, ap (f false) (h refl), one-mul (f false v), zero-mul (f true v))
-    go true false h = omega (arith, zero-mul (f true v), zero-mul (f false v))
-    go false false h = omega (arith, zero-mul (f true v), zero-mul (f false v))
+    go true true h = omega (arith, ap (f true) (h refl))
+    go false true h = omega (arith, ap (f false) (h refl))
+    go true false h = omega arith
+    go false false h = omega arith
 
 on-sum : (f : Functional) (v : Row) (b : Bool) (cs : List Cell) →
     sumChain (restricted (λ y. sameRow y v) f) b cs ≡ sumChain (plusOn v) b cs * f true v + sumChain (plusOn v) (not b) cs * f false v
-on-sum f v b [] = omega (arith, zero-mul (f true v), zero-mul (f false v))
+on-sum f v b [] = omega (arith, zero-mul (f true v))
 on-sum f v b (c ∷ cs) =
-    rw (times-not-r (c .sign) b) (omega (
-      arith,
-      on-one f v (times (c .sign) b) (c .row),
-      on-sum f v b cs,
-      add-mul (plusOn v (times (c .sign) b) (c .row)) (sumChain (plusOn v) b cs) (f true v),
-      add-mul (plusOn v (not (times (c .sign) b)) (c .row)) (sumChain (plusOn v) (not b) cs) (f false v),
-    ))
+    rw (times-not-r (c .sign) b) (omega (arith, on-one f v (times (c .sign) b) (c .row), on-sum f v b cs))
 
 abbrev off : Row → Row → Bool
 off v y = not (sameRow y v)
@@ -175,7 +169,6 @@ pub total-keep : (q : Row → Bool) (w : Row) (cs : List Cell) → total w (keep
 total-keep q w cs = omega (
   arith,
   plus-minus w (keep (λ c. q (c .row)) cs),
-  plus-minus w cs,
   count-keep q w true cs,
   count-keep q w false cs,
   go (q w) (sumChain (plusOn w) true cs) (sumChain (plusOn w) false cs) (total w cs) (plus-minus w cs),

@@ -41,7 +41,7 @@ countFaces-find q (x ∷ v) h = go (q v) refl h (countFaces-find (λ y. q (x ∷
         (1 ≤ countFaces (λ y. one (q (x ∷ y))) v → (b : ℕ) × (b < length v) × (q (x ∷ without b v) ≡ true)) →
         (b : ℕ) × (b < suc (length v)) × (q (without b (x ∷ v)) ≡ true)
     go true e h k = (0, omega arith, e)
-    go false e h k = let r = k (omega arith) in (suc (r .0), omega (arith, r .1), r .2)
+    go false e h k = let r = k (omega arith) in (suc (r .0), omega arith, r .2)
 
 -- an ascending row has a face once
 countFaces-none : (q : Row → Bool) (v : Row) → ((y : Row) → q y ≡ false) → countFaces (λ y. one (q y)) v ≡ 0
@@ -57,7 +57,7 @@ countFaces-once (y ∷ w) (x ∷ z ∷ v) s = go (eqb z y) refl (eqb x y) refl (
     go : (a : Bool) → eqb z y ≡ a → (b : Bool) → eqb x y ≡ b → countFaces (hits w) (z ∷ v) ≤ 1 →
         one (a && sameRow v w) + countFaces (λ r. one (b && sameRow r w)) (z ∷ v) ≤ 1
     go true e true f k = absurd (omega (arith, eqb-true z y e, eqb-true x y f))
-    go true e false f k = omega (arith, countFaces-none (λ r. false) (z ∷ v) (λ r. refl), one-le (sameRow v w))
+    go true e false f k = omega (arith, countFaces-none (λ r. false) (z ∷ v) (λ r. refl))
     go false e true f k = omega arith
     go false e false f k = omega (arith, countFaces-none (λ r. false) (z ∷ v) (λ r. refl))
 

@@ -7,7 +7,8 @@ use Rattle.rules.specs.Limits.{maxVertices, sweptVertices}
 use Rattle.rules.specs.Calls.{accepted, refused}
 use Rattle.points.specs.Step.{inRange}
 use Rattle.motion.specs.Move.{moveOutcome}
-use Rattle.theorems.specs.MarkedKeys.{k9Most, k9Over, K1, K2-cells, K2-faces, K2-calls, K3-cells, K3-faces, K4, K5-cells, K5-faces, K6, K7, K8, K9, K10, MarkedKeys}
+use Rattle.theorems.specs.MarkedKeys.{k9Most, k9Over, K1, K2-cells, K2-faces, K2-calls, K3-cells, K3-faces, K4, K5-cells, K5-faces, K6, K7, K8}
+use Rattle.theorems.specs.MarkedKeys.{K9, K10, MarkedKeys}
 use Rattle.theorems.specs.Shorthand.{one}
 use Rattle.theorems.proofs.Computing.{computing}
 use Rattle.theorems.proofs.Sliding.{slid-accepted, slid-refused}

@@ -1,6 +1,6 @@
 -- Two solids are equal, list order aside, exactly when the boundaries of their sweeps are.
 --   SameSums xs ys    every signed cell stands in both equally often, as sums
-use mathlib.Core.Path.{_≡_, refl, ap, ap₂, _∙_, fun-ext, subst}
+use mathlib.Core.Path.{_≡_, refl, sym, ap, ap₂, _∙_, fun-ext}
 use mathlib.Core.Logic.{_⊎_, inl, inr}
 use mathlib.Core.Bool.{Bool, true, false, not, _&&_, and-false}
 use mathlib.Core.List.{List, [], _∷_, _++_}
@@ -13,10 +13,12 @@ use Rattle.simplex.specs.Cell.{Cell, Row, cell, one, sameRow, times}
 use Rattle.simplex.specs.Chain.{total}
 use Rattle.simplex.specs.Faces.{allFaces, facets}
 use Rattle.simplex.proofs.Cancel.{bal, plus-minus}
-use Rattle.simplex.proofs.Counts.{All, sumRows-countFaces-zero}
+use Rattle.simplex.proofs.Counts.{sumRows-countFaces-zero}
 use Rattle.simplex.proofs.Rows.{Below, Good, sameRow-true}
+use Rattle.simplex.proofs.Signs.{times-flip}
 use Rattle.simplex.proofs.Sums.{Functional, plusOn, sumChain, sumChain-allFaces, sumChain-append, sumChain-not, sumFaces}
 use Rattle.complex.proofs.Solid.{Solid}
+use Rattle.complex.proofs.Tests.{seen}
 use Rattle.prism.specs.Cells.{sweepOf}
 use Rattle.prism.proofs.Decode.{levelIn, uppers}
 use Rattle.prism.proofs.FaceBounds.{lowerIn, upperIn}
@@ -34,12 +36,7 @@ neg (c ∷ cs) = cell (not (c .sign)) (c .row) ∷ neg cs
 sumChain-neg : (f : Functional) (b : Bool) (cs : List Cell) → sumChain f b (neg cs) ≡ sumChain f (not b) cs
 unfolding neg
 sumChain-neg f b [] = refl
-sumChain-neg f b (c ∷ cs) = ap₂ (λ m n. m + n) (ap (λ t. f t (c .row)) (go (c .sign) b)) (sumChain-neg f b cs)
-  where
-    go : (s b : Bool) → times (not s) b ≡ times s (not b)
-    go true b = refl
-    go false true = refl
-    go false false = refl
+sumChain-neg f b (c ∷ cs) = ap₂ (λ m n. m + n) (ap (λ t. f t (c .row)) (sym (times-flip (c .sign) b))) (sumChain-neg f b cs)
 
 -- equal coefficients make equal values of every functional
 coef-fun : (f : Functional) (xs ys : List Cell) →
@@ -55,9 +52,11 @@ coef-fun f xs ys h = omega (
     part : (f : Functional) (b : Bool) → sumChain f b (xs ++ neg ys) ≡ sumChain f b xs + sumChain f (not b) ys
     part f b = omega (arith, sumChain-append f b xs (neg ys), sumChain-neg f b ys)
 
+abbrev SameOn : Row → List Cell → List Cell → Type 0
+SameOn w xs ys = (sumChain (plusOn w) true xs ≡ sumChain (plusOn w) true ys) × (sumChain (plusOn w) false xs ≡ sumChain (plusOn w) false ys)
+
 abbrev pub SameSums : List Cell → List Cell → Type 0
-SameSums xs ys =
-    (w : Row) → (sumChain (plusOn w) true xs ≡ sumChain (plusOn w) true ys) × (sumChain (plusOn w) false xs ≡ sumChain (plusOn w) false ys)
+SameSums xs ys = (w : Row) → SameOn w xs ys
 
 module _ (nv h : ℕ) (xa xb : List Cell) (sa : Solid nv xa) (sb : Solid nv xb) where
   pub forth : SameSums xa xb → SameSums (sweptBoundary nv h xa) (sweptBoundary nv h xb)
@@ -116,22 +115,10 @@ at-bottom nv w b cs =
     go : (c : Bool) (y : Row) → atHeight (plusOn w) (zero * nv) c y ≡ plusOn w (times (dimensionSign w) c) y
     go c y = rw (raised-zero nv y) (same y (dimensionSign y) c (sameRow y w) (sameRow-true y w))
 
-seen : (nv : ℕ) (w : Row) (cs : List Cell) → All (Good nv) cs → (total w cs ≡ 0) ⊎ Good nv w
-seen nv w [] a = inl refl
-seen nv w (c ∷ cs) a = go (sameRow (c .row) w) (sameRow-true (c .row) w) (seen nv w cs (a .1))
-  where
-    go : (t : Bool) → (t ≡ true → c .row ≡ w) → (total w cs ≡ 0) ⊎ Good nv w → (one t + total w cs ≡ 0) ⊎ Good nv w
-    go true h r = inr (subst (Good nv) (h refl) (a .0))
-    go false h (inl e) = inl (omega arith)
-    go false h (inr g) = inr g
-
 module _ (nv h : ℕ) (xa xb : List Cell) (sa : Solid nv xa) (sb : Solid nv xb) where
   pub back : 0 < h → SameSums (sweptBoundary nv h xa) (sweptBoundary nv h xb) → SameSums xa xb
-  back some e w = go (seen nv w xa (sa .rows)) (seen nv w xb (sb .rows))
+  back some e w = go (seen (Good nv) w xa (sa .rows)) (seen (Good nv) w xb (sb .rows))
     where
-      goal : Type 0
-      goal = (sumChain (plusOn w) true xa ≡ sumChain (plusOn w) true xb) × (sumChain (plusOn w) false xa ≡ sumChain (plusOn w) false xb)
-
       bottom : (cs : List Cell) → Solid nv cs → Good nv w →
           sumChain (plusOn w) true (sweptBoundary nv h cs) + sumChain (plusOn w) (times (dimensionSign w) true) cs
           ≡ sumChain (plusOn w) (times (dimensionSign w) false) cs + sumChain (plusOn w) false (sweptBoundary nv h cs)
@@ -153,33 +140,13 @@ module _ (nv h : ℕ) (xa xb : List Cell) (sa : Solid nv xa) (sb : Solid nv xb) 
           none : sideCount cs (lowerIn nv w) (upperIn nv w) ≡ 0
           none = ap (sideCount cs (lowerIn nv w)) (ap (λ j. uppers nv j w) (low-level nv w g) ∙ low-highs nv w (g .1)) ∙ sumRows-countFaces-zero cs
 
-      case : Good nv w → (t : Bool) → dimensionSign w ≡ t →
-          (sumChain (plusOn w) true xa ≡ sumChain (plusOn w) true xb) × (sumChain (plusOn w) false xa ≡ sumChain (plusOn w) false xb)
-      case g true k = omega (
-        arith,
-        rw k at (bottom xa sa g),
-        rw k at (bottom xb sb g),
-        e w .0,
-        e w .1,
-        sa .distinct w,
-        sb .distinct w,
-        plus-minus w xa,
-        plus-minus w xb,
-      )
-      case g false k = omega (
-        arith,
-        rw k at (bottom xa sa g),
-        rw k at (bottom xb sb g),
-        e w .0,
-        e w .1,
-        sa .distinct w,
-        sb .distinct w,
-        plus-minus w xa,
-        plus-minus w xb,
-      )
+      case : Good nv w → (t : Bool) → dimensionSign w ≡ t → SameOn w xa xb
+      case g true k =
+          omega (arith, rw k at (bottom xa sa g), rw k at (bottom xb sb g), e w, sa .distinct w, sb .distinct w, plus-minus w xa, plus-minus w xb)
+      case g false k =
+          omega (arith, rw k at (bottom xa sa g), rw k at (bottom xb sb g), e w, sa .distinct w, sb .distinct w, plus-minus w xa, plus-minus w xb)
 
-      go : (total w xa ≡ 0) ⊎ Good nv w → (total w xb ≡ 0) ⊎ Good nv w →
-          (sumChain (plusOn w) true xa ≡ sumChain (plusOn w) true xb) × (sumChain (plusOn w) false xa ≡ sumChain (plusOn w) false xb)
+      go : (total w xa ≡ 0) ⊎ Good nv w → (total w xb ≡ 0) ⊎ Good nv w → SameOn w xa xb
       go (inl p) (inl q) = omega (arith, plus-minus w xa, plus-minus w xb)
       go (inl p) (inr g) = case g (dimensionSign w) refl
       go (inr g) q = case g (dimensionSign w) refl

@@ -30,13 +30,13 @@ loop-holds : tie.Need-loop-holds Inv-loop μ-loop
 loop-holds c =
     let s = c .before .before in
     let a = s .args in
-    walk-start (keyRow (a .rows .now) (a .k) (a .w) (a .first)) (a .g) _ (omega arith) (s .pre .1 (a .g) (omega arith))
+    walk-start (keyRow (a .rows .now) (a .k) (a .w) (a .first)) _ _ (omega arith) (s .pre .1 _ (omega arith))
 
 -- f is a key before g
 lower : (c : tie.In-loop Inv-loop μ-loop) → c .before .loop .f < c .before .before .before .before .args .g
 lower c =
     let a = c .before .before .before .before .args in
-    (walk-below (keyRow (a .rows .now) (a .k) (a .w) (a .first)) (a .g) (c .before .loop .f) (c .before .loop .inv) (c .loop-test .taken)) .0
+    (walk-below (keyRow (a .rows .now) (a .k) (a .w) (a .first)) _ _ (c .before .loop .inv) (c .loop-test .taken)) .0
 
 cast-x : tie.Need-cast-x Inv-loop μ-loop
 cast-x c = omega (arith, lower c)
@@ -49,93 +49,74 @@ place-of-requires-2 c κs =
 add-same-key : tie.Need-add-same-key Inv-loop μ-loop
 add-same-key c =
     let s = c .before .before .before .before .before .before in
-    omega (arith, c .before .place-of2 .ensures .1, mod-lt (c .before .before .before .loop .f) (s .pre .0 .0 .some))
+    omega (arith, mod-lt (c .before .before .before .loop .f) (s .pre .0 .0 .some))
 
 add-same-key-2 : tie.Need-add-same-key-2 Inv-loop μ-loop
 add-same-key-2 c =
     let s = c .before .before .before .before .before .before .before in
-    omega (arith, c .before .before .before .before .before .before .place-of .ensures .1, mod-lt (s .args .g) (s .pre .0 .0 .some))
+    omega (arith, mod-lt (s .args .g) (s .pre .0 .0 .some))
 
 same-key-requires : tie.Need-same-key-requires Inv-loop μ-loop
 same-key-requires c κs =
     let s = c .before .before .before .before .before .before .before in (
       s .pre .0 .0 .long,
       s .pre .0 .0 .vertices,
-      omega (
-        arith,
-        c .before .before .place-of2 .ensures .0,
-        div-lt-iff-lt-mul {y = 4096} (s .pre .0 .0 .some) .1 (lt-trans (lower (c .before .before .before)) (s .pre .0 .2)),
-      ),
-      omega (
-        arith,
-        c .before .before .before .before .before .before .place-of .ensures .0,
-        div-lt-iff-lt-mul {y = 4096} (s .pre .0 .0 .some) .1 (s .pre .0 .2),
-      ),
+      omega (arith, div-lt-iff-lt-mul {y = 4096} (s .pre .0 .0 .some) .1 (lt-trans (lower (c .before .before .before)) (s .pre .0 .2))),
+      omega (arith, div-lt-iff-lt-mul {y = 4096} (s .pre .0 .0 .some) .1 (s .pre .0 .2)),
     )
+
+-- the turn in which two keys are compared, and the call's start
+abbrev turn : tie.After-same-key Inv-loop μ-loop → tie.In-loop Inv-loop μ-loop
+turn c = c .before .before .before .before
+
+abbrev start : tie.After-same-key Inv-loop μ-loop → tie.Start Inv-loop μ-loop
+start c = turn c .before .before .before .before
 
 -- the keys as the comparison sees them
 abbrev keys : (c : tie.After-same-key Inv-loop μ-loop) → ℕ → Row
-keys c =
-    let a = c .before .before .before .before .before .before .before .before .args in keyRow (a .rows .now) (a .k) (a .w) (a .first)
+keys c = let a = start c .args in keyRow (a .rows .now) (a .k) (a .w) (a .first)
 
 -- the comparison is that of the two keys
-compares : (c : tie.After-same-key Inv-loop μ-loop) → c .same-key .result ≡ sameRow (keys c (c .before .before .before .before .before .loop .f))
-    (keys c (c .before .before .before .before .before .before .before .before .args .g))
+compares : (c : tie.After-same-key Inv-loop μ-loop) →
+    c .same-key .result ≡ sameRow (keys c (turn c .before .loop .f)) (keys c (start c .args .g))
 compares c =
-    let a = c .before .before .before .before .before .before .before .before .args in
+    let a = start c .args in
     let x = c .before .before .before .place-of2 in
-    let y = c .before .before .before .before .before .before .before .place-of in
-    compared (a .rows .now) (a .k) (a .w) (a .first)
-    (c .before .before .before .before .before .loop .f)
-    (x .result .cell)
-    (x .result .at)
-    (a .g)
-    (y .result .cell)
-    (y .result .at)
-    (x .ensures .0)
-    (x .ensures .1)
-    (y .ensures .0)
-    (y .ensures .1)
-    (c .same-key .result)
-    (c .same-key .ensures)
+    let y = turn c .before .before .before .place-of in
+    compared (a .rows .now) (a .k) _ (a .first) _ _ _ _ _ _ (x .ensures .0) (x .ensures .1) (y .ensures .0) (y .ensures .1) _ (c .same-key .ensures)
 
 returns : tie.Need-returns Inv-loop μ-loop
 unfolding earlier
 returns c =
     let b = c .before in
-    let l = b .before .before .before .before .before .loop in
-    sym (walk-found (keys b) (b .before .before .before .before .before .before .before .before .args .g) (l .f)
-    (l .inv) (b .before .before .before .before .loop-test .taken) (sym (compares b) ∙ c .if1 .taken))
+    sym (walk-found (keys b) _ _ (turn b .before .loop .inv) (omega arith) (sym (compares b) ∙ c .if1 .taken))
 
 mul-f-2 : tie.Need-mul-f-2 Inv-loop μ-loop
-mul-f-2 c = omega (arith, lower (c .before .before .before .before .before))
+mul-f-2 c = omega (arith, lower (turn (c .before)))
 
 element-copy-out-f-2 : tie.Need-element-copy-out-f-2 Inv-loop μ-loop
-element-copy-out-f-2 c = omega (arith, lower (c .before .before .before .before .before))
+element-copy-out-f-2 c = omega (arith, lower (turn (c .before)))
 
 loop-less : tie.Need-loop-less Inv-loop μ-loop
 loop-less c =
     let b = c .before .before in
-    let s = b .before .before .before .before .before .before .before .before in
-    let l = b .before .before .before .before .before .loop in
-    let h = lower (b .before .before .before .before) in
-    rank-less (keys b) _ (l .f) _ (omega arith) (s .pre .1 (l .f) (omega arith))
+    let s = start b in
+    let h = lower (turn b) in
+    rank-less (keys b) _ _ _ (omega arith) (s .pre .1 _ (omega arith))
 
 loop-again : tie.Need-loop-again Inv-loop μ-loop
 loop-again c =
     let b = c .before .before in
-    let s = b .before .before .before .before .before .before .before .before in
-    let l = b .before .before .before .before .before .loop in
-    let h = lower (b .before .before .before .before) in
-    walk-next (keys b) (s .args .g) (l .f) _ (omega arith) (l .inv) (b .before .before .before .before .loop-test .taken)
-    (sym (compares b) ∙ c .before .if1 .left)
-    (s .pre .1 (l .f) (omega arith))
+    let s = start b in
+    let l = turn b .before .loop in
+    let h = lower (turn b) in
+    walk-next (keys b) _ _ _ (omega arith) (l .inv) (omega arith) (sym (compares b) ∙ c .before .if1 .left) (s .pre .1 _ (omega arith))
 
 returns-2 : tie.Need-returns-2 Inv-loop μ-loop
 unfolding earlier
 returns-2 c =
     let a = c .before .before .before .before .args in
-    sym (walk-end (keyRow (a .rows .now) (a .k) (a .w) (a .first)) (a .g) (c .before .loop .f) (c .before .loop .inv) (c .loop-test .left))
+    sym (walk-end (keyRow (a .rows .now) (a .k) (a .w) (a .first)) _ _ (c .before .loop .inv) (c .loop-test .left))
 
 pub back-spec : {M : Type 1} → statement M
 back-spec =

@@ -3,7 +3,6 @@ use mathlib.Core.Path.{_∙_}
 use Prim.Native.Nat.{_*_, _≤_}
 use native.Mathlib.Nat.{mul-le-mul-right}
 use native.Mathlib.Omega.{arith}
-use borrow.Author.Needs.{needs}
 use Rattle.matching.proofs.earlier_equal.Statement.{statement}
 use Rattle.matching.proofs.earlier_equal.Tie as tie
 
@@ -11,7 +10,7 @@ link-requires : tie.Need-link-requires
 link-requires c κs = c .before .pre
 
 most : (c : tie.Start) → c .args .s * c .args .w ≤ 4096 * c .args .w
-most c = mul-le-mul-right (c .args .w) (c .pre .1)
+most c = mul-le-mul-right _ (c .pre .1)
 
 mul-settle : tie.Need-mul-settle
 mul-settle c = omega (arith, most (c .before .before))

@@ -18,7 +18,7 @@ abbrev μ-loop : tie.MeasureT-loop
 μ-loop s k w first rows prev₀ head₀ p₀ prev head p = s - p
 
 loop-holds : tie.Need-loop-holds Inv-loop μ-loop
-loop-holds c = (omega arith, rw (zero-mul (c .args .w)) (linking-start _ _ (c .pre .2)), (λ g h. refl))
+loop-holds c = (omega arith, rw (zero-mul _) (linking-start _ _ (c .pre .2)), (λ g h. refl))
 
 link-cell-requires : tie.Need-link-cell-requires Inv-loop μ-loop
 link-cell-requires c κs =

@@ -33,8 +33,7 @@ bucket-requires c κs = ((c .before .before .before .pre .0 .0 .vertices, c .bef
 -- the key is one of 32768
 in-table : (c : tie.In-loop Inv-loop μ-loop) → c .before .before .before .args .p * c .before .before .before .args .w + c .before .loop .i < 32768
 in-table c =
-    let a = c .before .before .before .args in
-    omega (arith, key-below (a .p) (c .before .loop .i) (a .w) (c .loop-test .taken) (c .before .before .before .pre .0 .1))
+    omega (arith, key-below _ _ _ (c .loop-test .taken) (c .before .before .before .pre .0 .1))
 
 mul-g : tie.Need-mul-g Inv-loop μ-loop
 mul-g c = omega (arith, in-table (c .before))
@@ -78,11 +77,9 @@ loop-again c =
       omega arith,
       subst (λ (m : ℕ). Linking (keyRow (a .rows .now) (a .k) (a .w) (a .first))
           (set (l .head) (b .result) (a .p * a .w + l .i)) (set (l .prev) (a .p * a .w + l .i) (getD (l .head) (b .result) 0)) m)
-          (add-assoc (a .p * a .w) (l .i) 1)
-          (linking-more (keyRow (a .rows .now) (a .k) (a .w) (a .first)) (l .head) (l .prev) (a .p * a .w + l .i) (b .result)
+          (add-assoc (a .p * a .w) _ 1) (linking-more (keyRow (a .rows .now) (a .k) (a .w) (a .first)) _ _ (a .p * a .w + l .i) _
           (in-table (c .before .before))
-          (bucket-is (a .p) (l .i) (a .w) (c .before .before .loop-test .taken) (a .rows .now) (a .k) (a .first) (b .result) (b .ensures .0))
-          (b .ensures .1)
+          (bucket-is (a .p) _ _ (c .before .before .loop-test .taken) (a .rows .now) (a .k) (a .first) _ (b .ensures .0)) (b .ensures .1)
           (l .inv .1)),
       behind-set (a .p * a .w + a .w) (l .prev) (a .prev .now) (a .p * a .w + l .i) (getD (l .head) (b .result) 0) (omega arith) (l .inv .2),
     )

@@ -33,13 +33,7 @@ kept-requires-2 c κs = search needs
 returns : tie.Need-returns Inv-loop μ-loop
 returns c =
     let s = c .before .before .before in
-    let a = s .args in
-    sym
-    (other-length (a .rows .now) (a .k) (a .p) (a .a) (a .q) (a .b) (s .pre .0) (s .pre .1) (s .pre .2) (s .pre .3)
-    (c .before .before .kept .result)
-    (c .before .kept2 .result)
-    (c .before .before .kept .ensures)
-    (c .before .kept2 .ensures)
+    sym (other-length _ _ _ _ _ _ (s .pre .0) (s .pre .1) (s .pre .2) (s .pre .3) _ _ (c .before .before .kept .ensures) (c .before .kept2 .ensures)
     (c .if1 .taken))
 
 loop-holds : tie.Need-loop-holds Inv-loop μ-loop
@@ -53,8 +47,7 @@ mul-if2 c = search needs
 in-record : (c : tie.In-loop Inv-loop μ-loop) → c .before .loop .j < 8
 in-record c =
     let a = c .before .before .before .before .before .args in
-    kept-below (a .k) (a .a) (c .before .loop .j) (c .before .before .before .before .before .pre .1)
-    (omega (arith, c .before .loop .inv .0))
+    kept-below (a .k) (a .a) _ (omega arith) (omega arith)
 
 stands-requires : tie.Need-stands-requires Inv-loop μ-loop
 stands-requires c κs = in-record c
@@ -64,8 +57,7 @@ stood : (c : tie.After-stands Inv-loop μ-loop) → c .stands .result < 8
 stood c =
     let s = c .before .before .before .before .before .before in
     let l = c .before .before .loop in
-    subst (λ (x : ℕ). x < 8) (sym (c .stands .ensures))
-    (stands-below (s .args .k) (s .args .a) (l .j) (s .pre .1) (omega (arith, l .inv .0)))
+    subst (λ (x : ℕ). x < 8) (sym (c .stands .ensures)) (stands-below _ _ (l .j) (s .pre .1) (omega (arith, l .inv .0)))
 
 add-if2 : tie.Need-add-if2 Inv-loop μ-loop
 add-if2 c = omega (arith, stood c)
@@ -86,8 +78,7 @@ stood-2 : (c : tie.After-stands2 Inv-loop μ-loop) → c .stands2 .result < 8
 stood-2 c =
     let s = c .before .before .before .before .before .before .before .before in
     let l = c .before .before .before .before .loop in
-    subst (λ (x : ℕ). x < 8) (sym (c .stands2 .ensures))
-    (stands-below (s .args .k) (s .args .b) (l .j) (s .pre .1) (omega (arith, l .inv .1)))
+    subst (λ (x : ℕ). x < 8) (sym (c .stands2 .ensures)) (stands-below _ _ (l .j) (s .pre .1) (omega (arith, l .inv .1)))
 
 add-if2-2 : tie.Need-add-if2-2 Inv-loop μ-loop
 add-if2-2 c = omega (arith, stood-2 c)
@@ -102,19 +93,8 @@ returns-2 : tie.Need-returns-2 Inv-loop μ-loop
 returns-2 c =
     let s = c .before .before .before .before .before .before .before .before .before .before in
     let l = c .before .before .before .before .before .before .loop in
-    let a = s .args in
-    sym
-    (vertex-differs (a .rows .now) (a .k) (a .p) (a .a) (a .q) (a .b) (s .pre .0) (s .pre .1) (s .pre .2) (s .pre .3)
-    (c .before .before .before .before .before .before .before .before .before .kept .result)
-    (l .inv .0)
-    (l .inv .1)
-    (l .j)
-    (c .before .before .before .before .stands .result)
-    (c .before .before .stands2 .result)
-    (c .before .before .before .before .before .loop-test .taken)
-    (c .before .before .before .before .stands .ensures)
-    (c .before .before .stands2 .ensures)
-    (c .if2 .taken))
+    sym (vertex-differs _ _ _ _ _ _ (s .pre .0) (s .pre .1) (s .pre .2) (s .pre .3) _ (l .inv .0) (l .inv .1) _ _ _ (omega arith) (cc)
+    (c .before .before .stands2 .ensures) (c .if2 .taken))
 
 add-j : tie.Need-add-j Inv-loop μ-loop
 add-j c = search needs
@@ -125,36 +105,19 @@ loop-less c = search needs
 loop-again : tie.Need-loop-again Inv-loop μ-loop
 loop-again c =
     let s = c .before .before .before .before .before .before .before .before .before .before in
-    let l = c .before .before .before .before .before .before .loop in
-    let a = s .args in (
+    let l = c .before .before .before .before .before .before .loop in (
       l .inv .0,
       l .inv .1,
       omega arith,
-      below-more _ (l .j) (l .inv .3)
-          (vertex-same (a .rows .now) (a .k) (a .p) (a .a) (a .q) (a .b) (s .pre .0) (s .pre .1) (s .pre .2) (s .pre .3)
-          (c .before .before .before .before .before .before .before .before .before .kept .result)
-          (l .inv .0)
-          (l .inv .1)
-          (l .j)
-          (c .before .before .before .before .stands .result)
-          (c .before .before .stands2 .result)
-          (c .before .before .before .before .before .loop-test .taken)
-          (c .before .before .before .before .stands .ensures)
-          (c .before .before .stands2 .ensures)
-          (c .if2 .left)),
+      below-more _ _ (l .inv .3) (vertex-same _ _ _ _ _ _ (s .pre .0) (s .pre .1) (s .pre .2) (s .pre .3) _ (l .inv .0) (l .inv .1) _ _ _
+          (omega arith) (cc) (c .before .before .stands2 .ensures) (c .if2 .left)),
     )
 
 returns-3 : tie.Need-returns-3 Inv-loop μ-loop
 returns-3 c =
     let s = c .before .before .before .before .before in
     let l = c .before .loop in
-    let a = s .args in
-    sym
-    (vertices-same (a .rows .now) (a .k) (a .p) (a .a) (a .q) (a .b) (s .pre .0) (s .pre .1) (s .pre .2) (s .pre .3)
-    (c .before .before .before .before .kept .result)
-    (l .inv .0)
-    (l .inv .1)
-    (λ i h. l .inv .3 i (omega arith)))
+    sym (vertices-same _ _ _ _ _ _ (s .pre .0) (s .pre .1) (s .pre .2) (s .pre .3) _ (l .inv .0) (l .inv .1) (λ i h. l .inv .3 i (omega arith)))
 
 pub same-key-spec : {M : Type 1} → statement M
 same-key-spec =

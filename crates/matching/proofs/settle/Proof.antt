@@ -54,12 +54,11 @@ loop-again c =
     let a = s .args in
     let l = c .before .before .before .loop in (
       omega arith,
-      length-set (l .prev) (l .g - 1) (c .back .result) ∙ l .inv .1,
-      linked-below (keyRow (a .rows .now) (a .k) (a .w) (a .first)) (l .prev) (l .g - 1) (c .back .result) (λ f b. l .inv .2 f (omega arith)),
-      answered-more (earlier (a .rows .now) (a .k) (a .w) (a .first)) (l .prev) (a .n) (l .g - 1) (c .back .result) (omega (arith, l .inv .1))
-          (c .back .ensures)
+      length-set (l .prev) (l .g - 1) _ ∙ l .inv .1,
+      linked-below (keyRow _ (a .k) _ _) (l .prev) (l .g - 1) _ (λ f b. l .inv .2 f (omega arith)),
+      answered-more (earlier _ (a .k) (a .w) _) (l .prev) (a .n) (l .g - 1) _ (omega (arith, l .inv .1)) (c .back .ensures)
           (λ f h t. l .inv .3 f (omega arith) t),
-      behind-set (a .n) (l .prev) (a .prev .now) (l .g - 1) (c .back .result) (omega arith) (l .inv .4),
+      behind-set (a .n) (l .prev) (a .prev .now) (l .g - 1) _ (omega arith) (l .inv .4),
     )
 
 returns : tie.Need-returns Inv-loop μ-loop

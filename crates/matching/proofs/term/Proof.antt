@@ -14,17 +14,17 @@ add-result : tie.Need-add-result
 add-result c = search needs
 
 mul-result : tie.Need-mul-result
-mul-result c = omega (arith, inner-below (c .wide .result) (c .wide .ensures .1))
+mul-result c = omega (arith, inner-below _ (c .wide .ensures .1))
 
 add-result-2 : tie.Need-add-result-2
-add-result-2 c = omega (arith, inner-below (c .wide .result) (c .wide .ensures .1))
+add-result-2 c = omega (arith, inner-below _ (c .wide .ensures .1))
 
 mul-result-2 : tie.Need-mul-result-2
-mul-result-2 c = omega (arith, outer-below (c .wide .result) (c .wide .ensures .1))
+mul-result-2 c = omega (arith, outer-below _ (c .wide .ensures .1))
 
 returns : tie.Need-returns
 unfolding term
-returns c = (ap term (c .wide .ensures .0), outer-below (c .wide .result) (c .wide .ensures .1))
+returns c = (ap term (c .wide .ensures .0), outer-below _ (c .wide .ensures .1))
 
 pub term-spec : {M : Type 1} → statement M
 term-spec =

@@ -47,7 +47,7 @@ loop-again : tie.Need-loop-again Inv-loop μ-loop
 loop-again c =
     let l = c .before .before .before .loop in
     let a = c .before .before .before .before .args in
-    (omega arith, sum-more (a .rows .now) (a .p) (l .j) (l .sum) (c .term .result) (omega arith) (l .inv .1) (c .term .ensures .0), omega arith)
+    (omega arith, sum-more _ (a .p) (l .j) _ _ (omega arith) (l .inv .1) (c .term .ensures .0), omega arith)
 
 returns : tie.Need-returns Inv-loop μ-loop
 returns c =

@@ -1,7 +1,7 @@
 -- Each return is a case of the laws of Faults. Assumes nothing.
 --   held              the cells that are held
 --   after-pair        what pairing found, in the words of those laws
-use mathlib.Core.Bool.{Bool, true, false}
+use mathlib.Core.Bool.{true, false}
 use mathlib.Core.List.{List, []}
 use mathlib.Core.Path.{_≡_, refl, sym, ap, _∙_}
 use Prim.Native.Nat.{ℕ, _+_, _*_}
@@ -22,7 +22,7 @@ abbrev held : tie.Start → List Cell
 held s = let a = s .args in heldCells (a .d) (a .s) (a .rows .now) (a .signs .now)
 
 nine : (s : tie.Start) → cellTwice (held s) ≡ true → 9 ≡ faults (held s)
-nine s = let a = s .args in found-9 (a .d) (a .s) (a .rows .now) (a .signs .now) (s .pre .0 .0) (s .pre .0 .1) (s .pre .0 .2)
+nine s = let a = s .args in found-9 _ _ (a .rows .now) (a .signs .now) (s .pre .0 .0) (s .pre .0 .1) (s .pre .0 .2)
 
 -- what pairing found
 module _ (p : tie.After-pair) where
@@ -92,12 +92,11 @@ returns-2 c =
     let a = s .args in
     let empty : 0 ≡ faceCount (a .d) (a .s) = sym (ap (λ (d : ℕ). faceCount d (a .s)) (c .before .before .before .if1 .taken)) in
     let once = sym (c .before .any-repeated .ensures (a .signs .now)) ∙ c .if2 .left in (
-      found-none (a .d) (a .s) (a .rows .now) (a .signs .now) (s .pre .0 .0) (s .pre .0 .1)
+      found-none _ _ (a .rows .now) (a .signs .now) (s .pre .0 .0) (s .pre .0 .1)
           (s .pre .0 .2) [] 0 empty (λ g l. absurd (not-suc-le-zero l)) refl once refl,
       λ z.
-          found-wings (a .d) (a .s) (a .rows .now) (a .signs .now) (s .pre .0 .0)
-          (s .pre .0 .1) (s .pre .0 .2) [] 0 empty (λ g l. absurd (not-suc-le-zero l)) refl
-          (a .wings .now) (a .wings .now) (s .pre .1) (s .pre .0 .3) refl,
+          found-wings _ _ (a .rows .now) (a .signs .now) (s .pre .0 .0)
+          (s .pre .0 .1) (s .pre .0 .2) [] 0 empty (λ g l. absurd (not-suc-le-zero l)) refl (a .wings .now) _ (s .pre .1) (s .pre .0 .3) refl,
     )
 
 add-k : tie.Need-add-k
@@ -119,7 +118,7 @@ pair-requires : tie.Need-pair-requires
 pair-requires c κs =
     let s = c .before .before .before .before .before in
     let a = s .args in
-    (omega arith, omega arith, mul-le-mul-right {m = a .s} {n = 4096} (a .d + 1) (s .pre .0 .1), s .pre .0 .3 .0)
+    (omega arith, omega arith, mul-le-mul-right {n = 4096} (a .d + 1) (s .pre .0 .1), s .pre .0 .3 .0)
 
 any-repeated-requires-2 : tie.Need-any-repeated-requires-2
 any-repeated-requires-2 c κs = search needs
@@ -133,7 +132,7 @@ returns-4 : tie.Need-returns-4
 returns-4 c =
     let p = c .before .before .before .before in
     let once = sym (c .before .any-repeated2 .ensures (start p .args .signs .now)) ∙ c .if4 .left in
-    (ten p once (c .before .before .before .if3 .taken), λ z. absurd (omega (arith, z)))
+    (ten p once (cc), λ z. absurd (omega (arith, z)))
 
 returns-5 : tie.Need-returns-5
 returns-5 c =

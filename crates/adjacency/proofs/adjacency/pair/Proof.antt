@@ -25,27 +25,18 @@ add-part : tie.Need-add-part Inv-loop μ-loop
 add-part c = omega (arith, div-le-self 1048576 (c .args .k))
 
 loop-holds : tie.Need-loop-holds Inv-loop μ-loop
-loop-holds c =
-    let a = c .args in (
-      omega arith,
-      refl,
-      omega arith,
-      omega arith,
-      pairing-none (a .k) (a .n) (a .rows .now) (a .signs .now) (a .prev .now) 0 (a .wings .now) false false false,
-    )
+loop-holds c = (omega arith, refl, omega arith, omega arith, pairing-none _ _ _ _ _ 0 _ false false false)
 
 pair-at-requires : tie.Need-pair-at-requires Inv-loop μ-loop
 pair-at-requires c κs =
     let l = c .before .before .loop in
-    let s = c .before .before .before in
-    let a = s .args in (
+    let s = c .before .before .before in (
       (s .pre .0, s .pre .1, l .inv .1, s .pre .2),
       (
         l .inv .2,
         l .inv .3,
         c .before .loop-test .taken,
-        pairing-long (a .k) (a .n) (a .rows .now) (a .signs .now) (a .prev .now) (l .g) (a .wings .now)
-            (l .wings) (l .found .crowded) (l .found .repeated) (l .found .equal) (l .inv .4) ∙ s .pre .3,
+        pairing-long _ _ _ _ _ _ _ _ (l .found .crowded) (l .found .repeated) (l .found .equal) (l .inv .4) ∙ s .pre .3,
       ),
     )
 
@@ -54,8 +45,8 @@ small : (c : tie.In-loop Inv-loop μ-loop) → c .before .loop .here .cell < 409
 small c =
     let l = c .before .loop in
     let s = c .before .before in
-    subst (λ (x : ℕ). x < 4096) (ap (λ (x : ℕ). x / s .args .k) (l .inv .3) ∙ cell-of-key (l .here .cell) (l .here .at) (s .args .k) (l .inv .2))
-    (div-lt-iff-lt-mul {k = s .args .k} {x = l .g} {y = 4096} (s .pre .0) .1 (omega arith))
+    subst (λ (x : ℕ). x < 4096) (ap (λ (x : ℕ). x / s .args .k) (l .inv .3) ∙ cell-of-key (l .here .cell) (l .here .at) _ (l .inv .2))
+    (div-lt-iff-lt-mul {y = 4096} (s .pre .0) .1 (omega arith))
 
 next-requires : tie.Need-next-requires Inv-loop μ-loop
 next-requires c κs =
@@ -71,14 +62,12 @@ loop-less c = omega arith
 
 loop-again : tie.Need-loop-again Inv-loop μ-loop
 loop-again c =
-    let l = c .before .before .before .before .loop in
-    let a = c .before .before .before .before .before .args in (
+    let l = c .before .before .before .before .loop in (
       omega arith,
       l .inv .1,
       c .next .ensures .0,
       omega (arith, c .next .ensures .1, l .inv .3),
-      pairing-more (a .k) (a .n) (a .rows .now) (a .signs .now) (a .prev .now) (l .g) (a .wings .now) (l .found .crowded)
-          (l .found .repeated) (l .found .equal) (l .wings) _ _ _ _ (l .inv .4) (c .before .pair-at .ensures),
+      pairing-more _ _ _ _ _ _ _ (l .found .crowded) (l .found .repeated) (l .found .equal) _ _ _ _ _ (l .inv .4) (c .before .pair-at .ensures),
     )
 
 returns : tie.Need-returns Inv-loop μ-loop

@@ -20,13 +20,13 @@ wide-requires c κs = search needs
 
 -- the place of key g
 cell : (c : tie.Start) → c .args .g / c .args .k ≡ c .args .p
-cell c = ap (λ (x : ℕ). x / c .args .k) (c .pre .1 .1) ∙ cell-of-key (c .args .p) (c .args .a) (c .args .k) (c .pre .1 .0)
+cell c = ap (λ (x : ℕ). x / c .args .k) (c .pre .1 .1) ∙ cell-of-key _ _ _ (c .pre .1 .0)
 
 place : (c : tie.Start) → c .args .g % c .args .k ≡ c .args .a
-place c = ap (λ (x : ℕ). x % c .args .k) (c .pre .1 .1) ∙ place-of-key (c .args .p) (c .args .a) (c .args .k) (c .pre .1 .0)
+place c = ap (λ (x : ℕ). x % c .args .k) (c .pre .1 .1) ∙ place-of-key _ _ _ (c .pre .1 .0)
 
 small : (c : tie.Start) → c .args .p < 4096
-small c = subst (λ (x : ℕ). x < 4096) (cell c) (div-lt-iff-lt-mul {k = c .args .k} {x = c .args .g} {y = 4096} (c .pre .0 .0) .1 (omega arith))
+small c = subst (λ (x : ℕ). x < 4096) (cell c) (div-lt-iff-lt-mul {y = 4096} (c .pre .0 .0) .1 (omega arith))
 
 place-of-requires : tie.Need-place-of-requires
 place-of-requires c κs =
@@ -37,11 +37,7 @@ place-of-requires c κs =
 other : (c : tie.After-place-of) → c .place-of .result .cell < 4096
 other c =
     let s = c .before .before .before .before in
-    omega (
-      arith,
-      c .place-of .ensures .0,
-      div-lt-iff-lt-mul {k = s .args .k} {x = c .before .before .wide .result} {y = 4096} (s .pre .0 .0) .1 (omega arith),
-    )
+    omega (arith, c .place-of .ensures .0, div-lt-iff-lt-mul {x = c .before .before .wide .result} {y = 4096} (s .pre .0 .0) .1 (omega arith))
 
 cast-wings : tie.Need-cast-wings
 cast-wings c = omega (arith, other c)
@@ -69,18 +65,14 @@ returns c =
     let s = c .before .before .before .before .before in
     let a = s .args in
     let x = c .before .place-of in
-    met-seen (a .k) (a .n) (a .rows .now) (a .signs .now) (a .prev .now) (a .g)
-    (a .wings .now) (a .found .crowded) (a .found .repeated) (a .found .equal)
-    (c .before .before .before .wide .result) (c .before .before .before .wide .ensures) (a .p) (a .a) (x .result .cell)
-    (x .result .at) (cell s) (place s) (x .ensures .0) (x .ensures .1) (c .before .before .if1 .taken)
+    met-seen _ _ _ _ _ _ _ (a .found .crowded) (a .found .repeated) (a .found .equal) _ (omega arith) _ _ _
+    _ (cell s) (place s) (x .ensures .0) (x .ensures .1) (c .before .before .if1 .taken)
     _ _ _ _ refl (c .meet .ensures .0) (c .meet .ensures .1 .0) (c .meet .ensures .1 .1)
 
 returns-2 : tie.Need-returns-2
 returns-2 c =
     let a = c .before .before .before .args in
-    met-none (a .k) (a .n) (a .rows .now) (a .signs .now) (a .prev .now) (a .g)
-    (a .wings .now) (a .found .crowded) (a .found .repeated) (a .found .equal)
-    (c .before .wide .result) (c .before .wide .ensures) (c .if1 .left)
+    met-none _ _ _ _ _ _ _ (a .found .crowded) (a .found .repeated) (a .found .equal) _ (c .before .wide .ensures) (c .if1 .left)
 
 pub pair-at-spec : {M : Type 1} → statement M
 pair-at-spec =

@@ -26,9 +26,9 @@ returns : tie.Need-returns Inv-loop μ-loop
 returns c =
     let a = c .before .before .before .before .args in
     let j = c .before .before .before .loop .j in
-    let f = some-below (λ (p : ℕ). fallsAt (a .rows .now) p j) (a .s) (sym (c .before .column-falls .ensures) ∙ c .if1 .taken) in
+    let f = some-below (λ (p : ℕ). fallsAt (a .rows .now) p j) (a .s) (cc) in
     sym (any-below (falls (a .d) (a .rows .now)) (a .s) (f .0) (f .1)
-    (any-below (fallsAt (a .rows .now) (f .0)) (a .d) j (c .before .before .loop-test .taken) (f .2)))
+    (any-below (fallsAt (a .rows .now) (f .0)) _ j (c .before .before .loop-test .taken) (f .2)))
 
 add-j : tie.Need-add-j Inv-loop μ-loop
 add-j c = omega arith
@@ -42,8 +42,7 @@ loop-again c = (omega arith, below-more _ _ (c .before .before .before .loop .in
 returns-2 : tie.Need-returns-2 Inv-loop μ-loop
 returns-2 c =
     let a = c .before .before .args in
-    sym (none-below (falls (a .d) (a .rows .now)) (a .s)
-    (λ p l. none-below (fallsAt (a .rows .now) p) (a .d)
+    sym (none-below (falls (a .d) (a .rows .now)) _ (λ p l. none-below (fallsAt (a .rows .now) p) (a .d)
     (λ j h. below-not (λ (q : ℕ). fallsAt (a .rows .now) q j) (a .s) (c .before .loop .inv .1 j (omega arith)) p l)))
 
 pub any-falls-spec : {M : Type 1} → statement M

@@ -23,27 +23,23 @@ loop-holds c = (search needs, below-none _)
 
 mul-if1 : tie.Need-mul-if1 Inv-loop μ-loop
 mul-if1 c =
-    let inside = mul-lt-mul-of-pos-right {m = c .before .loop .p} {n = c .before .before .args .s}
-    {k = c .before .before .args .size} (c .loop-test .taken) (omega arith) in
+    let inside = mul-lt-mul-of-pos-right {k = c .before .before .args .size} (c .loop-test .taken) (omega arith) in
     omega arith
 
 mul-if1-2 : tie.Need-mul-if1-2 Inv-loop μ-loop
 mul-if1-2 c =
-    let inside = mul-lt-mul-of-pos-right {m = c .before .loop .p} {n = c .before .before .args .s}
-    {k = c .before .before .args .size} (c .loop-test .taken) (omega arith) in
+    let inside = mul-lt-mul-of-pos-right {k = c .before .before .args .size} (c .loop-test .taken) (omega arith) in
     omega arith
 
 shared-slice-read-if1 : tie.Need-shared-slice-read-if1 Inv-loop μ-loop
 shared-slice-read-if1 c =
-    let inside = mul-lt-mul-of-pos-right {m = c .before .before .loop .p} {n = c .before .before .before .args .s}
-    {k = c .before .before .before .args .size} (c .before .loop-test .taken) (omega arith) in
+    let inside = mul-lt-mul-of-pos-right {k = c .before .before .before .args .size} (c .before .loop-test .taken) (omega arith) in
     omega arith
 
 returns : tie.Need-returns Inv-loop μ-loop
 returns c =
     let a = c .before .before .before .before .args in
-    sym (any-below (badAt (a .size) (a .words .now)) (a .s) (c .before .before .before .loop .p)
-    (c .before .before .loop-test .taken) (lt-ltb _ _ (c .if1 .taken)))
+    sym (any-below (badAt (a .size) (a .words .now)) _ _ (c .before .before .loop-test .taken) (lt-ltb _ _ (c .if1 .taken)))
 
 add-p : tie.Need-add-p Inv-loop μ-loop
 add-p c = search needs
@@ -57,7 +53,7 @@ loop-again c = (search needs, below-more _ _ (c .before .before .before .loop .i
 returns-2 : tie.Need-returns-2 Inv-loop μ-loop
 returns-2 c =
     let a = c .before .before .args in
-    sym (none-below (badAt (a .size) (a .words .now)) (a .s) (λ q l. c .before .loop .inv .1 q (omega arith)))
+    sym (none-below (badAt _ (a .words .now)) (a .s) (λ q l. c .before .loop .inv .1 q (omega arith)))
 
 pub bad-sign-spec : {M : Type 1} → statement M
 bad-sign-spec =

@@ -39,8 +39,8 @@ wide-requires c κs = search needs
 returns : tie.Need-returns Inv-loop μ-loop
 returns c =
     let a = c .before .before .before .before .before .args in
-    sym (any-below (beyondAt (a .d) (a .v) (a .rows .now)) (a .s) (c .before .before .before .before .loop .p)
-    (c .before .before .before .loop-test .taken) (ap (leb (a .v)) (sym (c .before .wide .ensures)) ∙ le-leb _ _ (c .if1 .taken)))
+    sym (any-below (beyondAt (a .d) (a .v) (a .rows .now)) _ _
+    (c .before .before .before .loop-test .taken) (ap (leb _) (sym (c .before .wide .ensures)) ∙ le-leb _ _ (c .if1 .taken)))
 
 add-p : tie.Need-add-p Inv-loop μ-loop
 add-p c = search needs
@@ -49,16 +49,15 @@ loop-less : tie.Need-loop-less Inv-loop μ-loop
 loop-less c = search needs
 
 loop-again : tie.Need-loop-again Inv-loop μ-loop
-loop-again c =
-    let a = c .before .before .before .before .before .args in (
-      search needs,
-      below-more _ _ (c .before .before .before .before .loop .inv .1) (ap (leb (a .v)) (sym (c .before .wide .ensures)) ∙ lt-leb _ _ (c .if1 .left)),
-    )
+loop-again c = (
+  search needs,
+  below-more _ _ (c .before .before .before .before .loop .inv .1) (ap (leb _) (sym (c .before .wide .ensures)) ∙ lt-leb _ _ (c .if1 .left)),
+)
 
 returns-2 : tie.Need-returns-2 Inv-loop μ-loop
 returns-2 c =
     let a = c .before .before .args in
-    sym (none-below (beyondAt (a .d) (a .v) (a .rows .now)) (a .s) (λ q l. c .before .loop .inv .1 q (omega arith)))
+    sym (none-below (beyondAt _ _ (a .rows .now)) (a .s) (λ q l. c .before .loop .inv .1 q (omega arith)))
 
 pub beyond-spec : {M : Type 1} → statement M
 beyond-spec =

@@ -49,8 +49,7 @@ element-copy-out-if1-2 c = omega arith
 returns : tie.Need-returns Inv-loop μ-loop
 returns c =
     let a = c .before .before .before .before .before .args in
-    sym (any-below (λ (q : ℕ). fallsAt (a .rows .now) q (a .j)) (a .s) (c .before .before .before .before .loop .p)
-    (c .before .before .before .loop-test .taken) (le-leb _ _ (c .if1 .taken)))
+    sym (any-below (λ (q : ℕ). fallsAt (a .rows .now) q (a .j)) _ _ (c .before .before .before .loop-test .taken) (le-leb _ _ (c .if1 .taken)))
 
 add-p : tie.Need-add-p Inv-loop μ-loop
 add-p c = omega arith
@@ -64,7 +63,7 @@ loop-again c = (omega arith, below-more _ _ (c .before .before .before .before .
 returns-2 : tie.Need-returns-2 Inv-loop μ-loop
 returns-2 c =
     let a = c .before .before .args in
-    sym (none-below (λ (q : ℕ). fallsAt (a .rows .now) q (a .j)) (a .s) (λ q l. c .before .loop .inv .1 q (omega arith)))
+    sym (none-below (λ (q : ℕ). fallsAt (a .rows .now) q _) (a .s) (λ q l. c .before .loop .inv .1 q (omega arith)))
 
 pub column-falls-spec : {M : Type 1} → statement M
 column-falls-spec =

@@ -25,7 +25,6 @@ gather-cell-requires : tie.Need-gather-cell-requires Inv-loop μ-loop
 gather-cell-requires c κs =
     let a = c .before .before .before .before .before .args in
     let l = c .before .before .before .loop in
-    let pre = c .before .before .before .before .before .pre in
     let inside = mul-le-mul-right {m = suc (l .p)} {n = a .s} (a .size) (omega arith) in
     ((omega arith, omega arith, omega arith, omega arith, omega (arith, inside, suc-mul (l .p) (a .size))), (l .inv .1, l .inv .2))
 
@@ -39,7 +38,7 @@ loop-again : tie.Need-loop-again Inv-loop μ-loop
 loop-again c =
     let l = c .before .before .before .before .loop in
     let g = c .gather-cell .ensures in
-    (omega arith, g .wide, g .many, below-more _ (l .p) (λ q h. g .old q h ∙ l .inv .3 q h) (g .new))
+    (omega arith, g .wide, g .many, below-more _ _ (λ q h. g .old q h ∙ l .inv .3 q h) (g .new))
 
 returns : tie.Need-returns Inv-loop μ-loop
 returns c = ((c .before .loop .inv .1, c .before .loop .inv .2), (λ p h. c .before .loop .inv .3 p (omega arith)))

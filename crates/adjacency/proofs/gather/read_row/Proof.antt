@@ -13,7 +13,7 @@ abbrev μ-loop : tie.MeasureT-loop
 μ-loop n at words row₀ j₀ row j = 8 - j
 
 loop-holds : tie.Need-loop-holds Inv-loop μ-loop
-loop-holds c = (omega arith, read-none (c .args .n) (c .args .at) (c .args .words .now))
+loop-holds c = (omega arith, read-none _ (c .args .at) (c .args .words .now))
 
 add-row : tie.Need-add-row Inv-loop μ-loop
 add-row c = omega arith
@@ -41,17 +41,15 @@ loop-again c =
     let l = c .before .before .loop in
     let a = c .before .before .before .args in (
       omega arith,
-      ⊎-elim
-          (λ w. read-more (a .n) (a .at) (a .words .now) (l .j) (l .row) (c .if1 .row) (l .inv .1) (c .before .loop-test .taken) (w .0 .taken) (w .2))
-          (λ w. read-no-more (a .n) (a .at) (a .words .now) (l .j) (l .row) (c .if1 .row) (l .inv .1) (w .0 .left) (w .1)) (c .if1 .came),
+      ⊎-elim (λ w. read-more _ (a .at) (a .words .now) _ (l .row) (c .if1 .row) (l .inv .1) (c .before .loop-test .taken) (w .0 .taken) (w .2))
+          (λ w. read-no-more _ (a .at) (a .words .now) _ (l .row) (c .if1 .row) (l .inv .1) (w .0 .left) (w .1)) (c .if1 .came),
     )
 
 returns : tie.Need-returns Inv-loop μ-loop
 returns c =
     let l = c .before .loop in
     let s = c .before .before in
-    let a = s .args in
-    (l .inv .1 .0, read-all (a .n) (a .at) (a .words .now) (l .j) (l .row) (l .inv .1) (omega arith) (s .pre .0) (s .pre .1))
+    (l .inv .1 .0, read-all _ _ _ _ _ (l .inv .1) (omega arith) (s .pre .0) (s .pre .1))
 
 pub read-row-spec : {M : Type 1} → statement M
 read-row-spec =

@@ -15,7 +15,7 @@ abbrev μ-loop : tie.MeasureT-loop
 μ-loop p rows₀ row j₀ rows j = 8 - j
 
 loop-holds : tie.Need-loop-holds Inv-loop μ-loop
-loop-holds c = (omega arith, paste-zero (c .args .rows .now) (c .args .p * 8) (c .args .t1))
+loop-holds c = (omega arith, paste-zero _ (c .args .p * 8) (c .args .t1))
 
 mul-rows : tie.Need-mul-rows Inv-loop μ-loop
 mul-rows c = search needs
@@ -44,7 +44,7 @@ loop-less c = search needs
 loop-again : tie.Need-loop-again Inv-loop μ-loop
 loop-again c =
     let a = c .before .before .args in
-    (omega arith, store-more (a .rows .now) (a .t1) (a .p * 8) (c .before .loop .j) _ (c .before .loop .inv .1) (omega arith) (omega arith))
+    (omega arith, store-more _ _ (a .p * 8) _ _ (c .before .loop .inv .1) (omega arith) (omega arith))
 
 returns : tie.Need-returns Inv-loop μ-loop
 returns c =

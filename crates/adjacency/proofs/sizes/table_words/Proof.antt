@@ -13,7 +13,7 @@ add-result-2 : tie.Need-add-result-2
 add-result-2 c = search needs
 
 mul-result : tie.Need-mul-result
-mul-result c = omega (arith, mul-le-mul {n₁ = c .args .s} {m₁ = c .args .d + c .args .d + 3} {n₂ = 4096} {m₂ = 17} (c .pre .1) (omega arith))
+mul-result c = omega (arith, mul-le-mul {m₁ = c .args .d + c .args .d + 3} {n₂ = 4096} {m₂ = 17} (c .pre .1) (omega arith))
 
 returns : tie.Need-returns
 returns c = search needs

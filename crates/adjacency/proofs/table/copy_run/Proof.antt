@@ -21,7 +21,7 @@ abbrev μ-loop : tie.MeasureT-loop
 μ-loop n from words to table₀ j₀ table j = 8 - j
 
 loop-holds : tie.Need-loop-holds Inv-loop μ-loop
-loop-holds c = (omega arith, omega arith, sym (placed-none (c .args .to) (c .args .table .now)))
+loop-holds c = (omega arith, omega arith, sym (placed-none _ _))
 
 add-table : tie.Need-add-table Inv-loop μ-loop
 add-table c = omega arith
@@ -39,7 +39,7 @@ mul-table-2 : tie.Need-mul-table-2 Inv-loop μ-loop
 mul-table-2 c = omega arith
 
 slice-write-table : tie.Need-slice-write-table Inv-loop μ-loop
-slice-write-table c = omega (arith, c .before .before .before .loop .inv .1)
+slice-write-table c = omega arith
 
 add-j : tie.Need-add-j Inv-loop μ-loop
 add-j c = omega arith
@@ -54,10 +54,9 @@ loop-again c =
     let a = s .args in (
       omega arith,
       ⊎-elim (λ w. ap length (w .2) ∙ length-set (l .table) _ _ ∙ l .inv .1) (λ w. ap length (w .1) ∙ l .inv .1) (c .if1 .came),
-      ⊎-elim (λ w. run-more (a .n) (a .from) (a .to) (l .j) (a .words .now) (a .table .now)
-          (l .table) (c .if1 .table) (s .pre .2) (l .inv .2) (w .0 .taken) (w .2))
-          (λ w. run-no-more (a .n) (a .from) (a .to) (l .j) (a .words .now) (a .table .now)
-          (l .table) (c .if1 .table) (s .pre .2) (l .inv .2) (w .0 .left) (w .1)) (c .if1 .came),
+      ⊎-elim (λ w. run-more _ (a .from) _ _ (a .words .now) (a .table .now) _ (c .if1 .table) (s .pre .2) (l .inv .2) (w .0 .taken) (w .2))
+          (λ w. run-no-more _ (a .from) _ _ (a .words .now) (a .table .now)
+          _ (c .if1 .table) (s .pre .2) (l .inv .2) (w .0 .left) (w .1)) (c .if1 .came),
     )
 
 same-length : tie.Need-same-length Inv-loop μ-loop
@@ -68,8 +67,7 @@ returns c =
     let l = c .before .loop in
     let s = c .before .before in
     let a = s .args in
-    l .inv .2 ∙ ap (λ (t : List ℕ). placed (a .to) t (a .table .now))
-    (take-all (l .j) (run (a .n) (a .from) (a .words .now))
+    l .inv .2 ∙ ap (λ (t : List ℕ). placed (a .to) t (a .table .now)) (take-all (l .j) (run (a .n) _ (a .words .now))
     (omega (arith, tabulate-length (a .n) (λ (j : ℕ). getD (a .words .now) (a .from + j) 0), s .pre .0)))
 
 pub copy-run-spec : {M : Type 1} → statement M

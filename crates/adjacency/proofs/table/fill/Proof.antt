@@ -22,13 +22,13 @@ abbrev μ-loop : tie.MeasureT-loop
 μ-loop d s rows signs wings table₀ at₀ p₀ table at p = s - p
 
 loop-holds : tie.Need-loop-holds Inv-loop μ-loop
-loop-holds c = (omega arith, omega arith, omega arith, sym (placed-none 0 (c .before .args .table .now)))
+loop-holds c = (omega arith, omega arith, omega arith, sym (placed-none 0 _))
 
 write-record-requires : tie.Need-write-record-requires Inv-loop μ-loop
 write-record-requires c κs =
     let l = c .before .before .loop in
     let a = c .before .before .before .before .args in
-    (omega arith, omega arith, omega (arith, record-fits (recordSize (a .d)) (l .p) (a .s) (c .before .loop-test .taken), l .inv .2))
+    (omega arith, omega arith, omega (arith, record-fits (recordSize (a .d)) _ _ (c .before .loop-test .taken), l .inv .2))
 
 add-at : tie.Need-add-at Inv-loop μ-loop
 add-at c = omega arith
@@ -40,7 +40,7 @@ add-at-3 : tie.Need-add-at-3 Inv-loop μ-loop
 add-at-3 c =
     let l = c .before .before .before .before .before .loop in
     let a = c .before .before .before .before .before .before .before .args in
-    omega (arith, record-fits (recordSize (a .d)) (l .p) (a .s) (c .before .before .before .before .loop-test .taken))
+    omega (arith, record-fits (recordSize (a .d)) (l .p) (a .s) (omega arith))
 
 add-p : tie.Need-add-p Inv-loop μ-loop
 add-p c = omega arith
@@ -53,10 +53,9 @@ loop-again c =
     let l = c .before .before .before .before .before .loop in
     let s = c .before .before .before .before .before .before .before in
     let a = s .args in
-    let f : ℕ → List ℕ = recordHeld (a .d) (a .rows .now) (a .signs .now) (a .wings .now) in
+    let f : ℕ → List ℕ = recordHeld (a .d) _ _ _ in
     let more =
-    placed-record (a .s) 0 (l .p) (l .at) (l .at + recordSize (a .d)) f (a .table .now)
-    (l .table) _ (omega (arith, c .before .before .before .before .loop-test .taken))
+    placed-record (a .s) 0 (l .p) (l .at) (l .at + recordSize (a .d)) f _ _ _ (omega arith)
     (omega (arith, records-length (a .d) (a .rows .now) (a .signs .now) (a .wings .now) (a .s), s .pre .2))
     (omega (arith, l .inv .1, records-length (a .d) (a .rows .now) (a .signs .now) (a .wings .now) (l .p))) (l .inv .3)
     (omega (arith, record-long (a .d) (a .rows .now) (a .signs .now) (a .wings .now) (l .p))) (c .before .before .write-record .ensures) in

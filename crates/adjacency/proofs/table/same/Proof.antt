@@ -24,16 +24,14 @@ loop-holds c = (omega arith, omega arith, below-none _)
 
 same-record-requires : tie.Need-same-record-requires Inv-loop μ-loop
 same-record-requires c κs =
-    let l = c .before .loop in
     let a = c .before .before .before .args in
-    (omega arith, omega arith, omega (arith, record-fits (recordSize (a .d)) (l .p) (a .s) (c .loop-test .taken)))
+    (omega arith, omega arith, omega (arith, record-fits (recordSize (a .d)) _ _ (c .loop-test .taken)))
 
 returns : tie.Need-returns Inv-loop μ-loop
 returns c =
     let l = c .before .before .before .loop in
     let a = c .before .before .before .before .before .args in
-    sym (table-other (a .d) (a .rows .now) (a .signs .now) (a .wings .now) (a .s) (a .table .now)
-    (c .before .before .before .before .before .pre .2) (l .p) (c .before .before .loop-test .taken)
+    sym (table-other _ (a .rows .now) (a .signs .now) (a .wings .now) _ (a .table .now) (cc) _ (c .before .before .loop-test .taken)
     (ap (λ (i : ℕ). sameRow (run (recordSize (a .d)) i (a .table .now)) (recordHeld (a .d) (a .rows .now) (a .signs .now) (a .wings .now) (l .p)))
     (sym (l .inv .1)) ∙ sym (c .before .same-record .ensures) ∙ not-true _ (c .if1 .taken)))
 
@@ -45,13 +43,8 @@ add-at-2 c = omega arith
 
 add-at-3 : tie.Need-add-at-3 Inv-loop μ-loop
 add-at-3 c =
-    let l = c .before .before .before .loop in
     let a = c .before .before .before .before .before .args in
-    omega (
-      arith,
-      record-fits (recordSize (a .d)) (l .p) (a .s) (c .before .before .loop-test .taken),
-      c .before .before .before .before .before .pre .2,
-    )
+    omega (arith, record-fits (recordSize (a .d)) _ _ (c .before .before .loop-test .taken))
 
 add-p : tie.Need-add-p Inv-loop μ-loop
 add-p c = omega arith
@@ -65,17 +58,15 @@ loop-again c =
     let a = c .before .before .before .before .before .args in (
       omega arith,
       omega (arith, record-next (recordSize (a .d)) (l .p)),
-      below-more _ (l .p) (l .inv .2)
-          (ap (λ (i : ℕ). run (recordSize (a .d)) i (a .table .now)) (sym (l .inv .1))
-          ∙ sameRow-true (run (recordSize (a .d)) (l .at) (a .table .now)) (recordHeld (a .d) (a .rows .now) (a .signs .now) (a .wings .now) (l .p))
+      below-more _ _ (l .inv .2) (ap (λ (i : ℕ). run (recordSize (a .d)) i (a .table .now)) (sym (l .inv .1))
+          ∙ sameRow-true (run (recordSize (a .d)) _ (a .table .now)) (recordHeld _ _ _ _ _)
           (sym (c .before .same-record .ensures) ∙ not-false _ (c .if1 .left))),
     )
 
 returns-2 : tie.Need-returns-2 Inv-loop μ-loop
 returns-2 c =
     let a = c .before .before .before .args in
-    sym (table-same (a .d) (a .rows .now) (a .signs .now) (a .wings .now) (a .s) (a .table .now)
-    (c .before .before .before .pre .2) (λ q h. c .before .loop .inv .2 q (omega arith)))
+    sym (table-same _ _ _ _ _ (a .table .now) (cc) (λ q h. c .before .loop .inv .2 q (omega arith)))
 
 pub same-spec : {M : Type 1} → statement M
 same-spec =

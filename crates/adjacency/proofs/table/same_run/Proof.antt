@@ -37,9 +37,8 @@ element-copy-out-if1 c = omega arith
 
 returns : tie.Need-returns Inv-loop μ-loop
 returns c =
-    let l = c .before .before .before .before .loop in
     let a = c .before .before .before .before .before .args in
-    sym (run-other (a .n) (a .from) (a .to) (a .words .now) (a .table .now) (l .j) (c .before .before .before .loop-test .taken) (c .if1 .taken))
+    sym (run-other _ (a .from) (a .to) (a .words .now) (a .table .now) _ (c .before .before .before .loop-test .taken) (c .if1 .taken))
 
 add-j : tie.Need-add-j Inv-loop μ-loop
 add-j c = omega arith
@@ -50,13 +49,13 @@ loop-less c = omega arith
 loop-again : tie.Need-loop-again Inv-loop μ-loop
 loop-again c =
     let l = c .before .before .before .before .loop in
-    (omega arith, below-more _ (l .j) (l .inv .1) (c .if1 .left))
+    (omega arith, below-more _ _ (l .inv .1) (c .if1 .left))
 
 returns-2 : tie.Need-returns-2 Inv-loop μ-loop
 returns-2 c =
     let l = c .before .loop in
     let a = c .before .before .args in
-    sym (run-same (a .n) (a .from) (a .to) (a .words .now) (a .table .now) (λ j h. l .inv .1 j (omega arith)))
+    sym (run-same (a .n) _ _ (a .words .now) (a .table .now) (λ j h. l .inv .1 j (omega arith)))
 
 pub same-run-spec : {M : Type 1} → statement M
 same-run-spec =

@@ -61,9 +61,8 @@ copy-run-requires-2 c κs =
       omega (arith, mul-le-mul-right {m = a .p} {n = 4095} (a .d + 1) (omega arith)),
       omega (
         arith,
-        part-room (a .d) (a .rows .now) (a .signs .now) (a .wings .now) (a .p) (a .at)
-            (c .before .before .before .before .before .sign-word .result) (a .table .now) _ (s .pre .2)
-            (c .before .before .before .before .before .sign-word .ensures) (c .before .before .before .copy-run .ensures),
+        part-room _ (a .rows .now) (a .signs .now) (a .wings .now) _ _ _ (a .table .now) _ (s .pre .2)
+            (cc) (c .before .before .before .copy-run .ensures),
       ),
     )
 
@@ -71,9 +70,7 @@ same-length : tie.Need-same-length
 same-length c =
     let s = c .before .before .before .before .before .before .before .before .before .before .before in
     let a = s .args in
-    ap length (record-placed (a .d) (a .rows .now) (a .signs .now) (a .wings .now) (a .p) (a .at)
-    (c .before .before .before .before .before .before .before .before .sign-word .result) (a .table .now)
-    _ (s .pre .2) (c .before .before .before .before .before .before .before .before .sign-word .ensures)
+    ap length (record-placed (a .d) _ _ _ (a .p) (a .at) _ _ _ (s .pre .2) (cc)
     (c .before .before .before .before .before .before .copy-run .ensures) _ (c .before .before .copy-run2 .ensures))
     ∙ placed-length (a .at) (recordHeld (a .d) (a .rows .now) (a .signs .now) (a .wings .now) (a .p))
     (a .table .now) (omega (arith, record-long (a .d) (a .rows .now) (a .signs .now) (a .wings .now) (a .p)))
@@ -81,10 +78,7 @@ same-length c =
 returns : tie.Need-returns
 returns c =
     let s = c .before .before .before .before .before .before .before .before .before .before .before in
-    let a = s .args in
-    record-placed (a .d) (a .rows .now) (a .signs .now) (a .wings .now) (a .p) (a .at)
-    (c .before .before .before .before .before .before .before .before .sign-word .result) (a .table .now)
-    _ (s .pre .2) (c .before .before .before .before .before .before .before .before .sign-word .ensures)
+    record-placed _ _ _ _ _ _ _ _ _ (s .pre .2) (cc)
     (c .before .before .before .before .before .before .copy-run .ensures) _ (c .before .before .copy-run2 .ensures)
 
 pub write-record-spec : {M : Type 1} → statement M

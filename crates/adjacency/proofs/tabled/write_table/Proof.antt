@@ -1,7 +1,7 @@
 -- `write_table` answers `tableRefusal` and leaves `tableAfter`: each return is a case of the laws of Tabling. Assumes nothing.
 use mathlib.Core.Bool.{Bool, false}
-use mathlib.Core.Path.{refl, sym, _∙_}
-use Prim.Native.Nat.{ℕ, _+_, _*_, _≤_}
+use mathlib.Core.Path.{_∙_}
+use Prim.Native.Nat.{ℕ, _+_, _≤_}
 use native.Mathlib.Nat.{mul-le-mul}
 use native.Mathlib.Omega.{arith}
 use lib.ListN.{length, length-replicate}
@@ -17,7 +17,7 @@ abbrev start : tie.After-take → tie.Start
 start c = c .before .before .before .before .before .before
 
 limits : (s : tie.Start) → (s .args .d ≤ 7) × (1 ≤ s .args .s) × (s .args .s ≤ 4096)
-limits s = limits-of (s .args .d) (s .args .v) (s .args .s) (s .pre .0)
+limits s = limits-of _ (s .args .v) _ (s .pre .0)
 
 add-take : tie.Need-add-take
 add-take c = omega (arith, limits (c .before .before) .0)
@@ -35,8 +35,8 @@ returns c =
     let t = c .before .take in
     let s = start (c .before) in
     let a = s .args in
-    let e = table-refused (a .d) (a .v) (a .s) (a .cells .now) (s .pre .1) (t .result) (t .ensures .0) (length (a .table .now)) (c .if1 .taken) in
-    (e, after-refused (a .d) (a .v) (a .s) (a .cells .now) (a .table .now) (t .result) (c .if1 .taken) e)
+    let e = table-refused _ _ _ _ (s .pre .1) _ (t .ensures .0) (length (a .table .now)) (c .if1 .taken) in
+    (e, after-refused _ _ _ _ _ _ (c .if1 .taken) e)
 
 add-if2 : tie.Need-add-if2
 add-if2 c = omega (arith, limits (start (c .before)) .0)
@@ -55,9 +55,8 @@ returns-2 c =
     let t = c .before .before .take in
     let s = start (c .before .before) in
     let a = s .args in
-    let e = table-no-room (a .d) (a .v) (a .s) (a .cells .now) (s .pre .1) (t .result)
-    (t .ensures .0) (length (a .table .now)) (c .before .if1 .left) (c .if2 .taken) in
-    (e, after-refused (a .d) (a .v) (a .s) (a .cells .now) (a .table .now) 15 (λ z. absurd (omega (arith, z))) e)
+    let e = table-no-room _ _ _ _ (s .pre .1) _ (t .ensures .0) (length (a .table .now)) (c .before .if1 .left) (c .if2 .taken) in
+    (e, after-refused _ _ _ _ _ 15 (λ z. absurd (omega (arith, z))) e)
 
 fill-requires : tie.Need-fill-requires
 fill-requires c κs =
@@ -76,14 +75,12 @@ returns-3 c =
     let s = start call in
     let a = s .args in
     let lim = limits s in
-    let e = table-accepted (a .d) (a .v) (a .s) (a .cells .now) (s .pre .1) (t .result)
-    (t .ensures .0) (length (a .table .now)) (else .before .if1 .left) (else .if2 .left) in (
+    let e = table-accepted _ _ _ _ (s .pre .1) _ (t .ensures .0) (length (a .table .now)) (else .before .if1 .left) (else .if2 .left) in (
       e,
       c .before .before .fill .ensures
-          ∙ taken-written (a .d) (a .v) (a .s) (a .cells .now) (t .last .1 .1 .1 .1 .1 .0)
-          (t .last .1 .1 .1 .1 .1 .1 .0) (t .last .1 .1 .1 .1 .1 .1 .1 .0)
-          (a .table .now) (lim .0) (lim .2) (s .pre .1) (t .ensures .1 (else .before .if1 .left))
-          ∙ after-accepted (a .d) (a .v) (a .s) (a .cells .now) (a .table .now) e,
+          ∙ taken-written _ _ _ _ (t .last .1 .1 .1 .1 .1 .0) (t .last .1 .1 .1 .1 .1 .1 .0) (t .last .1 .1 .1 .1 .1 .1 .1 .0)
+          _ (lim .0) (lim .2) (s .pre .1) (t .ensures .1 (else .before .if1 .left))
+          ∙ after-accepted _ _ _ _ _ e,
     )
 
 pub write-table-spec : {M : Type 1} → statement M

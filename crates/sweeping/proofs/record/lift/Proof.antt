@@ -9,7 +9,7 @@ use Rattle.sweeping.proofs.record.lift.Statement.{statement}
 use Rattle.sweeping.proofs.record.lift.Tie as tie
 
 below : (c : tie.Start) → atLevel (c .args .v) (c .args .i) (c .args .x) < sweptVertices (c .args .v) (c .args .h)
-below c = vertex-inside (c .args .v) (c .args .h) (c .args .i) (c .args .x) (c .pre .1) (c .pre .2)
+below c = vertex-inside _ _ _ _ (c .pre .1) (c .pre .2)
 
 mul-result : tie.Need-mul-result
 mul-result c = omega (arith, below c)

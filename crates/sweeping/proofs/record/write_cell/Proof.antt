@@ -22,8 +22,7 @@ words c = let a = c .args in recordWords (a .d) (a .v) (a .s) (a .h) (a .table .
 
 long : (c : tie.Start) → length (words c) ≡ c .args .d + c .args .d + 5
 long c =
-    let a = c .args in
-    record-long (a .d) (a .v) (a .s) (a .h) (a .table .now) (a .i) (a .p) (a .k) (c .pre .0 .long) (c .pre .1 .0 .1) (c .pre .1 .0 .2)
+    record-long _ _ _ _ _ _ _ _ (c .pre .0 .long) (c .pre .1 .0 .1) (c .pre .1 .0 .2)
 
 room : (c : tie.Start) → c .args .at + length (words c) ≤ length (c .args .out .now)
 room c = omega (arith, long c)
@@ -82,10 +81,9 @@ signed : (c : tie.After-turned) → let start = c .before .before .before .befor
 signed c =
     let start = c .before .before .before .before in
     let a = start .args in
-    placed-start (a .at) _ (words start) (a .out .now) (omega (arith, long start)) (room start)
+    placed-start _ _ (words start) _ (omega (arith, long start)) (room start)
     (c .turned .ensures ∙ ap (λ (w : ℕ). turnedSign w (a .k * a .d)) (c .before .sign .ensures)
-    ∙ sym (word-sign (a .d) (a .v) (a .s) (a .h) (a .table .now) (a .i) (a .p)
-    (a .k) (start .pre .0 .long) (start .pre .1 .0 .1) (start .pre .1 .0 .2)))
+    ∙ sym (word-sign _ _ _ _ _ _ _ _ (start .pre .0 .long) (start .pre .1 .0 .1) (start .pre .1 .0 .2)))
 
 lowered : (c : tie.After-write-vertices) (E : List ℕ) → let start = c .before .before .before .before .before .before in let a = start .args in
     E ≡ placed (a .at + 1) (tabulate (a .d + 1 - a .k) (liftedFrom (a .d) (a .v) (a .s) (a .table .now) (a .i) (a .p) (a .k)))
@@ -94,11 +92,8 @@ lowered : (c : tie.After-write-vertices) (E : List ℕ) → let start = c .befor
 lowered c E e =
     let start = c .before .before .before .before .before .before in
     let a = start .args in
-    placed-piece (a .at) 1 (a .d + 1 - a .k) (a .at + 1)
-    (liftedFrom (a .d) (a .v) (a .s) (a .table .now) (a .i) (a .p) (a .k)) (words start) (a .out .now) _ _
-    (omega (arith, long start)) (room start)
-    (λ j l. sym (word-lower (a .d) (a .v) (a .s) (a .h) (a .table .now) (a .i) (a .p) (a .k)
-    (start .pre .0 .long) (start .pre .1 .0 .1) (start .pre .1 .0 .2) (1 + j) j (omega arith) (omega arith)))
+    placed-piece _ 1 (a .d + 1 - a .k) (a .at + 1) (liftedFrom _ _ _ _ _ _ _) (words start) _ _ _ (omega (arith, long start)) (room start)
+    (λ j l. sym (word-lower _ _ _ _ _ _ _ _ (start .pre .0 .long) (start .pre .1 .0 .1) (start .pre .1 .0 .2) (1 + j) j (omega arith) (omega arith)))
     (omega arith) (signed (c .before .before)) e
 
 -- and the upper ones
@@ -111,17 +106,14 @@ whole c old E eo e =
     let start = c .before .before .before .before .before .before .before .before .before .before in
     let a = start .args in
     let all : 1 + (a .d + 1 - a .k) + (a .k + 1) ≡ a .d + 3 = omega arith in
-    placed-piece (a .at) (1 + (a .d + 1 - a .k)) (a .k + 1) (a .at + a .d + 2 - a .k)
-    (liftedFrom (a .d) (a .v) (a .s) (a .table .now) (a .i + 1) (a .p) 0) (words start) (a .out .now) _ _
-    (omega (arith, long start)) (room start)
-    (λ j l. sym (word-upper (a .d) (a .v) (a .s) (a .h) (a .table .now) (a .i) (a .p) (a .k) (start .pre .0 .long)
-    (start .pre .1 .0 .1) (start .pre .1 .0 .2) (1 + (a .d + 1 - a .k) + j) j (omega arith) (omega arith)))
-    (omega arith) eo e
+    placed-piece _ (1 + (a .d + 1 - a .k)) (a .k + 1) (a .at + a .d + 2 - a .k) (liftedFrom _ _ _ _ (a .i + 1) _ 0) (words start) _ _ _
+    (omega (arith, long start)) (room start) (λ j l. sym (word-upper _ _ _ _ _ _ _ _ (start .pre .0 .long)
+    (start .pre .1 .0 .1) (start .pre .1 .0 .2) (1 + (a .d + 1 - a .k) + j) j (omega arith) (omega arith))) (omega arith) eo e
     ∙ ap (λ (n : ℕ). placed (a .at) (take n (words start)) (a .out .now)) all
 
 -- a buffer with some of the words is as long as before
 kept : (c : tie.Start) (n : ℕ) (E : List ℕ) → E ≡ placed (c .args .at) (take n (words c)) (c .args .out .now) → length E ≡ length (c .args .out .now)
-kept c n E e = ap length e ∙ placed-length (c .args .at) (take n (words c)) (c .args .out .now) (omega (arith, room c, length-take n (words c)))
+kept c n E e = ap length e ∙ placed-length _ (take n (words c)) _ (omega (arith, room c, length-take n (words c)))
 
 write-vertices-requires-2 : tie.Need-write-vertices-requires-2
 write-vertices-requires-2 c κs =

@@ -1,7 +1,7 @@
 -- A record: its cell, then its wings. Assumes nothing.
 use mathlib.Core.Path.{_≡_, sym, ap, _∙_}
 use mathlib.Core.List.{List}
-use Prim.Native.Nat.{ℕ, _+_, _≤_}
+use Prim.Native.Nat.{ℕ, _+_}
 use native.Mathlib.Omega.{arith}
 use borrow.Author.Needs.{needs}
 use lib.ListN.{length, take, length-take}
@@ -22,13 +22,12 @@ words c = let a = c .args in recordWords (a .d) (a .v) (a .s) (a .h) (a .table .
 
 long : (c : tie.Start) → length (words c) ≡ c .args .d + c .args .d + 5
 long c =
-    let a = c .args in
-    record-long (a .d) (a .v) (a .s) (a .h) (a .table .now) (a .i) (a .p) (a .k) (c .pre .0 .long) (c .pre .1 .0 .1) (c .pre .1 .0 .2)
+    record-long _ _ _ _ _ _ _ _ (c .pre .0 .long) (c .pre .1 .0 .1) (c .pre .1 .0 .2)
 
 -- a buffer with some of the words is as long as before
 kept : (c : tie.Start) (n : ℕ) (E : List ℕ) → E ≡ placed (c .args .at) (take n (words c)) (c .args .out .now) → length E ≡ length (c .args .out .now)
 kept c n E e =
-    ap length e ∙ placed-length (c .args .at) (take n (words c)) (c .args .out .now) (omega (arith, c .pre .1 .1 .1, length-take n (words c)))
+    ap length e ∙ placed-length _ (take n (words c)) _ (omega (arith, c .pre .1 .1 .1, length-take n (words c)))
 
 -- behind the cell, the wings
 whole : (c : tie.Start) (old E : List ℕ) → let a = c .args in
@@ -39,15 +38,11 @@ whole : (c : tie.Start) (old E : List ℕ) → let a = c .args in
 whole c old E eo e =
     let a = c .args in
     let all : a .d + 3 + (a .d + 2) ≡ length (words c) = omega (arith, long c) in
-    placed-piece (a .at) (a .d + 3) (a .d + 2) (a .at + a .d + 3)
-    (wingWord (a .d) (a .s) (a .h) (a .firsts .now) (a .rows .now) (a .cells .now) (a .i) (a .p) (a .k)) (words c) (a .out .now) _ _
-    (omega (arith, long c)) (c .pre .1 .1 .1)
-    (λ j l. wing-word (a .d) (a .v) (a .s) (a .h) (a .table .now) (c .pre .0) (a .i) (a .p)
-    (c .pre .1 .0 .0) (c .pre .1 .0 .1) (a .firsts .now) (a .rows .now) (a .cells .now) (c .pre .1 .1 .0)
-    (a .k) j (c .pre .1 .0 .2) (omega arith)
-    ∙ sym (word-wing (a .d) (a .v) (a .s) (a .h) (a .table .now) (a .i) (a .p) (a .k)
-    (c .pre .0 .long) (c .pre .1 .0 .1) (c .pre .1 .0 .2) j (omega arith)))
-    (omega arith) eo e
+    placed-piece _ (a .d + 3) (a .d + 2) (a .at + a .d + 3)
+    (wingWord (a .d) (a .s) (a .h) (a .firsts .now) (a .rows .now) (a .cells .now) (a .i) (a .p) (a .k)) (words c) _ _ _
+    (omega (arith, long c)) (c .pre .1 .1 .1) (λ j l. wing-word _ _ _ _ _ (c .pre .0) _ _ (c .pre .1 .0 .0) (c .pre .1 .0 .1) _ _ _ (c .pre .1 .1 .0)
+    _ j (c .pre .1 .0 .2) (omega arith)
+    ∙ sym (word-wing _ _ _ _ _ _ _ _ (c .pre .0 .long) (c .pre .1 .0 .1) (c .pre .1 .0 .2) j (omega arith))) (omega arith) eo e
     ∙ ap (λ (l : List ℕ). placed (a .at) l (a .out .now)) (ap (λ (n : ℕ). take n (words c)) all ∙ take-length (words c))
 
 write-cell-requires : tie.Need-write-cell-requires
@@ -64,10 +59,8 @@ add-write-wings-2 c = search needs
 write-wings-requires : tie.Need-write-wings-requires
 write-wings-requires c κs =
     let cell = c .before .before .before in
-    let start = cell .before .before .before .before in
-    let a = start .args in (
-      sides-fit (a .d) (a .v) (a .s) (a .h) (a .table .now) (start .pre .0) (a .i) (a .p) (start .pre .1 .0 .0)
-          (start .pre .1 .0 .1) (a .firsts .now) (a .rows .now) (a .cells .now) (start .pre .1 .1 .0),
+    let start = cell .before .before .before .before in (
+      sides-fit _ _ _ _ _ (start .pre .0) _ _ (start .pre .1 .0 .0) (start .pre .1 .0 .1) _ _ _ (start .pre .1 .1 .0),
       (
         (start .pre .0 .dimension, start .pre .0 .cells, start .pre .1 .0 .0, start .pre .1 .0 .1, start .pre .1 .0 .2),
         omega (arith, start .pre .1 .1 .1, long start, kept start (start .args .d + 3) _ (cell .write-cell .ensures)),
@@ -89,7 +82,7 @@ same-length c =
     let cell = wings .before .before .before .before in
     let start = cell .before .before .before .before in
     let done = whole start _ _ (cell .write-cell .ensures) (wings .write-wings .ensures) in
-    ap length done ∙ placed-length (start .args .at) (words start) (start .args .out .now) (start .pre .1 .1 .1)
+    ap length done ∙ placed-length _ (words start) _ (start .pre .1 .1 .1)
 
 returns : tie.Need-returns
 returns c =

@@ -25,10 +25,10 @@ abbrev words : tie.Start Inv-loop μ-loop → List ℕ
 words c = let a = c .args in tabulate (a .count) (λ j. sideWord (a .firsts .now) (a .rows .now) (a .cells .now) (a .a + j) (a .l))
 
 long : (c : tie.Start Inv-loop μ-loop) → length (words c) ≡ c .args .count
-long c = let a = c .args in tabulate-length (a .count) (λ j. sideWord (a .firsts .now) (a .rows .now) (a .cells .now) (a .a + j) (a .l))
+long c = let a = c .args in tabulate-length _ (λ j. sideWord (a .firsts .now) (a .rows .now) (a .cells .now) (a .a + j) (a .l))
 
 loop-holds : tie.Need-loop-holds Inv-loop μ-loop
-loop-holds c = let a = c .before .args in (omega arith, omega arith, sym (placed-none (a .at) (a .out .now)))
+loop-holds c = (omega arith, omega arith, sym (placed-none _ _))
 
 add-side-word : tie.Need-add-side-word Inv-loop μ-loop
 add-side-word c = search needs
@@ -40,8 +40,8 @@ side-word-requires c κs =
     let a = start .args in
     let l-low = start .pre .1 .0 .2 (omega arith) in (
       omega arith,
-      start .pre .0 .reach (a .a + at .loop .j) (a .l) (omega arith) l-low,
-      start .pre .0 .fits (a .a + at .loop .j) (a .l) (omega arith) l-low,
+      start .pre .0 .reach (a .a + at .loop .j) _ (omega arith) l-low,
+      start .pre .0 .fits (a .a + at .loop .j) _ (omega arith) l-low,
     )
 
 add-out : tie.Need-add-out Inv-loop μ-loop
@@ -64,12 +64,11 @@ loop-again c =
     let at = c .before .before in
     let start = at .before .before in
     let a = start .args in
-    let f : ℕ → ℕ = (λ j. sideWord (a .firsts .now) (a .rows .now) (a .cells .now) (a .a + j) (a .l)) in (
+    let f : ℕ → ℕ = (λ j. sideWord (a .firsts .now) (a .rows .now) (a .cells .now) (a .a + j) _) in (
       omega arith,
       length-set (at .loop .out) _ _ ∙ at .loop .inv .1,
-      placed-word (a .at) (at .loop .j) _ (words start) (a .out .now) (at .loop .out)
-          (omega (arith, long start)) (omega (arith, long start)) (at .loop .inv .2)
-          (c .side-word .ensures ∙ sym (tabulate-at (a .count) f (at .loop .j) 0 (omega arith))),
+      placed-word _ _ _ (words start) _ _ (omega (arith, long start)) (omega (arith, long start)) (at .loop .inv .2)
+          (c .side-word .ensures ∙ sym (tabulate-at (a .count) f _ 0 (omega arith))),
     )
 
 same-length : tie.Need-same-length Inv-loop μ-loop

@@ -26,10 +26,10 @@ abbrev words : tie.Start Inv-loop μ-loop → List ℕ
 words c = let a = c .args in tabulate (a .n) (liftedFrom (a .d) (a .v) (a .s) (a .table .now) (a .i) (a .p) (a .a))
 
 long : (c : tie.Start Inv-loop μ-loop) → length (words c) ≡ c .args .n
-long c = let a = c .args in tabulate-length (a .n) (liftedFrom (a .d) (a .v) (a .s) (a .table .now) (a .i) (a .p) (a .a))
+long c = tabulate-length _ (liftedFrom _ _ _ _ _ _ _)
 
 loop-holds : tie.Need-loop-holds Inv-loop μ-loop
-loop-holds c = let a = c .before .before .args in (omega arith, omega arith, sym (placed-none (a .at) (a .out .now)))
+loop-holds c = (omega arith, omega arith, sym (placed-none _ _))
 
 add-vertex : tie.Need-add-vertex Inv-loop μ-loop
 add-vertex c = search needs
@@ -47,7 +47,7 @@ lift-requires c κs =
     let a = start .args in (
       start .pre .0 .vertices,
       start .pre .1 .0 .0,
-      omega (arith, c .wide .ensures, c .before .vertex .ensures, start .pre .0 .low (a .p) (a .a + at .loop .j) (start .pre .1 .0 .1) (omega arith)),
+      omega (arith, c .wide .ensures, start .pre .0 .low _ (a .a + at .loop .j) (start .pre .1 .0 .1) (omega arith)),
     )
 
 add-out : tie.Need-add-out Inv-loop μ-loop
@@ -70,13 +70,12 @@ loop-again c =
     let at = c .before .before .before .before in
     let start = at .before .before .before in
     let a = start .args in
-    let f : ℕ → ℕ = (liftedFrom (a .d) (a .v) (a .s) (a .table .now) (a .i) (a .p) (a .a)) in (
+    let f : ℕ → ℕ = (liftedFrom _ _ _ _ _ _ _) in (
       omega arith,
       length-set (at .loop .out) _ _ ∙ at .loop .inv .1,
-      placed-word (a .at) (at .loop .j) _ (words start) (a .out .now) (at .loop .out)
-          (omega (arith, long start)) (omega (arith, long start)) (at .loop .inv .2)
-          (c .lift .ensures ∙ ap (atLevel (a .v) (a .i)) (c .before .wide .ensures ∙ c .before .before .vertex .ensures)
-          ∙ sym (tabulate-at (a .n) f (at .loop .j) 0 (omega arith))),
+      placed-word _ _ _ (words start) _ _ (omega (arith, long start)) (omega (arith, long start)) (at .loop .inv .2)
+          (c .lift .ensures ∙ ap (atLevel _ _) (c .before .wide .ensures ∙ c .before .before .vertex .ensures)
+          ∙ sym (tabulate-at (a .n) f _ 0 (omega arith))),
     )
 
 same-length : tie.Need-same-length Inv-loop μ-loop

@@ -33,7 +33,7 @@ room c = omega (arith, long c)
 
 -- a buffer with some of the words is as long as before
 kept : (c : tie.Start) (n : ℕ) (E : List ℕ) → E ≡ placed (c .args .at) (take n (words c)) (c .args .out .now) → length E ≡ length (c .args .out .now)
-kept c n E e = ap length e ∙ placed-length (c .args .at) (take n (words c)) (c .args .out .now) (omega (arith, room c, length-take n (words c)))
+kept c n E e = ap length e ∙ placed-length _ (take n (words c)) _ (omega (arith, room c, length-take n (words c)))
 
 -- the wing above is written,
 first : (c : tie.After-wing-above) → let start = c .before .before in
@@ -41,7 +41,7 @@ first : (c : tie.After-wing-above) → let start = c .before .before in
 first c =
     let start = c .before .before in
     let a = start .args in
-    placed-start (a .at) _ (words start) (a .out .now) (omega (arith, long start)) (room start)
+    placed-start _ _ (words start) _ (omega (arith, long start)) (room start)
     (c .wing-above .ensures ∙ sym (tabulate-at (a .d + 2) (wingOf start) 0 0 (omega arith)))
 
 -- then the sides over the faces from k + 1,
@@ -52,11 +52,9 @@ lowered : (c : tie.After-write-sides) (E : List ℕ) → let start = c .before .
 lowered c E e =
     let start = c .before .before .before .before in
     let a = start .args in
-    placed-piece (a .at) 1 (a .d - a .k) (a .at + 1) (λ j. sideOf start (a .k + 1 + j) (a .k)) (words start) (a .out .now) _ _
-    (omega (arith, long start)) (room start)
+    placed-piece _ 1 (a .d - a .k) (a .at + 1) (λ j. sideOf start (a .k + 1 + j) _) (words start) _ _ _ (omega (arith, long start)) (room start)
     (λ j l. sym (tabulate-at (a .d + 2) (wingOf start) (1 + j) 0 (omega arith)
-    ∙ wing-low (a .d) (a .s) (a .h) (a .firsts .now) (a .rows .now) (a .cells .now) (a .i)
-    (a .p) (a .k) (1 + j) (a .k + 1 + j) (omega arith) (omega arith) (omega arith)))
+    ∙ wing-low _ _ _ (a .firsts .now) (a .rows .now) (a .cells .now) _ _ _ (1 + j) (a .k + 1 + j) (omega arith) (omega arith) (omega arith)))
     (omega arith) (first (c .before .before)) e
 
 -- over the faces from 0,
@@ -70,14 +68,11 @@ raised c old E eo e =
     let start = less .before .before .before .before .before .before .before in
     let a = start .args in
     let all : 1 + (a .d - a .k) + a .k ≡ a .d + 1 = omega arith in
-    placed-piece (a .at) (1 + (a .d - a .k)) (a .k) (a .at + a .d + 1 - a .k)
-    (λ j. sideOf start (0 + j) (less .less-one .result)) (words start) (a .out .now) _ _
-    (omega (arith, long start)) (room start)
-    (λ j l. ap (λ (n : ℕ). sideOf start (0 + j) n) (less .less-one .ensures)
+    placed-piece _ (1 + (a .d - a .k)) _ (a .at + a .d + 1 - a .k) (λ j. sideOf start (0 + j) _) (words start) _ _ _
+    (omega (arith, long start)) (room start) (λ j l. ap (λ (n : ℕ). sideOf start (0 + j) n) (less .less-one .ensures)
     ∙ sym (tabulate-at (a .d + 2) (wingOf start) (1 + (a .d - a .k) + j) 0 (omega arith)
-    ∙ wing-high (a .d) (a .s) (a .h) (a .firsts .now) (a .rows .now) (a .cells .now) (a .i) (a .p)
-    (a .k) (1 + (a .d - a .k) + j) (0 + j) (omega arith) (omega arith) (omega arith) (omega arith)))
-    (omega arith) eo e
+    ∙ wing-high _ _ _ (a .firsts .now) (a .rows .now) (a .cells .now) _ _
+    _ (1 + (a .d - a .k) + j) (0 + j) (omega arith) (omega arith) (omega arith) (omega arith))) (omega arith) eo e
     ∙ ap (λ (n : ℕ). placed (a .at) (take n (words start)) (a .out .now)) all
 
 -- and the wing below
@@ -91,10 +86,9 @@ last c E e =
     let place : a .at + a .d + 1 ≡ a .at + (a .d + 1) = omega arith in
     let all : a .d + 1 + 1 ≡ length (words start) = omega (arith, long start) in
     ap (λ (n : ℕ). set E n (c .wing-below .result)) place
-    ∙ placed-word (a .at) (a .d + 1) (c .wing-below .result) (words start) (a .out .now) E (omega (arith, long start)) (room start) e
-    (c .wing-below .ensures
+    ∙ placed-word _ (a .d + 1) _ (words start) _ E (omega (arith, long start)) (room start) e (c .wing-below .ensures
     ∙ sym (tabulate-at (a .d + 2) (wingOf start) (a .d + 1) 0 (omega arith)
-    ∙ wing-last (a .d) (a .s) (a .h) (a .firsts .now) (a .rows .now) (a .cells .now) (a .i) (a .p) (a .k) (a .d + 1) (omega arith)))
+    ∙ wing-last _ _ _ (a .firsts .now) (a .rows .now) (a .cells .now) _ _ (a .k) (a .d + 1) (omega arith)))
     ∙ ap (λ (l : List ℕ). placed (a .at) l (a .out .now)) (ap (λ (n : ℕ). take n (words start)) all ∙ take-length (words start))
 
 wing-above-requires : tie.Need-wing-above-requires
@@ -141,7 +135,7 @@ write-sides-requires-2 c κs =
     let start = sides .before .before .before .before in (
       start .pre .0,
       (
-        (start .pre .1 .0 .0, omega arith, λ l. omega (arith, c .before .less-one .ensures)),
+        (start .pre .1 .0 .0, omega arith, λ l. omega arith),
         omega (arith, start .pre .1 .1, kept start (1 + (start .args .d - start .args .k)) _ (lowered sides _ (sides .write-sides .ensures))),
       ),
     )
@@ -184,7 +178,7 @@ same-length c =
     let sides = second .before .before .before .before .before in
     let start = sides .before .before .before .before in
     let done = last c _ (raised second _ _ (lowered sides _ (sides .write-sides .ensures)) (second .write-sides2 .ensures)) in
-    ap length done ∙ placed-length (start .args .at) (words start) (start .args .out .now) (room start)
+    ap length done ∙ placed-length _ (words start) _ (room start)
 
 returns : tie.Need-returns
 returns c =

@@ -13,7 +13,7 @@ offset-requires c κs = search needs
 inside : (c : tie.After-offset) → sideIndex (c .before .args .d) (c .before .args .a) (c .before .args .l) + 1 < 224
 inside c =
     let start = c .before in
-    step-rule-holds (start .args .d) (start .args .a) (start .args .l) (start .pre .0) (start .pre .1) (start .pre .2) .inside
+    step-rule-holds _ _ _ (start .pre .0) (start .pre .1) (start .pre .2) .inside
 
 mul-result : tie.Need-mul-result
 mul-result c = omega (arith, inside c)

@@ -56,8 +56,7 @@ side-number-requires-2 c κs = inside (c .before)
 
 returns-4 : tie.Need-returns-4
 returns-4 c =
-    let start = c .before .before .before .before .before .before in
-    found (start .args .d) (start .args .a) (start .args .l) _ _ _ (omega arith) (omega arith) (omega arith)
+    found _ _ _ _ _ _ (omega arith) (omega arith) (omega arith)
     (c .before .before .side-index .ensures) (c .before .side-number .ensures) (c .side-number2 .ensures)
 
 pub side-pair-spec : {M : Type 1} → statement M

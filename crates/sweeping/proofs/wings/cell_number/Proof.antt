@@ -10,13 +10,13 @@ use Rattle.sweeping.proofs.wings.cell_number.Tie as tie
 
 below : (c : tie.Start) →
     cellNumber (c .args .d) (c .args .s) (c .args .i) (c .args .p) (c .args .k) < sweptCells (c .args .d) (c .args .s) (c .args .h)
-below c = number-inside (c .args .d) (c .args .s) (c .args .h) (c .args .i) (c .args .p) (c .args .k) (c .pre .1) (c .pre .2) (c .pre .3)
+below c = number-inside _ _ _ _ _ _ (c .pre .1) (c .pre .2) (c .pre .3)
 
 level : (c : tie.Start) → c .args .s * suc (c .args .d) ≤ sweptCells (c .args .d) (c .args .s) (c .args .h)
-level c = level-inside (c .args .d) (c .args .s) (c .args .h) (c .args .i) (c .args .p) (c .args .k) (c .pre .1) (c .pre .2) (c .pre .3)
+level c = level-inside _ _ _ _ _ _ (c .pre .1) (c .pre .2) (c .pre .3)
 
 prism : (c : tie.Start) → suc (c .args .d) ≤ c .args .s * suc (c .args .d)
-prism c = prism-inside (c .args .d) (c .args .s) (c .args .h) (c .args .i) (c .args .p) (c .args .k) (c .pre .1) (c .pre .2) (c .pre .3)
+prism c = prism-inside _ _ _ _ _ _ (c .pre .1) (c .pre .2) (c .pre .3)
 
 add-result : tie.Need-add-result
 add-result c = omega (arith, below c, prism c, level c)

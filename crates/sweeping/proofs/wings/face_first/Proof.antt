@@ -1,6 +1,6 @@
 -- `face_first` is `faceFirst`. Assumes nothing.
 use mathlib.Core.Path.{_≡_, refl, sym, ap, _∙_}
-use Prim.Native.Nat.{ℕ, _*_, _<_}
+use Prim.Native.Nat.{ℕ, _<_}
 use native.Mathlib.Omega.{arith}
 use borrow.Author.Needs.{needs}
 use borrow.Author.Tests.{eq-eqb, ne-eqb}
@@ -23,7 +23,7 @@ across c = c .wide .ensures ∙ c .before .before .wing .ensures
 low : (c : tie.After-wide) → c .wide .result < c .before .before .before .before .args .s
 low c =
     let start = c .before .before .before .before in
-    omega (arith, across c, start .pre .0 .across (start .args .p) (start .args .a) (start .pre .1 .1) (start .pre .1 .2) (full (c .before)))
+    omega (arith, across c, start .pre .0 .across _ _ (start .pre .1 .1) (start .pre .1 .2) (full (c .before)))
 
 wing-requires : tie.Need-wing-requires
 wing-requires c κs = search needs

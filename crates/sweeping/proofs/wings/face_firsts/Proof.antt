@@ -37,12 +37,10 @@ loop-less c = search needs
 
 loop-again : tie.Need-loop-again Inv-loop μ-loop
 loop-again c =
-    let at = c .before .before in
-    let a = at .before .before .args in (
+    let at = c .before .before in (
       omega arith,
       length-set (at .loop .firsts) _ _ ∙ at .loop .inv .1,
-      holds-more (at .loop .a) _ (faceFirst (a .d) (a .s) (solidWing (a .d) (a .s) (a .table .now)) (a .i) (a .p))
-          (at .loop .firsts) (omega arith) (at .loop .inv .2) (c .face-first .ensures),
+      holds-more _ _ (faceFirst _ _ (solidWing _ _ _) _ _) (at .loop .firsts) (omega arith) (at .loop .inv .2) (c .face-first .ensures),
     )
 
 returns : tie.Need-returns Inv-loop μ-loop

@@ -23,7 +23,7 @@ across c = c .wide .ensures ∙ c .before .before .wing .ensures
 low : (c : tie.After-wide) → c .wide .result < c .before .before .before .before .args .s
 low c =
     let start = c .before .before .before .before in
-    omega (arith, across c, start .pre .0 .across (start .args .p) (start .args .a) (start .pre .1 .0) (start .pre .1 .1) (full (c .before)))
+    omega (arith, across c, start .pre .0 .across _ _ (start .pre .1 .0) (start .pre .1 .1) (full (c .before)))
 
 wing-requires : tie.Need-wing-requires
 wing-requires c κs = search needs
@@ -51,12 +51,7 @@ back-is c =
 mul-result : tie.Need-mul-result
 mul-result c =
     let start = c .before .before .before .before .before in
-    omega (
-      arith,
-      back-is c,
-      start .pre .0 .dimension,
-      start .pre .0 .back (start .args .p) (start .args .a) (start .pre .1 .0) (start .pre .1 .1) (full (c .before .before)),
-    )
+    omega (arith, back-is c, start .pre .0 .dimension, start .pre .0 .back _ _ (start .pre .1 .0) (start .pre .1 .1) (full (c .before .before)))
 
 returns-2 : tie.Need-returns-2
 returns-2 c = rw (ne-eqb _ _ (full (c .before .before))) (ap (λ (b : ℕ). b * 8) (back-is c))

@@ -1,5 +1,5 @@
 -- `side_cell` is `sideCell`. Assumes nothing.
-use mathlib.Core.Path.{refl, ap, _∙_}
+use mathlib.Core.Path.{ap}
 use borrow.Author.Needs.{needs}
 use borrow.Author.Tests.{lt-ltb, le-ltb}
 use Rattle.sweeping.proofs.wings.side_cell.Statement.{statement}

@@ -36,11 +36,10 @@ loop-less c = search needs
 
 loop-again : tie.Need-loop-again Inv-loop μ-loop
 loop-again c =
-    let at = c .before .before in
-    let a = at .before .args in (
+    let at = c .before .before in (
       omega arith,
       length-set (at .loop .cells) _ _ ∙ at .loop .inv .1,
-      holds-more (at .loop .n) _ (sideCell (a .d)) (at .loop .cells) (omega arith) (at .loop .inv .2) (c .side-cell .ensures),
+      holds-more _ _ (sideCell _) (at .loop .cells) (omega arith) (at .loop .inv .2) (c .side-cell .ensures),
     )
 
 returns : tie.Need-returns Inv-loop μ-loop

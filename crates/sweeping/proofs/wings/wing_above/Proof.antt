@@ -18,7 +18,7 @@ cell-number-requires c κs = search needs
 returns : tie.Need-returns
 returns c =
     let a = c .before .before .args in
-    rw (lt-ltb _ _ (c .before .if1 .taken)) (c .cell-number .ensures ∙ ap (λ (n : ℕ). cellNumber (a .d) (a .s) (a .i) (a .p) n) (add-one (a .k)))
+    rw (lt-ltb _ _ (c .before .if1 .taken)) (c .cell-number .ensures ∙ ap (λ (n : ℕ). cellNumber (a .d) (a .s) (a .i) (a .p) n) (add-one _))
 
 add-if2 : tie.Need-add-if2
 add-if2 c = search needs
@@ -26,7 +26,7 @@ add-if2 c = search needs
 returns-2 : tie.Need-returns-2
 returns-2 c =
     let last : suc (c .before .before .args .i) ≡ c .before .before .args .h = omega arith in
-    rw (le-ltb _ _ (c .before .if1 .left), eq-eqb (suc (c .before .before .args .i)) (c .before .before .args .h) last) refl
+    rw (le-ltb _ _ (c .before .if1 .left), eq-eqb (suc _) _ last) refl
 
 add-cell-number-2 : tie.Need-add-cell-number-2
 add-cell-number-2 c = search needs
@@ -38,7 +38,7 @@ returns-3 : tie.Need-returns-3
 returns-3 c =
     let a = c .before .before .before .args in
     let more : suc (a .i) ≡ a .h → ⊥ = λ e. c .before .if2 .left (omega arith) in
-    rw (le-ltb _ _ (c .before .before .if1 .left), ne-eqb (suc (a .i)) (a .h) more)
+    rw (le-ltb _ _ (c .before .before .if1 .left), ne-eqb (suc _) _ more)
     (c .cell-number2 .ensures ∙ ap (λ (n : ℕ). cellNumber (a .d) (a .s) n (a .p) 0) (add-one (a .i)))
 
 pub wing-above-spec : {M : Type 1} → statement M

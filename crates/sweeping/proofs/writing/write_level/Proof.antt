@@ -30,7 +30,7 @@ room c =
     omega (arith, c .pre .1 .1 .1, ap length (level-is (a .d) (a .v) (a .s) (a .h) (a .table .now) (a .i)))
 
 loop-holds : tie.Need-loop-holds Inv-loop μ-loop
-loop-holds c = let a = c .before .before .args in (omega arith, omega arith, omega arith, sym (placed-none (a .at) (a .out .now)))
+loop-holds c = (omega arith, omega arith, omega arith, sym (placed-none _ _))
 
 write-prism-requires : tie.Need-write-prism-requires Inv-loop μ-loop
 write-prism-requires c κs =
@@ -47,7 +47,7 @@ write-prism-requires c κs =
             room start,
             at .loop .inv .1,
             at .loop .inv .2,
-            concat-fits (a .s) (at .loop .p) (prismWords (a .d) (a .v) (a .s) (a .h) (a .table .now) (a .i)) (c .before .loop-test .taken),
+            concat-fits _ _ (prismWords (a .d) (a .v) (a .s) (a .h) (a .table .now) (a .i)) (c .before .loop-test .taken),
           ),
         ),
       ),
@@ -66,9 +66,7 @@ loop-again c =
     let a = start .args in
     let call = c .before .before .write-prism in
     let more =
-    placed-record (a .s) (a .at) (at .loop .p) (at .loop .next) (call .result)
-    (prismWords (a .d) (a .v) (a .s) (a .h) (a .table .now) (a .i)) (a .out .now) (at .loop .out) _
-    (omega (arith, c .before .before .before .before .loop-test .taken)) (room start)
+    placed-record (a .s) (a .at) _ _ _ (prismWords (a .d) (a .v) (a .s) (a .h) _ (a .i)) (a .out .now) _ _ (omega arith) (room start)
     (at .loop .inv .1) (at .loop .inv .3) (call .ensures .0) (call .ensures .1) in
     (omega arith, more .place, more .long, more .words)
 
@@ -81,7 +79,7 @@ returns c =
     let a = at .before .before .before .args in
     let all : at .loop .p ≡ a .s = omega arith in
     let words = ap (λ (m : ℕ). concat (tabulate m (prismWords (a .d) (a .v) (a .s) (a .h) (a .table .now) (a .i)))) all
-    ∙ sym (level-is (a .d) (a .v) (a .s) (a .h) (a .table .now) (a .i)) in
+    ∙ sym (level-is _ _ _ _ _ _) in
     (at .loop .inv .1 ∙ ap (λ (l : List ℕ). a .at + length l) words, at .loop .inv .3 ∙ ap (λ (l : List ℕ). placed (a .at) l (a .out .now)) words)
 
 pub write-level-spec : {M : Type 1} → statement M

@@ -32,7 +32,7 @@ side-cells-requires : tie.Need-side-cells-requires Inv-loop μ-loop
 side-cells-requires c κs = search needs
 
 loop-holds : tie.Need-loop-holds Inv-loop μ-loop
-loop-holds c = let a = c .before .before .before .args in (omega arith, omega arith, omega arith, sym (placed-none (0) (a .out .now)))
+loop-holds c = (omega arith, omega arith, omega arith, sym (placed-none (0) _))
 
 write-level-requires : tie.Need-write-level-requires Inv-loop μ-loop
 write-level-requires c κs =
@@ -49,7 +49,7 @@ write-level-requires c κs =
             room start,
             at .loop .inv .1,
             at .loop .inv .2,
-            concat-fits (a .h) (at .loop .i) (levelWords (a .d) (a .v) (a .s) (a .h) (a .table .now)) (c .before .before .loop-test .taken),
+            concat-fits _ _ (levelWords (a .d) (a .v) (a .s) (a .h) (a .table .now)) (c .before .before .loop-test .taken),
           ),
         ),
       ),
@@ -68,9 +68,7 @@ loop-again c =
     let a = start .args in
     let call = c .before .before .write-level in
     let more =
-    placed-record (a .h) (0) (at .loop .i) (at .loop .next) (call .result)
-    (levelWords (a .d) (a .v) (a .s) (a .h) (a .table .now)) (a .out .now) (at .loop .out) _
-    (omega (arith, c .before .before .before .before .before .loop-test .taken)) (room start)
+    placed-record (a .h) (0) _ _ _ (levelWords (a .d) (a .v) (a .s) (a .h) _) _ _ _ (omega arith) (room start)
     (at .loop .inv .1) (at .loop .inv .3) (call .ensures .0) (call .ensures .1) in
     (omega arith, more .place, more .long, more .words)
 
@@ -83,7 +81,7 @@ returns c =
     let a = at .before .before .before .before .args in
     let all : at .loop .i ≡ a .h = omega arith in
     let words = ap (λ (m : ℕ). concat (tabulate m (levelWords (a .d) (a .v) (a .s) (a .h) (a .table .now)))) all
-    ∙ sym (all-is (a .d) (a .v) (a .s) (a .h) (a .table .now)) in
+    ∙ sym (all-is _ _ _ (a .h) _) in
     (omega (arith, at .loop .inv .1, ap length words), at .loop .inv .3 ∙ ap (λ (l : List ℕ). placed (0) l (a .out .now)) words)
 
 pub write-swept-spec : {M : Type 1} → statement M
