@@ -1,6 +1,6 @@
 -- What the readers of a table are told, and what they read.
 --   Table d s ws          the words are s records of dimension d, numbers within the limits
---   Inside d s p ws       and p is one of them
+--   Inside d s p ws       the words are s records of dimension d, and p is one of them
 --   signIn d ws p         the sign word of record p
 --   vertexIn d ws p k     its vertex k; wingIn d ws p a its wing a
 use mathlib.Core.Path.{_≡_}
@@ -17,7 +17,8 @@ pub record Table (d s : ℕ) (ws : List ℕ) : Type 0 where
   pub long : length ws ≡ tableLength d s
 
 pub record Inside (d s p : ℕ) (ws : List ℕ) : Type 0 where
-  pub table : Table d s ws
+  pub dimension : d ≤ maxDimension
+  pub long : length ws ≡ tableLength d s
   pub number : p < s
 
 abbrev pub signIn : ℕ → List ℕ → ℕ → ℕ

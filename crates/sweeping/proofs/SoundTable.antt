@@ -147,7 +147,6 @@ module _ (d v s h : ℕ) (ws : List ℕ) (cs : List Cell) (t : TableOf d v s ws 
   table-ready hd hv hc =
       record {
         dimension = hd;
-        count = t .small;
         vertices = hv;
         cells = hc;
         long = t .long;

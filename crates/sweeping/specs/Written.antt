@@ -40,7 +40,6 @@ module _ (d v s h : ℕ) (ws : List ℕ) where
 
   pub record Ready : Type 0 where
     pub dimension : d ≤ maxSource
-    pub count : s ≤ maxCells
     pub vertices : sweptVertices v h ≤ maxVertices
     pub cells : sweptCells d s h ≤ maxCells
     pub long : length ws ≡ tableLength d s

@@ -37,7 +37,7 @@ wide-requires c κs = search needs
 back-requires : tie.Need-back-requires
 back-requires c κs =
     let ready = c .before .before .before .before .pre .0 in
-    record { table = record { dimension = omega (arith, ready .dimension); cells = ready .count; long = ready .long }; number = low c }
+    record { dimension = omega (arith, ready .dimension); long = ready .long; number = low c }
 
 back-is : (c : tie.After-back) →
     c .back .result ≡ backTo (solidWing (c .before .before .before .before .before .args .d)
