@@ -3,6 +3,6 @@ pub mod EmptyWings
 pub mod Lone
 pub mod EntryWords
 pub mod Counting
-pub mod Outcomes
+pub mod Order
 pub mod Examples
 pub mod FirstOfTwo

@@ -1,146 +1,51 @@
--- The call faces: each return is the outcome of its row, and only an accepted call writes. Assumes nothing.
-use mathlib.Core.Path.{_≡_, sym, ap, ap₂, _∙_}
-use mathlib.Core.Bool.{true}
-use mathlib.Core.List.{List, _++_, map}
-use Prim.Native.Nat.{ℕ, _+_, _*_}
-use native.Mathlib.Nat.{mul-le-mul}
-use native.Mathlib.Numerals.{add-one}
-use native.Mathlib.Omega.{arith}
 use borrow.Author.Needs.{needs}
-use borrow.Author.Tests.{not-true, not-false, eq-eqb, ne-eqb, lt-ltb, le-ltb}
-use lib.ListN.{length, drop}
-use Rattle.words.specs.Records.{concat}
-use Rattle.rules.specs.Calls.{accepted}
-use Rattle.complex.specs.Layout.{tableLength, cellWords}
-use Rattle.boundary.specs.Faces.{FacesInput, boundaryCells, facesLength}
-use Rattle.boundary.specs.Written.{facesInput, tableFaces, allWords}
-use Rattle.boundary.proofs.Counting.{boundary-is, words-are, words-long}
-use Rattle.rules.specs.Limits.{maxDimension}
-use Rattle.rules.proofs.InLimits.{Limits, limits-are}
-use Rattle.boundary.proofs.Outcomes.{inLimits, rightLength, isSound, refused-at-2, refused-at-3, refused-at-14, refused-at-15, accepted-with, left-alone, left-written}
-use Rattle.words.proofs.Placed.{placed-first}
 use Rattle.boundary.proofs.faces.Statement.{statement}
 use Rattle.boundary.proofs.faces.Tie as tie
-
--- the places behind each test that is passed
-abbrev start : tie.Else1 → tie.Start
-start c = c .before .before .before .before
-
-abbrev one : tie.Else2 → tie.Else1
-one c = c .before .before
-
-abbrev two : tie.Else3 → tie.Else2
-two c = c .before .before
-
-abbrev start-of : tie.Else3 → tie.Start
-start-of c = start (one (two c))
-
-abbrev input : tie.Start → FacesInput
-input c = facesInput (c .args .d) (c .args .v) (c .args .s) (c .args .table .now) (length (c .args .out .now))
-
--- what each test says: the numbers are within the limits,
-inside : (c : tie.Else1) → inLimits (input (start c)) ≡ true
-inside c = sym (c .before .within .ensures) ∙ not-false _ (c .if1 .left)
-
-limits : (c : tie.Else1) → Limits maxDimension (start c .args .d) (start c .args .v) (start c .args .s)
-limits c = limits-are maxDimension (start c .args .d) (start c .args .v) (start c .args .s) (inside c)
-
--- the table has the right length,
-long : (c : tie.Else2) → length (start (one c) .args .table .now) ≡ tableLength (start (one c) .args .d) (start (one c) .args .s)
-long c = c .if2 .left ∙ c .before .table-words .ensures
-
-right : (c : tie.Else2) → rightLength (input (start (one c))) ≡ true
-right c = let a = start (one c) .args in eq-eqb (length (a .table .now)) (tableLength (a .d) (a .s)) (long c)
-
--- and the table is sound
-whole : (c : tie.Else3) → isSound (input (start-of c)) ≡ true
-whole c = sym (c .before .is-sound .ensures) ∙ not-false _ (c .if3 .left)
-
--- its boundary by cell and position, and the words that it takes
-cells : (c : tie.Else3) → boundaryCells (input (start-of c)) ≡ tableFaces (start-of c .args .d) (start-of c .args .s) (start-of c .args .table .now)
-unfolding boundaryCells
-cells c = let a = start-of c .args in boundary-is (a .d) (a .s) (a .table .now) (long (two c))
-
-needed : (c : tie.After-count-faces) → c .count-faces .result * (start-of (c .before) .args .d + 1) ≡ facesLength (input (start-of (c .before)))
-needed c = ap₂ _*_ (c .count-faces .ensures .0 ∙ sym (ap length (cells (c .before)))) (add-one (start-of (c .before) .args .d))
 
 within-requires : tie.Need-within-requires
 within-requires c κs = search needs
 
 returns : tie.Need-returns
-returns c =
-    let start = c .before .before .before .before in
-    let o = refused-at-2 (input start) (sym (c .before .within .ensures) ∙ not-true _ (c .if1 .taken)) in
-    (sym o, left-alone (input start) 2 (start .args .out .now) o)
+returns c = cc
 
 table-words-requires : tie.Need-table-words-requires
-table-words-requires c κs = let l = limits c in (l .dimension, l .cells)
+table-words-requires c κs = ?
+
+differ-requires : tie.Need-differ-requires
+differ-requires c κs = search needs
 
 returns-2 : tie.Need-returns-2
-returns-2 c =
-    let one = c .before .before in
-    let a = start one .args in
-    let wrong : length (a .table .now) ≡ tableLength (a .d) (a .s) → ⊥ = λ e. c .if2 .taken (e ∙ sym (c .before .table-words .ensures)) in
-    let o = refused-at-3 (input (start one)) (inside one) (ne-eqb (length (a .table .now)) (tableLength (a .d) (a .s)) wrong) in
-    (sym o, left-alone (input (start one)) 3 (a .out .now) o)
+returns-2 c = cc
 
 is-sound-requires : tie.Need-is-sound-requires
 is-sound-requires c κs = search needs
 
 returns-3 : tie.Need-returns-3
-returns-3 c =
-    let two = c .before .before in
-    let i = input (start (one two)) in
-    let o = refused-at-14 i (inside (one two)) (right two) (sym (c .before .is-sound .ensures) ∙ not-true _ (c .if3 .taken)) in
-    (sym o, left-alone i 14 (start (one two) .args .out .now) o)
+returns-3 c = cc
 
 count-faces-requires : tie.Need-count-faces-requires
-count-faces-requires c κs = let l = limits (one (two c)) in (l .dimension, l .cells, long (two c))
+count-faces-requires c κs = ?
 
-add-if4 : tie.Need-add-if4
-add-if4 c = omega (arith, limits (one (two (c .before))) .dimension)
+add-less : tie.Need-add-less
+add-less c = ?
 
-mul-if4 : tie.Need-mul-if4
-mul-if4 c =
-    let d = start-of (c .before) .args .d in
-    omega (arith, mul-le-mul {n₁ = c .count-faces .result} {m₁ = d + 1} {n₂ = 32768} {m₂ = 8} (c .count-faces .ensures .1) (omega (arith, limits (one (two (c .before))) .dimension)))
+mul-less : tie.Need-mul-less
+mul-less c = ?
+
+less-requires : tie.Need-less-requires
+less-requires c κs = search needs
 
 returns-4 : tie.Need-returns-4
-returns-4 c =
-    let three = c .before .before in
-    let i = input (start-of three) in
-    let o =
-    refused-at-15 i (inside (one (two three))) (right (two three)) (whole three)
-    (lt-ltb (i .room) (facesLength i) (omega (arith, c .if4 .taken, needed (c .before)))) in
-    (sym o, left-alone i 15 (start-of three .args .out .now) o)
+returns-4 c = cc
 
 write-faces-requires : tie.Need-write-faces-requires
-write-faces-requires c κs =
-    let three = c .before .before .before in
-    let l = limits (one (two three)) in
-    let a = start-of three .args in (
-      (l .dimension, l .cells, long (two three)),
-      omega (arith, c .before .if4 .left, ap (λ n. n * (a .d + 1)) (c .before .before .count-faces .ensures .0), words-long (a .d) (a .s) (a .table .now) (long (two three))),
-    )
+write-faces-requires c κs = ?
 
 same-length : tie.Need-same-length
 same-length c = search needs
 
 returns-5 : tie.Need-returns-5
-returns-5 c =
-    let four = c .before .before .before .before in
-    let three = four .before .before in
-    let a = start-of three .args in
-    let i = input (start-of three) in
-    let call = c .before .before .write-faces in
-    let o =
-    accepted-with i (inside (one (two three))) (right (two three)) (whole three)
-    (le-ltb (i .room) (facesLength i) (omega (arith, four .if4 .left, needed (four .before)))) in
-    let words = ap (λ cs. concat (map cellWords cs)) (cells three) ∙ words-are (a .d) (a .s) (a .table .now) in (
-      ap accepted (four .before .count-faces .ensures .0 ∙ sym (ap length (cells three))) ∙ sym o,
-      call .ensures .1 ∙ placed-first (allWords (a .d) (a .s) (a .table .now)) (a .out .now)
-          ∙ ap (λ (l : List ℕ). l ++ drop (length l) (a .out .now)) (sym words) ∙ left-written i (length (boundaryCells i)) (a .out .now) o,
-    )
+returns-5 c = cc
 
 pub faces-spec : {M : Type 1} → statement M
 faces-spec =
@@ -149,12 +54,14 @@ faces-spec =
     within-requires
     returns
     table-words-requires
+    differ-requires
     returns-2
     is-sound-requires
     returns-3
     count-faces-requires
-    add-if4
-    mul-if4
+    add-less
+    mul-less
+    less-requires
     returns-4
     write-faces-requires
     same-length
