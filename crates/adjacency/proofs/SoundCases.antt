@@ -13,7 +13,7 @@ use Rattle.rules.specs.Shapes.{shapeOk}
 use Rattle.simplex.specs.Cell.{Sign, sameRow}
 use Rattle.complex.specs.Accept.{acceptable, solidRules}
 use Rattle.adjacency.specs.Held.{Blank, Taken, heldWords, recordList}
-use Rattle.complex.specs.Layout.{recordSize, tableLength}
+use Rattle.records.specs.Layout.{recordSize, tableLength}
 use Rattle.complex.specs.Table.{ownTable, sound}
 use Rattle.rules.specs.Numbers.{numberOf}
 use Rattle.rules.specs.declared.refusal.Refusal.{Refusal}

@@ -15,7 +15,7 @@ use Rattle.rules.specs.declared.refusal.Refusal.{Refusal}
 use Rattle.rules.proofs.Answers.{allNumbered}
 use Rattle.rules.proofs.Refusing.{kept, put, refused-by, passed-by, refused-first, accepted-none}
 use Rattle.complex.specs.Accept.{Listed, solidRules}
-use Rattle.complex.specs.Layout.{listSize, tableLength}
+use Rattle.records.specs.Layout.{listSize, tableLength}
 use Rattle.complex.specs.Table.{tableOfList}
 use Rattle.adjacency.specs.Held.{recordList}
 use Rattle.adjacency.specs.Tabled.{listWith, wordCount, tableOutcome, tableAfter}

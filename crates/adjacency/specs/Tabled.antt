@@ -8,7 +8,7 @@ use Prim.Native.Nat.{ℕ}
 use lib.ListN.{length}
 use Rattle.rules.specs.Calls.{Rule, noRoom, Outcome, decide, after}
 use Rattle.complex.specs.Accept.{Listed, solidRules}
-use Rattle.complex.specs.Layout.{tableLength}
+use Rattle.records.specs.Layout.{tableLength}
 use Rattle.complex.specs.Table.{tableOfList}
 
 abbrev pub listWith : ℕ → ℕ → ℕ → List ℕ → Listed

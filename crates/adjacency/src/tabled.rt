@@ -10,7 +10,7 @@ ghost use mathlib.Core.Path.{_≡_};
 ghost use Prim.Native.Nat.{_*_, _≤_};
 ghost use lib.ListN.{length};
 ghost use Rattle.rules.specs.Numbers.{outcomeOf};
-ghost use Rattle.complex.specs.Layout.{listSize};
+ghost use Rattle.records.specs.Layout.{listSize};
 ghost use Rattle.adjacency.specs.Tabled.{tableOutcome, tableAfter};
 
 // Writes the table of the s cells of a list from the start of the lent words and answers the count of its words; or

@@ -3,18 +3,20 @@ ghost use mathlib.Core.Path.{_≡_};
 ghost use lib.ListN.{length};
 ghost use Rattle.rules.specs.Numbers.{outcomeOf};
 ghost use Rattle.boundary.specs.Faces.{facesOutcome, facesBuffer};
-ghost use Rattle.boundary.specs.Written.{facesInput};
+ghost use Rattle.boundary.specs.Walk.{facesInput};
 use crate::writing::count_faces;
 use crate::writing::write_faces;
-use adjacency::sizes::table_words;
 use adjacency::sound::is_sound;
+use records::sizes::face_size;
+use records::sizes::table_words;
 use rules::compare::differ;
 use rules::compare::less;
 use rules::limits::Shape;
 use rules::refusal::Answer;
 use rules::refusal::Refusal;
 
-mod faces_of;
+pub mod face;
+pub mod walk;
 pub mod writing;
 
 // Writes the faces from the start of out, a sign word and d vertices each, and answers their count, or says why not.
@@ -32,7 +34,7 @@ pub fn faces(d: usize, v: usize, s: usize, table: &[u16], out: &mut [u16]) -> An
         return Answer::Refused(Refusal::Unsound);
     }
     let n = count_faces(d, s, table);
-    if less(out.len(), n * (d + 1)) {
+    if less(out.len(), n * face_size(d)) {
         return Answer::Refused(Refusal::NoRoom);
     }
     write_faces(d, s, table, out);

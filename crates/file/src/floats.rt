@@ -40,12 +40,7 @@ fn amounts_in_range(b: &[u8]) -> bool
     requires { ⌜ headerSize ≤ length (now b) ⌝ }
     ensures { λ r. ⌜ r ≡ allOf inRange (tabulate 3 (amountOf (now (b .entry)))) ⌝ }
 {
-    if in_range(b, 16) {
-        if in_range(b, 24) {
-            return in_range(b, 32);
-        }
-    }
-    false
+    in_range(b, 16) & (in_range(b, 24) & in_range(b, 32))
 }
 
 fn points_in_range(b: &[u8]) -> bool
@@ -69,10 +64,7 @@ pub fn out_of_range(b: &[u8]) -> bool
     requires { ⌜ length (now b) ≡ fileLength (now b) ⌝ }
     ensures { λ r. ⌜ r ≡ not (floatsOk (now (b .entry))) ⌝ }
 {
-    if amounts_in_range(b) {
-        return !points_in_range(b);
-    }
-    true
+    !(amounts_in_range(b) & points_in_range(b))
 }
 
 // Writes the points from the start of `out`.

@@ -5,7 +5,7 @@ ghost use Prim.Native.Nat.{suc, _≤_};
 ghost use lib.Dec.{ltb};
 ghost use Rattle.rules.specs.Limits.{maxSource, maxVertices, maxCells, stepsOk, sweptVertices};
 ghost use Rattle.rules.specs.Shapes.{shapeOk};
-ghost use Rattle.complex.specs.Layout.{tableLength};
+ghost use Rattle.records.specs.Layout.{tableLength};
 ghost use Rattle.prism.specs.Swept.{sweptCells};
 use adjacency::sizes::table_words;
 use rules::compare::both;

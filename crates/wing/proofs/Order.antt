@@ -11,7 +11,7 @@ use Rattle.rules.specs.Limits.{maxDimension}
 use Rattle.rules.specs.Shapes.{shapeOk}
 use Rattle.rules.proofs.Refusing.{First, refused-first, kept}
 use Rattle.complex.specs.Accept.{solidRules}
-use Rattle.complex.specs.Layout.{listSize}
+use Rattle.records.specs.Layout.{listSize}
 use Rattle.complex.specs.Table.{tableOfList}
 use Rattle.adjacency.specs.Tabled.{tableOutcome, tableAfter}
 use Rattle.wing.specs.Wing.{WingInput, wingInput, wingLength, wingRules, wingOutcome, wingBuffer}

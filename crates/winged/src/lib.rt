@@ -4,6 +4,7 @@ ghost use Rattle.winged.specs.Host.{hostWing, hostWingBuffer, hostSweep,
 use crate::faces::faces_bytes;
 use crate::host::sweep_bytes;
 use crate::host::wing_bytes;
+use records::sizes::TABLE_ROOM;
 
 mod faces;
 mod host;
@@ -15,7 +16,7 @@ pub extern "C" fn winged_wing(d: u32, v: u32, s: u32, cells: &[u8], table: &mut 
     ensures answer { λ r. ⌜ r ≡ hostWing d v s (now (cells .entry)) (now (table .entry)) ⌝ }
     ensures buffer { λ _. ⌜ now (table .exit) ≡ hostWingBuffer d v s (now (cells .entry)) (now (table .entry)) ⌝ }
 {
-    let mut words = [0u16; 69632];
+    let mut words = [0u16; TABLE_ROOM];
     wing_bytes(d as usize, v as usize, s as usize, cells, &mut words, table)
 }
 
@@ -31,7 +32,7 @@ pub extern "C" fn winged_sweep(
     ensures answer { λ r. ⌜ r ≡ hostSweep d v s h (now (table .entry)) (now (swept .entry)) ⌝ }
     ensures buffer { λ _. ⌜ now (swept .exit) ≡ hostSweepBuffer d v s h (now (table .entry)) (now (swept .entry)) ⌝ }
 {
-    let mut words = [0u16; 69632];
+    let mut words = [0u16; TABLE_ROOM];
     sweep_bytes(
         d as usize,
         v as usize,
@@ -48,6 +49,6 @@ pub extern "C" fn winged_faces(d: u32, v: u32, s: u32, table: &[u8], faces: &mut
     ensures answer { λ r. ⌜ r ≡ hostFaces d v s (now (table .entry)) (now (faces .entry)) ⌝ }
     ensures buffer { λ _. ⌜ now (faces .exit) ≡ hostFacesBuffer d v s (now (table .entry)) (now (faces .entry)) ⌝ }
 {
-    let mut words = [0u16; 69632];
+    let mut words = [0u16; TABLE_ROOM];
     faces_bytes(d as usize, v as usize, s as usize, table, &mut words, faces)
 }

@@ -1,51 +1,91 @@
+-- The call faces: each return is a rule's, and only an accepted call writes. Assumes nothing.
+use mathlib.Core.Path.{_≡_, ap, _∙_}
+use Prim.Native.Nat.{_*_, _≤_}
+use native.Mathlib.Nat.{mul-le-mul}
+use native.Mathlib.Omega.{arith}
+use lib.ListN.{length}
 use borrow.Author.Needs.{needs}
+use borrow.Author.Tests.{eqb-true, ltb-false, not-false}
+use Rattle.words.proofs.Placed.{placed-first}
+use Rattle.rules.specs.Limits.{maxDimension}
+use Rattle.rules.proofs.InLimits.{Limits, limits-are}
+use Rattle.records.specs.Inside.{Table}
+use Rattle.records.specs.Layout.{faceSize, facesWords}
+use Rattle.boundary.specs.Faces.{boundaryCells, facesRules}
+use Rattle.boundary.specs.Walk.{tableFaces}
+use Rattle.boundary.proofs.Order.{refuses, accepts}
+use Rattle.boundary.proofs.Sizes.{words-long}
 use Rattle.boundary.proofs.faces.Statement.{statement}
 use Rattle.boundary.proofs.faces.Tie as tie
+
+abbrev start : tie.Else1 → tie.Start
+start c = c .before .before .before .before
+
+limits : (c : tie.Else1) → let a = start c .args in Limits maxDimension (a .d) (a .v) (a .s)
+limits c = limits-are _ _ _ _ (cc)
+
+table : (c : tie.Else2) → let a = start (search needs) .args in Table (a .d) (a .s) (a .table .now)
+table c = let l = limits (search needs) in record { dimension = l .dimension; cells = l .cells; long = eqb-true _ _ (not-false _ (cc)) }
 
 within-requires : tie.Need-within-requires
 within-requires c κs = search needs
 
 returns : tie.Need-returns
-returns c = cc
+unfolding facesRules
+returns c = refuses _ _ 2 cc
 
 table-words-requires : tie.Need-table-words-requires
-table-words-requires c κs = ?
+table-words-requires c κs = let l = limits c in (l .dimension, l .cells)
 
 differ-requires : tie.Need-differ-requires
 differ-requires c κs = search needs
 
 returns-2 : tie.Need-returns-2
-returns-2 c = cc
+unfolding facesRules
+returns-2 c = refuses _ _ 3 cc
 
 is-sound-requires : tie.Need-is-sound-requires
 is-sound-requires c κs = search needs
 
 returns-3 : tie.Need-returns-3
-returns-3 c = cc
+unfolding facesRules
+returns-3 c = refuses _ _ 14 cc
 
 count-faces-requires : tie.Need-count-faces-requires
-count-faces-requires c κs = ?
+count-faces-requires c κs = table (search needs)
 
-add-less : tie.Need-add-less
-add-less c = ?
+face-size-requires : tie.Need-face-size-requires
+face-size-requires c κs = limits (search needs) .dimension
 
 mul-less : tie.Need-mul-less
-mul-less c = ?
+mul-less c =
+    let l = limits (search needs) in
+    omega (arith, mul-le-mul {n₁ = c .before .count-faces .result} {m₁ = c .face-size .result} {n₂ = 32768} {m₂ = 8} (omega arith) (omega arith))
 
 less-requires : tie.Need-less-requires
 less-requires c κs = search needs
 
 returns-4 : tie.Need-returns-4
-returns-4 c = cc
+unfolding facesRules boundaryCells
+returns-4 c = refuses _ _ 15 cc
 
 write-faces-requires : tie.Need-write-faces-requires
-write-faces-requires c κs = ?
+write-faces-requires c κs =
+    let t = table (search needs) in
+    let a = start (search needs) .args in
+    let fits : length (tableFaces (a .d) (a .s) (a .table .now)) * faceSize (a .d) ≤ length (a .out .now) = ltb-false _ _ (cc) in
+    (t, omega (arith, words-long (a .d) (a .s) (a .table .now) t))
 
 same-length : tie.Need-same-length
 same-length c = search needs
 
 returns-5 : tie.Need-returns-5
-returns-5 c = cc
+unfolding facesRules boundaryCells
+returns-5 c =
+    let a = start (search needs) .args in
+    let n : tie.After-count-faces = search needs in
+    accepts _ _ _ _ (cc) (n .count-faces .ensures .0)
+    (c .before .before .write-faces .ensures .content ∙ placed-first (facesWords (tableFaces (a .d) (a .s) (a .table .now))) (a .out .now))
 
 pub faces-spec : {M : Type 1} → statement M
 faces-spec =
@@ -59,7 +99,7 @@ faces-spec =
     is-sound-requires
     returns-3
     count-faces-requires
-    add-less
+    face-size-requires
     mul-less
     less-requires
     returns-4

@@ -11,7 +11,7 @@ use Rattle.rules.specs.Limits.{maxDimension}
 use Rattle.rules.specs.Numbers.{verdictOf}
 use Rattle.rules.specs.Shapes.{shapeOk}
 use Rattle.rules.proofs.InLimits.{Limits, limits-are}
-use Rattle.complex.specs.Layout.{tableLength}
+use Rattle.records.specs.Layout.{tableLength}
 use Rattle.adjacency.proofs.SoundCases.{fresh-blank, unsound-outside, unsound-length, unsound-refused, sound-same}
 use Rattle.adjacency.proofs.sound.is_sound.Statement.{statement}
 use Rattle.adjacency.proofs.sound.is_sound.Tie as tie

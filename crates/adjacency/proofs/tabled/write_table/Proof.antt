@@ -10,7 +10,7 @@ use borrow.Author.Tests.{ltb-false}
 use Rattle.rules.specs.Calls.{firstRefusal}
 use Rattle.rules.specs.Numbers.{verdictOf}
 use Rattle.complex.specs.Accept.{solidRules}
-use Rattle.complex.specs.Layout.{listSize, tableLength}
+use Rattle.records.specs.Layout.{listSize, tableLength}
 use Rattle.adjacency.specs.Held.{recordList}
 use Rattle.adjacency.proofs.SoundCases.{fresh-blank}
 use Rattle.adjacency.proofs.Tabling.{refuses, no-room, accepts}

@@ -2,7 +2,7 @@
 use mathlib.Core.Path.{ap₂, _∙_}
 use native.Mathlib.Numerals.{add-one}
 use borrow.Author.Needs.{needs}
-use Rattle.complex.specs.Layout.{tableLength}
+use Rattle.records.specs.Layout.{tableLength}
 use Rattle.sweep.proofs.limits.swept_words.Statement.{statement}
 use Rattle.sweep.proofs.limits.swept_words.Tie as tie
 
