@@ -2,9 +2,9 @@
 use rules::compare::between;
 use rules::compare::both;
 use rules::compare::less;
+use rules::limits::Shape;
 use rules::limits::axes_ok;
 use rules::limits::steps_ok;
-use rules::limits::Shape;
 use words::little;
 ghost use mathlib.Core.Path.{_≡_};
 ghost use mathlib.Core.Bool.{not};

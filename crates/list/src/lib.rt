@@ -7,8 +7,8 @@ use records::sizes::table_words;
 use rules::compare::both;
 use rules::compare::equal;
 use rules::compare::less;
-use rules::limits::axes_ok;
 use rules::limits::Shape;
+use rules::limits::axes_ok;
 use rules::refusal::Answer;
 use rules::refusal::Refusal;
 ghost use mathlib.Core.Path.{_≡_};
@@ -34,7 +34,9 @@ fn lengths_fit(d: usize, n: usize, v: usize, s: usize, table: &[u16], points: &[
     requires { ⌜ (d ≤ 7) × (n ≤ 8) × (v ≤ 4096) × (s ≤ 4096) ⌝ }
     ensures { λ r. ⌜ r ≡ (eqb (length (now (table .entry))) (tableLength d s) && eqb (length (now (points .entry))) (v * n)) ⌝ }
 {
-    both(equal(table.len(), table_words(d, s)), equal(points.len(), v * n))
+    let count = v * n;
+    let right = equal(table.len(), table_words(d, s));
+    both(right, equal(points.len(), count))
 }
 
 pub fn list(

@@ -26,7 +26,7 @@ use Rattle.read.specs.declared.Header.{Header}
 use Rattle.file.specs.File.{dimensionOf, axesOf, vertexCountOf, cellCountOf, stepsOf, kindOf, filePoints}
 use Rattle.file.specs.Tests.{numbersOk, fileWords}
 use Rattle.read.specs.Read.{headerOf, readOutcome, readCells, readPoints, readRules}
-use Rattle.read.proofs.Order.{right-length, rooms-parts}
+use Rattle.read.proofs.Outcomes.{right-length, rooms-parts}
 use Rattle.file.proofs.Parts.{points-length}
 use Rattle.file.proofs.Stores.{words-count}
 use Rattle.words.specs.Placed.{placed, Put}

@@ -1,3 +1,3 @@
--- The order of the rules of the call read.
-pub mod Order
+-- The rules of the call read.
+pub mod Outcomes
 pub mod FirstOfTwo

@@ -4,8 +4,6 @@ use file::floats;
 use file::numbers;
 use file::step as steps;
 use points::step::Step;
-use rules::compare::either;
-use rules::compare::less;
 use rules::refusal::Refusal;
 ghost use mathlib.Core.Path.{_≡_};
 ghost use mathlib.Core.Bool.{true, _||_};
@@ -53,7 +51,10 @@ fn no_room(b: &[u8], room: usize, space: usize) -> bool
     requires { ⌜ headerSize ≤ length (now b) ⌝ }
     ensures { λ r. ⌜ r ≡ (ltb room (cellsLength (now (b .entry))) || ltb space (pointCount (now (b .entry)))) ⌝ }
 {
-    either(less(room, cells::words(b)), less(space, numbers::point_count(b)))
+    if room < cells::words(b) {
+        return true;
+    }
+    space < numbers::point_count(b)
 }
 
 // Reads a file: its cells go to one buffer, its points to another, and the header is the answer. Rows 1 to 8 and 15 of

@@ -11,9 +11,9 @@ use adjacency::sizes::table_words;
 use rules::compare::both;
 use rules::compare::either;
 use rules::compare::less;
+use rules::limits::Shape;
 use rules::limits::steps_ok;
 use rules::limits::swept_vertices;
-use rules::limits::Shape;
 
 pub fn in_limits(d: usize, v: usize, s: usize, h: usize) -> bool
     ensures { λ r. ⌜ r ≡ (shapeOk maxSource d v s && stepsOk h) ⌝ }
@@ -35,7 +35,10 @@ pub(crate) fn too_large(d: usize, v: usize, s: usize, h: usize) -> bool
 {
     let vertices = swept_vertices(v, h);
     let cells = swept_cells(d, s, h);
-    either(less(Shape::MAX_VERTICES, vertices), less(Shape::MAX_CELLS, cells))
+    either(
+        less(Shape::MAX_VERTICES, vertices),
+        less(Shape::MAX_CELLS, cells),
+    )
 }
 
 // Words of the swept table.

@@ -83,8 +83,8 @@ returns-4 c =
     let held = g .gather .ensures in
     let a = start (first g) .args in
     let rest =
-        refused-rest (a .size) (a .d) (a .v) (a .s) (a .words .now) (omega arith) (omega arith) (rows g) (signs g) (omega arith) (omega arith) (held .0 .0) (held .1)
-        (cc (six (search needs))) (cc (seven (search needs))) (cc (eight (search needs))) in
+    refused-rest (a .size) (a .d) (a .v) (a .s) (a .words .now) (omega arith) (omega arith) (rows g) (signs g) (omega arith) (omega arith) (held .0 .0) (held .1)
+    (cc (six (search needs))) (cc (seven (search needs))) (cc (eight (search needs))) in
     let cells = solid-held (a .size) (a .d) (a .v) (a .s) (a .words .now) (omega arith) (omega arith) (rows g) (signs g) (omega arith) (omega arith) (held .0 .0) (held .1) in
     (c .adjacent .ensures .0 ∙ sym rest, λ z. record { wide = held .0 .0; cells = cells; winged = c .adjacent .ensures .1 z })
 

@@ -1,0 +1,112 @@
+-- The call list: each return is a rule's, and only an accepted call writes. Assumes nothing.
+use mathlib.Core.Path.{_≡_, _∙_}
+use mathlib.Core.Bool.{_&&_}
+use Prim.Native.Nat.{_*_}
+use lib.Dec.{eqb}
+use lib.ListN.{length}
+use borrow.Author.Needs.{needs}
+use borrow.Author.Tests.{eqb-true, ltb-false, not-false}
+use Rattle.words.proofs.Placed.{placed-first}
+use Rattle.rules.proofs.InLimits.{ListLimits, list-limits-are}
+use Rattle.rules.proofs.Tests.{and-parts}
+use Rattle.records.specs.Inside.{Table}
+use Rattle.records.specs.Layout.{tableLength}
+use Rattle.boundary.specs.Walk.{tableFaces}
+use Rattle.listing.specs.Lines.{keyText}
+use Rattle.listing.specs.Parts.{Points}
+use Rattle.list.specs.Listing.{listText, listRules}
+use Rattle.list.proofs.Order.{refuses, accepts}
+use Rattle.list.proofs.list.Statement.{statement}
+use Rattle.list.proofs.list.Tie as tie
+
+abbrev start : tie.Else1 → tie.Start
+start c = c .before .before .before .before .before
+
+limits : (c : tie.Else1) → let a = start c .args in ListLimits (a .d) (a .n) (a .v) (a .s)
+limits c = list-limits-are _ _ _ _ (cc)
+
+-- what the tests say of the table and the points
+told : (c : tie.Else3) → let a = start (search needs) .args in Table (a .d) (a .s) (a .table .now) × Points (a .n) (a .v) (a .points .now)
+told c =
+    let a = start (search needs) .args in
+    let l = limits (search needs) in
+    let long =
+    and-parts (eqb (length (a .table .now)) (tableLength (a .d) (a .s))) (eqb (length (a .points .now)) (a .v * a .n)) (not-false _ (cc)) in (
+      record { dimension = l .dimension; cells = l .cells; long = eqb-true _ _ (long .0) },
+      record { axes = l .axes; vertices = l .vertices; long = eqb-true _ _ (long .1); ranged = not-false _ (cc) },
+    )
+
+numbers-fit-requires : tie.Need-numbers-fit-requires
+numbers-fit-requires c κs = search needs
+
+returns : tie.Need-returns
+unfolding listRules
+returns c = refuses _ _ 2 cc
+
+lengths-fit-requires : tie.Need-lengths-fit-requires
+lengths-fit-requires c κs = let l = limits c in (l .dimension, l .axes, l .vertices, l .cells)
+
+returns-2 : tie.Need-returns-2
+unfolding listRules
+returns-2 c = refuses _ _ 3 cc
+
+all-in-range-requires : tie.Need-all-in-range-requires
+all-in-range-requires c κs = search needs
+
+returns-3 : tie.Need-returns-3
+unfolding listRules
+returns-3 c = refuses _ _ 4 cc
+
+is-sound-requires : tie.Need-is-sound-requires
+is-sound-requires c κs = search needs
+
+returns-4 : tie.Need-returns-4
+unfolding listRules
+returns-4 c = refuses _ _ 14 cc
+
+key-size-requires : tie.Need-key-size-requires
+key-size-requires c κs = told (search needs)
+
+less-requires : tie.Need-less-requires
+less-requires c κs = search needs
+
+returns-5 : tie.Need-returns-5
+unfolding listRules listText
+returns-5 c = refuses _ _ 15 cc
+
+put-key-requires : tie.Need-put-key-requires
+put-key-requires c κs =
+    let t = told (search needs) in
+    let k : tie.After-key-size = search needs in
+    (t .0, t .1, k .key-size .ensures .faces, ltb-false _ _ (cc))
+
+same-length : tie.Need-same-length
+same-length c = search needs
+
+returns-6 : tie.Need-returns-6
+unfolding listRules listText
+returns-6 c =
+    let k : tie.After-key-size = search needs in
+    let a = start (search needs) .args in
+    accepts _ _ _ _ (cc) (k .key-size .ensures .text)
+    (c .before .before .put-key .ensures .content
+    ∙ placed-first (keyText (a .d) (a .n) (a .v) (a .points .now) (tableFaces (a .d) (a .s) (a .table .now))) (a .out .now))
+
+pub list-spec : {M : Type 1} → statement M
+list-spec =
+    tie.close
+    (tie.spec
+    numbers-fit-requires
+    returns
+    lengths-fit-requires
+    returns-2
+    all-in-range-requires
+    returns-3
+    is-sound-requires
+    returns-4
+    key-size-requires
+    less-requires
+    returns-5
+    put-key-requires
+    same-length
+    returns-6)
