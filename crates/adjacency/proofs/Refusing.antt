@@ -113,21 +113,8 @@ module _ (size d v s : ℕ) (ws : List ℕ) (hz : d + 2 ≤ size) (room : s * si
         ∙ any-tabulate (λ c. repeats (c .row)) (falls d rows) s (λ p. cellRead size d ws p)
         (λ p h. twice-falls d (cellRead size d ws p .row) (row-long p h) ∙ sym (falls-is p h))
 
-    -- the number of the first row that refuses the list
-    module _ (good : anyBelow s (badAt size ws) ≡ false) where
-      pub refused-7 : anyBelow s (beyondAt d v rows) ≡ true → firstRefusal solidRules (recordList size d v s ws) ≡ 7
-      unfolding solidRules
-      refused-7 e = rw (sign-bad ∙ good, vertex-beyond ∙ e) refl
-
-      module _ (within : anyBelow s (beyondAt d v rows) ≡ false) where
-        pub refused-8 : anyBelow s (falls d rows) ≡ true → firstRefusal solidRules (recordList size d v s ws) ≡ 8
-        unfolding solidRules
-        refused-8 e = rw (sign-bad ∙ good, vertex-beyond ∙ within, vertex-twice ∙ e) refl
-
-        pub refused-rest : anyBelow s (falls d rows) ≡ false → firstRefusal solidRules (recordList size d v s ws) ≡ faults (heldCells d s rows signs)
-        unfolding solidRules faults
-        refused-rest e = rw (sign-bad ∙ good, vertex-beyond ∙ within, vertex-twice ∙ e) (ap faults solid-held)
-
-  pub refused-6 : anyBelow s (badAt size ws) ≡ true → firstRefusal solidRules (recordList size d v s ws) ≡ 6
-  unfolding solidRules
-  refused-6 e = rw (sign-bad ∙ e) refl
+    -- where rows 6 to 8 do not apply, the first refusal is that of the other rows
+    pub refused-rest : badSign (recordList size d v s ws) ≡ false → vertexBeyond v (listedCells (recordList size d v s ws)) ≡ false →
+        vertexTwice (listedCells (recordList size d v s ws)) ≡ false → firstRefusal solidRules (recordList size d v s ws) ≡ faults (heldCells d s rows signs)
+    unfolding solidRules faults
+    refused-rest six seven eight = rw (six, seven, eight) (ap faults solid-held)

@@ -1,5 +1,4 @@
--- What was taken from a list of cells: its refusals, its table.
---   solid-range           rows 6 to 11
+-- What was taken from a list of cells: its table.
 --   whole-list            a list of words is the list of its records
 --   taken-table           the table of what was taken
 --   taken-written         what is written of it is what wing writes
@@ -20,21 +19,6 @@ use Rattle.records.specs.Layout.{listSize, tableWords}
 use Rattle.complex.specs.Table.{tableOf, tableOfList}
 use Rattle.adjacency.proofs.Filling.{parts-of}
 use Rattle.adjacency.proofs.TableWords.{table-words}
-
-six-range : (a b c d e f : Bool) (k : ℕ) → k ≡ cond a 6 (cond b 7 (cond c 8 (cond d 9 (cond e 10 (cond f 11 0))))) → (k ≡ 0 → ⊥) → (6 ≤ k) × (k ≤ 11)
-six-range true b c d e f k h n = omega arith
-six-range false true c d e f k h n = omega arith
-six-range false false true d e f k h n = omega arith
-six-range false false false true e f k h n = omega arith
-six-range false false false false true f k h n = omega arith
-six-range false false false false false true k h n = omega arith
-six-range false false false false false false k h n = absurd (n h)
-
-pub solid-range : (l : Listed) (k : ℕ) → k ≡ firstRefusal solidRules l → (k ≡ 0 → ⊥) → (6 ≤ k) × (k ≤ 11)
-unfolding solidRules
-solid-range l k e n =
-    six-range (badSign l) (vertexBeyond (l .v) (listedCells l)) (vertexTwice (listedCells l))
-    (cellTwice (solidOf l)) (crowdedFace (facets (solidOf l))) (equalSigns (facets (solidOf l))) k e n
 
 -- a list of words is the list of its records
 pub whole-list : (d v s : ℕ) (ws : List ℕ) → length ws ≡ s * listSize d →

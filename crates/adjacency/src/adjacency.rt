@@ -3,6 +3,8 @@
 use matching::Place;
 use matching::earlier_equal;
 use matching::place_of;
+use rules::refusal::Refusal;
+use rules::refusal::Verdict;
 use simplex::sign_words::product;
 ghost use mathlib.Core.Bool.{false, _||_, _&&_};
 ghost use mathlib.Core.List.{List};
@@ -10,6 +12,7 @@ ghost use mathlib.Core.Path.{_≡_};
 ghost use Prim.Native.Nat.{_+_, _*_, _/_, _<_, _≤_};
 ghost use lib.Dec.{eqb};
 ghost use lib.ListN.{length, getD};
+ghost use Rattle.rules.specs.Numbers.{verdictOf};
 ghost use Rattle.words.specs.Records.{anyBelow};
 ghost use Rattle.simplex.specs.Cell.{Sign, times, alternating};
 ghost use Rattle.complex.specs.Accept.{cellTwice};
@@ -200,7 +203,7 @@ fn pair(
     found
 }
 
-// The number of the first of rows 9 to 11 that refuses s cells whose rows ascend, or 0, and then their wings. Where
+// The first of rows 9 to 11 that refuses s cells whose rows ascend, and their wings if none does. Where
 // no face is in three cells, two cells with the same row are met at their faces.
 pub fn adjacent(
     d: usize,
@@ -208,33 +211,33 @@ pub fn adjacent(
     rows: &[u16; 32768],
     signs: &[bool; 4096],
     wings: &mut [u16; 32768],
-) -> u8
+) -> Verdict
     requires { ⌜ (d ≤ 7) × (s ≤ 4096) × (length (now rows) ≡ 32768) × Blank (now wings) ⌝ }
     requires { ⌜ anyBelow s (falls d (now rows)) ≡ false ⌝ }
-    ensures fault { λ r. ⌜ r ≡ faults (heldCells d s (now (rows .entry)) (now (signs .entry))) ⌝ }
-    ensures wings { λ r. ⌜ (r ≡ 0 → Winged d (heldCells d s (now (rows .entry)) (now (signs .entry))) (now (wings .exit))) ⌝ }
+    ensures fault { λ r. ⌜ verdictOf r ≡ faults (heldCells d s (now (rows .entry)) (now (signs .entry))) ⌝ }
+    ensures wings { λ r. ⌜ (verdictOf r ≡ 0 → Winged d (heldCells d s (now (rows .entry)) (now (signs .entry))) (now (wings .exit))) ⌝ }
 {
     let mut prev = [65535u16; 32768];
     if d == 0 {
         if any_repeated(d, s, rows, &mut prev) {
-            return 9;
+            return Verdict::Refuse(Refusal::CellTwice);
         }
-        return 0;
+        return Verdict::Pass;
     }
     let k = d + 1;
     earlier_equal(s, k, k, 0, rows, &mut prev);
     let found = pair(s * k, k, rows, signs, &prev, wings);
     if found.crowded {
         if any_repeated(d, s, rows, &mut prev) {
-            return 9;
+            return Verdict::Refuse(Refusal::CellTwice);
         }
-        return 10;
+        return Verdict::Refuse(Refusal::CrowdedFace);
     }
     if found.repeated {
-        return 9;
+        return Verdict::Refuse(Refusal::CellTwice);
     }
     if found.equal {
-        return 11;
+        return Verdict::Refuse(Refusal::EqualSigns);
     }
-    0
+    Verdict::Pass
 }

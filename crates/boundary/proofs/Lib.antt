@@ -4,6 +4,6 @@ pub mod Lone
 pub mod FaceWords
 pub mod Sizes
 pub mod Walking
-pub mod Outcomes
+pub mod Order
 pub mod Examples
 pub mod FirstOfTwo

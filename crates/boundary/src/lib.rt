@@ -6,8 +6,11 @@ ghost use Rattle.boundary.specs.Faces.{facesOutcome, facesBuffer};
 ghost use Rattle.boundary.specs.Walk.{facesInput};
 use crate::counting::count_faces;
 use crate::writing::write_faces;
-use adjacency::sizes::table_words;
 use adjacency::sound::is_sound;
+use records::sizes::face_size;
+use records::sizes::table_words;
+use rules::compare::differ;
+use rules::compare::less;
 use rules::limits::Shape;
 use rules::refusal::Answer;
 use rules::refusal::Refusal;
@@ -25,14 +28,14 @@ pub fn faces(d: usize, v: usize, s: usize, table: &[u16], out: &mut [u16]) -> An
     if !Shape::within(Shape::MAX_DIMENSION, d, v, s) {
         return Answer::Refused(Refusal::OutsideLimits);
     }
-    if table.len() != table_words(d, s) {
+    if differ(table.len(), table_words(d, s)) {
         return Answer::Refused(Refusal::WrongLength);
     }
     if !is_sound(d, v, s, table) {
         return Answer::Refused(Refusal::Unsound);
     }
     let n = count_faces(d, s, table);
-    if out.len() < n * (d + 1) {
+    if less(out.len(), n * face_size(d)) {
         return Answer::Refused(Refusal::NoRoom);
     }
     write_faces(d, s, table, out);

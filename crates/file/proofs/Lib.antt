@@ -1,7 +1,6 @@
 -- Laws of files.
 pub mod Parts
 pub mod Rows
-pub mod Shapes
 pub mod Mark
 pub mod Stores
 pub mod Range

@@ -1,6 +1,10 @@
 // The header of a file: its numbers, and rows 1 to 3 of the refusal table.
+use rules::compare::between;
+use rules::compare::both;
+use rules::compare::less;
 use rules::limits::Shape;
-use rules::limits::Shaped;
+use rules::limits::axes_ok;
+use rules::limits::steps_ok;
 use words::little;
 ghost use mathlib.Core.Path.{_≡_};
 ghost use mathlib.Core.Bool.{not};
@@ -112,31 +116,10 @@ pub fn not_ours(b: &[u8]) -> bool
 fn numbers_outside(d: usize, n: usize, v: usize, s: usize, h: usize, kind: usize) -> bool
     ensures { λ r. ⌜ r ≡ not (numbersFit d n v s h kind) ⌝ }
 {
-    let Shaped::Within(_) = Shape::new(Shape::MAX_SOURCE, d, v, s) else {
-        return true;
-    };
-    if n < 1 {
-        return true;
-    }
-    if Shape::MAX_AXES < n {
-        return true;
-    }
-    if n <= d {
-        return true;
-    }
-    if h < 1 {
-        return true;
-    }
-    if Shape::MAX_STEPS < h {
-        return true;
-    }
-    if kind < 1 {
-        return true;
-    }
-    if 3 < kind {
-        return true;
-    }
-    false
+    let shape = Shape::within(Shape::MAX_SOURCE, d, v, s);
+    let axes = both(axes_ok(n), less(d, n));
+    let rest = both(steps_ok(h), between(1, 3, kind));
+    !both(shape, both(axes, rest))
 }
 
 // Row 2: a number outside its limits, or the kind not 1 to 3.

@@ -1,3 +1,3 @@
--- The cases of the call list.
-pub mod ListCases
+-- The order of the rules of the call list.
+pub mod Order
 pub mod FirstOfTwo

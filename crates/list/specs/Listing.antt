@@ -1,17 +1,18 @@
 -- The call list: it takes a table and its points and writes the key's text. Paper, sections 8 and 9.
 --   listInput         what the call is told
 --   listText          the key's text
+--   listTests         its refusals in order, but for row 15
 --   listRules, listOutcome (the count of bytes), listBuffer
 use mathlib.Core.Bool.{not, _&&_}
-use mathlib.Core.List.{List, [], _∷_}
+use mathlib.Core.List.{List, [], _∷_, _++_}
 use Prim.Native.Nat.{ℕ, _*_}
-use lib.Dec.{eqb, ltb}
+use lib.Dec.{eqb}
 use lib.ListN.{length}
 use lib.Ieee.{Float}
 use Rattle.words.specs.Records.{allOf}
 use Rattle.rules.specs.Limits.{maxDimension, axesOk}
 use Rattle.rules.specs.Shapes.{shapeOk}
-use Rattle.rules.specs.Calls.{Rule, refuse, Outcome, decide, after}
+use Rattle.rules.specs.Calls.{Rule, refuse, noRoom, Outcome, decide, after}
 use Rattle.records.specs.Layout.{entriesOf, tableLength}
 use Rattle.complex.specs.Table.{sound}
 use Rattle.boundary.specs.Boundary.{boundaryOf}
@@ -34,17 +35,22 @@ listInput d n v s table points room = record { d = d; n = n; v = v; s = s; table
 unfoldable pub listText : ListInput → List ℕ
 listText i = keyText (i .d) (i .n) (i .v) (i .points) (boundaryOf (entriesOf (i .d) (i .s) (i .table)))
 
-unfoldable pub listRules : List (Rule ListInput)
-listRules =
+abbrev pub listTests : List (Rule ListInput)
+listTests =
     refuse 2 (λ i. not (shapeOk maxDimension (i .d) (i .v) (i .s) && axesOk (i .n)))
     ∷ refuse 3 (λ i. not (eqb (length (i .table)) (tableLength (i .d) (i .s)) && eqb (length (i .points)) (i .v * i .n)))
     ∷ refuse 4 (λ i. not (allOf inRange (i .points)))
     ∷ refuse 14 (λ i. not (sound (i .d) (i .v) (i .s) (i .table)))
-    ∷ refuse 15 (λ i. ltb (i .room) (length (listText i)))
     ∷ []
 
+abbrev pub listLength : ListInput → ℕ
+listLength i = length (listText i)
+
+unfoldable pub listRules : List (Rule ListInput)
+listRules = listTests ++ noRoom (λ i. i .room) listLength ∷ []
+
 unfoldable pub listOutcome : ListInput → Outcome ℕ
-listOutcome i = decide listRules (λ i. length (listText i)) i
+listOutcome i = decide listRules listLength i
 
 unfoldable pub listBuffer : ListInput → List ℕ → List ℕ
 listBuffer i out = after (listOutcome i) (listText i) out

@@ -3,7 +3,12 @@ use adjacency::sound::is_sound;
 use listing::key::key_size;
 use listing::key::put_key;
 use points::range::all_in_range;
+use records::sizes::table_words;
+use rules::compare::both;
+use rules::compare::equal;
+use rules::compare::less;
 use rules::limits::Shape;
+use rules::limits::axes_ok;
 use rules::refusal::Answer;
 use rules::refusal::Refusal;
 ghost use mathlib.Core.Path.{_≡_};
@@ -21,13 +26,7 @@ ghost use Rattle.list.specs.Listing.{listInput, listOutcome, listBuffer}
 fn numbers_fit(d: usize, n: usize, v: usize, s: usize) -> bool
     ensures { λ r. ⌜ r ≡ (shapeOk maxDimension d v s && axesOk n) ⌝ }
 {
-    if !Shape::within(Shape::MAX_DIMENSION, d, v, s) {
-        return false;
-    }
-    if n < 1 {
-        return false;
-    }
-    n <= Shape::MAX_AXES
+    both(Shape::within(Shape::MAX_DIMENSION, d, v, s), axes_ok(n))
 }
 
 // Row 3.
@@ -35,10 +34,9 @@ fn lengths_fit(d: usize, n: usize, v: usize, s: usize, table: &[u16], points: &[
     requires { ⌜ (d ≤ 7) × (n ≤ 8) × (v ≤ 4096) × (s ≤ 4096) ⌝ }
     ensures { λ r. ⌜ r ≡ (eqb (length (now (table .entry))) (tableLength d s) && eqb (length (now (points .entry))) (v * n)) ⌝ }
 {
-    if table.len() != s * (d + d + 3) {
-        return false;
-    }
-    points.len() == v * n
+    let count = v * n;
+    let right = equal(table.len(), table_words(d, s));
+    both(right, equal(points.len(), count))
 }
 
 pub fn list(
@@ -67,7 +65,7 @@ pub fn list(
     }
     let size = key_size(d, n, v, s, table, points);
     let bytes = size.bytes;
-    if out.len() < bytes {
+    if less(out.len(), bytes) {
         return Answer::Refused(Refusal::NoRoom);
     }
     put_key(d, n, v, s, size.count, table, points, out);

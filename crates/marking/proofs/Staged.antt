@@ -21,11 +21,10 @@ use Rattle.complex.specs.Table.{tableOfList}
 use Rattle.wing.specs.Wing.{WingInput, wingInput, wingOutcome, wingBuffer}
 use Rattle.prism.specs.Swept.{sweptCells}
 use Rattle.sweep.specs.Sweep.{sweepOutcome, sweepBuffer, sweepRules, sweptLength, sweptWords, sweepInput}
-use Rattle.rules.proofs.InLimits.{SweepLimits, sweep-limits-are}
+use Rattle.rules.proofs.InLimits.{SweepLimits, sweep-limits-are, move-limits-are}
 use Rattle.motion.specs.Move.{MoveInput, moveInput, movedLength, movedLevels, moveOutcome, moveBuffer, moveRules}
 use Rattle.points.specs.declared.step.Step.{Step}
 use Rattle.points.proofs.LevelLaws.{length-levels}
-use Rattle.motion.proofs.MoveRules.{limits}
 use Rattle.list.specs.Listing.{ListInput, listInput, listText, listOutcome, listBuffer, listRules}
 use Rattle.wing.proofs.Lengths.{accepted-long}
 use Rattle.sweep.proofs.CallWords.{swept-long}
@@ -43,7 +42,8 @@ pub moved-limits : (i : MoveInput) (k : ℕ) → moveOutcome i ≡ accepted k �
 unfolding moveOutcome moveRules
 moved-limits i k e =
     let by = accepted-by moveRules movedLength i k refl e in
-    limits i (i .points) (not-false (axesOk (i .n) && (verticesOk (i .v) && stepsOk (i .h))) (by .1 .0))
+    let l = move-limits-are (i .n) (i .v) (i .h) (by .1 .0) in
+    (l .axes, l .vertices, l .steps)
 
 pub moved-front : (i : MoveInput) (out w : List Float) (k : ℕ) → w ≡ moveBuffer i out → moveOutcome i ≡ accepted k → (k ≤ length w) × (take k w ≡ movedLevels i)
 unfolding moveBuffer
@@ -53,7 +53,7 @@ module _ (d v s h : ℕ) (ws : List ℕ) (x k : ℕ) (a : sweepOutcome (sweepInp
   pub swept-limits : SweepLimits d v s h
   unfolding sweepOutcome sweepRules
   swept-limits =
-      sweep-limits-are d v s h (not-false (shapeOk maxSource d v s && stepsOk h) (accepted-by sweepRules sweptLength (sweepInput d v s h ws x) k refl a .1 .0))
+      sweep-limits-are d v s h (accepted-by sweepRules sweptLength (sweepInput d v s h ws x) k refl a .1 .0)
 
   pub swept-front : (out w : List ℕ) → w ≡ sweepBuffer (sweepInput d v s h ws x) out → (k ≤ length w) × (take k w ≡ sweptWords (sweepInput d v s h ws x))
   unfolding sweepBuffer

@@ -1,3 +1,3 @@
--- The rules of the call move.
-pub mod MoveRules
+-- The order of the rules of the call move.
+pub mod Order
 pub mod FirstOfTwo

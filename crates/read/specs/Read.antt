@@ -1,9 +1,10 @@
 -- The call read: it takes a file's bytes, writes its cells and its points, and answers the header. Paper, sections 7 and 9.
 --   readInput b cells points     the input: the bytes, and the lengths of the two lent buffers
 --   headerOf b            the header's numbers and the step
+--   readTests             its refusals in order, but for row 15
 --   readRules, readOutcome (the header), readCells and readPoints (the two lent buffers)
 use mathlib.Core.Bool.{not, _||_}
-use mathlib.Core.List.{List, [], _∷_}
+use mathlib.Core.List.{List, [], _∷_, _++_}
 use Prim.Native.Nat.{ℕ}
 use lib.Dec.{eqb, ltb}
 use lib.ListN.{length}
@@ -27,8 +28,8 @@ pub record ReadInput : Type 0 where
 abbrev pub readInput : List ℕ → ℕ → ℕ → ReadInput
 readInput b cells points = record { bytes = b; cellRoom = cells; pointRoom = points }
 
-unfoldable pub readRules : List (Rule ReadInput)
-readRules =
+abbrev pub readTests : List (Rule ReadInput)
+readTests =
     refuse 1 (λ i. notOurs (i .bytes))
     ∷ refuse 2 (λ i. not (numbersOk (i .bytes)))
     ∷ refuse 3 (λ i. not (eqb (length (i .bytes)) (fileLength (i .bytes))))
@@ -37,8 +38,10 @@ readRules =
     ∷ refuse 6 (λ i. anyOf (λ x. not (eqb x 43 || eqb x 45)) (signBytes (i .bytes)))
     ∷ refuse 7 (λ i. vertexBeyond (vertexCountOf (i .bytes)) (fileCells (i .bytes)))
     ∷ refuse 8 (λ i. vertexTwice (fileCells (i .bytes)))
-    ∷ refuse 15 (λ i. ltb (i .cellRoom) (cellsLength (i .bytes)) || ltb (i .pointRoom) (pointCount (i .bytes)))
     ∷ []
+
+unfoldable pub readRules : List (Rule ReadInput)
+readRules = readTests ++ refuse 15 (λ i. ltb (i .cellRoom) (cellsLength (i .bytes)) || ltb (i .pointRoom) (pointCount (i .bytes))) ∷ []
 
 unfoldable pub headerOf : List ℕ → Header
 headerOf b = record { d = dimensionOf b; n = axesOf b; v = vertexCountOf b; s = cellCountOf b; h = stepsOf b; step = stepOf b }

@@ -1,35 +1,34 @@
--- What numbers within the limits are.
---   Limits, limits-are              a shape's: the dimension at most hi, at most 4,096 vertices, 1 to 4,096 cells
---   limits-of                       the same at dimension 7, without the vertices
---   SweepLimits, sweep-limits-are   a sweep's: with the steps
+-- What numbers within the limits are, from the test of row 2 where it does not apply.
+--   Limits, limits-are              a shape's: the dimension at most top, the vertices, the cells
+--   SweepLimits, sweep-limits-are   a sweep's: a shape's of dimension 6, with the steps
+--   ListLimits, list-limits-are     a list's: a shape's of dimension 7, with the axes
+--   MoveLimits, move-limits-are     a move's: axes, vertices, steps
 -- Assumes nothing.
 use mathlib.Core.Path.{_≡_}
-use mathlib.Core.Bool.{true, _&&_}
+use mathlib.Core.Bool.{true, false, not, _&&_}
 use Prim.Native.Nat.{ℕ, _≤_}
 use lib.Dec.{leb}
-use borrow.Author.Tests.{leb-true}
-use Rattle.rules.specs.Limits.{maxDimension, maxSource, maxVertices, maxCells, maxSteps, within, verticesOk, sizesOk, stepsOk}
+use borrow.Author.Tests.{leb-true, not-false}
+use Rattle.rules.specs.Limits.{maxDimension, maxSource, maxAxes, maxVertices, maxCells, maxSteps, within, axesOk, verticesOk, cellsOk, sizesOk, stepsOk}
 use Rattle.rules.specs.Shapes.{shapeOk}
 use Rattle.rules.proofs.Tests.{and-parts}
 
-between : (hi x : ℕ) → within 1 hi x ≡ true → (1 ≤ x) × (x ≤ hi)
-between hi x e = let both = and-parts (leb 1 x) (leb x hi) e in (leb-true 1 x (both .0), leb-true x hi (both .1))
+at-most : (hi x : ℕ) → within 1 hi x ≡ true → x ≤ hi
+at-most hi x e = leb-true x hi (and-parts (leb 1 x) (leb x hi) e .1)
 
-pub record Limits (hi d v s : ℕ) : Type 0 where
-  pub dimension : d ≤ hi
+pub record Limits (top d v s : ℕ) : Type 0 where
+  pub dimension : d ≤ top
   pub vertices : v ≤ maxVertices
-  pub some : 1 ≤ s
   pub cells : s ≤ maxCells
 
-pub limits-are : (hi d v s : ℕ) → shapeOk hi d v s ≡ true → Limits hi d v s
-limits-are hi d v s e =
-    let shape = and-parts (leb d hi) (sizesOk v s) e in
-    let sizes = and-parts (verticesOk v) (within 1 maxCells s) (shape .1) in
-    let count = between maxCells s (sizes .1) in
-    record { dimension = leb-true d hi (shape .0); vertices = between maxVertices v (sizes .0) .1; some = count .0; cells = count .1 }
+shape-limits : (top d v s : ℕ) → shapeOk top d v s ≡ true → Limits top d v s
+shape-limits top d v s e =
+    let shape = and-parts (leb d top) (sizesOk v s) e in
+    let sizes = and-parts (verticesOk v) (cellsOk s) (shape .1) in
+    record { dimension = leb-true d top (shape .0); vertices = at-most maxVertices v (sizes .0); cells = at-most maxCells s (sizes .1) }
 
-pub limits-of : (d v s : ℕ) → shapeOk maxDimension d v s ≡ true → (d ≤ 7) × (1 ≤ s) × (s ≤ 4096)
-limits-of d v s e = let l = limits-are maxDimension d v s e in (l .dimension, l .some, l .cells)
+pub limits-are : (top d v s : ℕ) → not (shapeOk top d v s) ≡ false → Limits top d v s
+limits-are top d v s e = shape-limits top d v s (not-false (shapeOk top d v s) e)
 
 pub record SweepLimits (d v s h : ℕ) : Type 0 where
   pub dimension : d ≤ maxSource
@@ -37,8 +36,31 @@ pub record SweepLimits (d v s h : ℕ) : Type 0 where
   pub cells : s ≤ maxCells
   pub steps : h ≤ maxSteps
 
-pub sweep-limits-are : (d v s h : ℕ) → (shapeOk maxSource d v s && stepsOk h) ≡ true → SweepLimits d v s h
+pub sweep-limits-are : (d v s h : ℕ) → not (shapeOk maxSource d v s && stepsOk h) ≡ false → SweepLimits d v s h
 sweep-limits-are d v s h e =
-    let both = and-parts (shapeOk maxSource d v s) (stepsOk h) e in
-    let l = limits-are maxSource d v s (both .0) in
-    record { dimension = l .dimension; vertices = l .vertices; cells = l .cells; steps = between maxSteps h (both .1) .1 }
+    let both = and-parts (shapeOk maxSource d v s) (stepsOk h) (not-false (shapeOk maxSource d v s && stepsOk h) e) in
+    let l = shape-limits maxSource d v s (both .0) in
+    record { dimension = l .dimension; vertices = l .vertices; cells = l .cells; steps = at-most maxSteps h (both .1) }
+
+pub record ListLimits (d n v s : ℕ) : Type 0 where
+  pub dimension : d ≤ maxDimension
+  pub axes : n ≤ maxAxes
+  pub vertices : v ≤ maxVertices
+  pub cells : s ≤ maxCells
+
+pub list-limits-are : (d n v s : ℕ) → not (shapeOk maxDimension d v s && axesOk n) ≡ false → ListLimits d n v s
+list-limits-are d n v s e =
+    let both = and-parts (shapeOk maxDimension d v s) (axesOk n) (not-false (shapeOk maxDimension d v s && axesOk n) e) in
+    let l = shape-limits maxDimension d v s (both .0) in
+    record { dimension = l .dimension; axes = at-most maxAxes n (both .1); vertices = l .vertices; cells = l .cells }
+
+pub record MoveLimits (n v h : ℕ) : Type 0 where
+  pub axes : n ≤ maxAxes
+  pub vertices : v ≤ maxVertices
+  pub steps : h ≤ maxSteps
+
+pub move-limits-are : (n v h : ℕ) → not (axesOk n && (verticesOk v && stepsOk h)) ≡ false → MoveLimits n v h
+move-limits-are n v h e =
+    let parts = and-parts (axesOk n) (verticesOk v && stepsOk h) (not-false (axesOk n && (verticesOk v && stepsOk h)) e) in
+    let counts = and-parts (verticesOk v) (stepsOk h) (parts .1) in
+    record { axes = at-most maxAxes n (parts .0); vertices = at-most maxVertices v (counts .0); steps = at-most maxSteps h (counts .1) }

@@ -1,5 +1,6 @@
 -- What a call answers, and what it leaves in a lent buffer. Paper, section 9.
 --   Rule A            a row of the refusal table: its number, and the test on the call's input
+--   noRoom            row 15, which every call tries last
 --   firstRefusal      the number of the first rule that applies, 0 if none does
 --   Outcome A         accepted with values, or refused with a number
 --   decide            accepted with the answer if no rule applies, else refused by the first that does
@@ -8,6 +9,7 @@
 use mathlib.Core.Bool.{Bool, true, false, cond}
 use mathlib.Core.List.{List, [], _∷_, _++_}
 use Prim.Native.Nat.{ℕ, zero, suc}
+use lib.Dec.{ltb}
 use lib.ListN.{length, drop}
 
 pub record Rule (A : Type 0) : Type 0 where
@@ -20,6 +22,10 @@ refuse n test = record { number = n; applies = test }
 -- the same rule on a part of a larger input
 abbrev pub onPart : {A B : Type 0} → (B → A) → Rule A → Rule B
 onPart part r = refuse (r .number) (λ x. r .applies (part x))
+
+-- row 15: the answer does not fit in the room lent
+abbrev pub noRoom : {A : Type 0} → (A → ℕ) → (A → ℕ) → Rule A
+noRoom room needed = refuse 15 (λ x. ltb (room x) (needed x))
 
 abbrev pub firstRefusal : {A : Type 0} → List (Rule A) → A → ℕ
 firstRefusal [] x = 0

@@ -2,7 +2,7 @@
 --   maxDimension      d of a table; read and sweep go to maxSource, since a sweep adds one
 --   maxAxes, maxVertices, maxCells, maxSteps
 --   empty             the wing word for no neighbour, 65535
---   sizesOk v s       vertex and cell count are within the limits
+--   axesOk, verticesOk, cellsOk, stepsOk      one number is within its limits; sizesOk v s, vertex and cell count are
 --   sweptVertices     the vertex count of a sweep: v vertices give (h + 1) v in h steps
 use mathlib.Core.Bool.{Bool, _&&_}
 use Prim.Native.Nat.{ℕ, suc, _*_}
@@ -36,8 +36,11 @@ within lo hi x = leb lo x && leb x hi
 abbrev pub verticesOk : ℕ → Bool
 verticesOk v = within 1 maxVertices v
 
+abbrev pub cellsOk : ℕ → Bool
+cellsOk s = within 1 maxCells s
+
 abbrev pub sizesOk : ℕ → ℕ → Bool
-sizesOk v s = verticesOk v && within 1 maxCells s
+sizesOk v s = verticesOk v && cellsOk s
 
 abbrev pub axesOk : ℕ → Bool
 axesOk n = within 1 maxAxes n

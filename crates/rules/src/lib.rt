@@ -1,3 +1,4 @@
-// Limits and refusals that all calls share.
+// Limits, comparisons and refusals that all calls share.
+pub mod compare;
 pub mod limits;
 pub mod refusal;

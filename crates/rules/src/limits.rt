@@ -1,5 +1,10 @@
-// The limits, as constants of a table's shape, the constructor that tests them, and the test alone.
+// The limits, each tested by one function, and a table's shape with the constructor that tests it.
+use crate::compare::at_most;
+use crate::compare::between;
+use crate::compare::both;
 ghost use mathlib.Core.Path.{_≡_};
+ghost use Prim.Native.Nat.{_≤_};
+ghost use Rattle.rules.specs.Limits.{axesOk, verticesOk, cellsOk, sizesOk, stepsOk, maxVertices, maxSteps, sweptVertices};
 ghost use Rattle.rules.specs.Shapes.{shapeOf, shapeOk};
 
 // Dimension, vertex count and cell count of a table.
@@ -12,6 +17,44 @@ pub struct Shape {
 pub enum Shaped {
     Within(Shape),
     Outside,
+}
+
+pub fn axes_ok(n: usize) -> bool
+    ensures { λ r. ⌜ r ≡ axesOk n ⌝ }
+{
+    between(1, Shape::MAX_AXES, n)
+}
+
+pub fn vertices_ok(v: usize) -> bool
+    ensures { λ r. ⌜ r ≡ verticesOk v ⌝ }
+{
+    between(1, Shape::MAX_VERTICES, v)
+}
+
+pub fn cells_ok(s: usize) -> bool
+    ensures { λ r. ⌜ r ≡ cellsOk s ⌝ }
+{
+    between(1, Shape::MAX_CELLS, s)
+}
+
+pub fn steps_ok(h: usize) -> bool
+    ensures { λ r. ⌜ r ≡ stepsOk h ⌝ }
+{
+    between(1, Shape::MAX_STEPS, h)
+}
+
+pub fn sizes_ok(v: usize, s: usize) -> bool
+    ensures { λ r. ⌜ r ≡ sizesOk v s ⌝ }
+{
+    both(vertices_ok(v), cells_ok(s))
+}
+
+// Vertices of a sweep in h steps.
+pub fn swept_vertices(v: usize, h: usize) -> usize
+    requires { ⌜ (v ≤ maxVertices) × (h ≤ maxSteps) ⌝ }
+    ensures { λ r. ⌜ r ≡ sweptVertices v h ⌝ }
+{
+    (h + 1) * v
 }
 
 impl Shape {
@@ -27,36 +70,21 @@ impl Shape {
 
     pub const MAX_STEPS: usize = 64;
 
-    // The shape, if d is at most top and the counts are within the limits. top is MAX_DIMENSION, or
-    // MAX_SOURCE for what is read or swept.
-    pub fn new(top: usize, d: usize, v: usize, s: usize) -> Shaped
-        ensures { λ r. ⌜ r ≡ shapeOf top d v s ⌝ }
-    {
-        if top < d {
-            return Shaped::Outside;
-        }
-        if v < 1 {
-            return Shaped::Outside;
-        }
-        if Shape::MAX_VERTICES < v {
-            return Shaped::Outside;
-        }
-        if s < 1 {
-            return Shaped::Outside;
-        }
-        if Shape::MAX_CELLS < s {
-            return Shaped::Outside;
-        }
-        Shaped::Within(Shape { d, v, s })
-    }
-
-    // Whether the numbers make a shape.
+    // Whether the numbers make a shape: d is at most top, which is MAX_DIMENSION, or MAX_SOURCE for what is read or
+    // swept, and the counts are within the limits.
     pub fn within(top: usize, d: usize, v: usize, s: usize) -> bool
         ensures { λ r. ⌜ r ≡ shapeOk top d v s ⌝ }
     {
-        match Shape::new(top, d, v, s) {
-            Shaped::Within(_) => true,
-            Shaped::Outside => false,
+        both(at_most(d, top), sizes_ok(v, s))
+    }
+
+    // The shape, if the numbers make one.
+    pub fn new(top: usize, d: usize, v: usize, s: usize) -> Shaped
+        ensures { λ r. ⌜ r ≡ shapeOf top d v s ⌝ }
+    {
+        if Shape::within(top, d, v, s) {
+            return Shaped::Within(Shape { d, v, s });
         }
+        Shaped::Outside
     }
 }

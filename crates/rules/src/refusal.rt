@@ -1,4 +1,4 @@
-// Why a call says no, and what a call answers.
+// Why a call says no, what a call answers, and what a part of it finds.
 ghost use mathlib.Core.Path.{_≡_};
 ghost use Rattle.rules.specs.Numbers.{numberOf};
 
@@ -24,6 +24,12 @@ pub enum Refusal {
 pub enum Answer {
     Written(usize),
     Refused(Refusal),
+}
+
+// What the tests of a part of the input come to.
+pub enum Verdict {
+    Pass,
+    Refuse(Refusal),
 }
 
 // A refusal's number in the paper, section 9.

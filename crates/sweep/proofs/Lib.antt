@@ -1,4 +1,4 @@
--- The cases of the call sweep.
-pub mod Outcomes
+-- The order of the rules of the call sweep, and the words that it writes.
+pub mod Order
 pub mod CallWords
 pub mod FirstOfTwo

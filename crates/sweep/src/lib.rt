@@ -4,10 +4,12 @@ ghost use lib.ListN.{length};
 ghost use Rattle.rules.specs.Numbers.{outcomeOf};
 ghost use Rattle.sweep.specs.Sweep.{sweepOutcome, sweepBuffer, sweepInput};
 use crate::limits::in_limits;
-use crate::limits::swept_cells;
+use crate::limits::swept_words;
 use crate::limits::too_large;
 use adjacency::sizes::table_words;
 use adjacency::sound::is_sound;
+use rules::compare::differ;
+use rules::compare::less;
 use rules::refusal::Answer;
 use rules::refusal::Refusal;
 use sweeping::writing::write_swept;
@@ -22,7 +24,7 @@ pub fn sweep(d: usize, v: usize, s: usize, h: usize, table: &[u16], out: &mut [u
     if !in_limits(d, v, s, h) {
         return Answer::Refused(Refusal::OutsideLimits);
     }
-    if table.len() != table_words(d, s) {
+    if differ(table.len(), table_words(d, s)) {
         return Answer::Refused(Refusal::WrongLength);
     }
     if too_large(d, v, s, h) {
@@ -31,7 +33,7 @@ pub fn sweep(d: usize, v: usize, s: usize, h: usize, table: &[u16], out: &mut [u
     if !is_sound(d, v, s, table) {
         return Answer::Refused(Refusal::Unsound);
     }
-    if out.len() < table_words(d + 1, swept_cells(d, s, h)) {
+    if less(out.len(), swept_words(d, s, h)) {
         return Answer::Refused(Refusal::NoRoom);
     }
     Answer::Written(write_swept(d, v, s, h, table, out))

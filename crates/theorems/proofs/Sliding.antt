@@ -22,8 +22,8 @@ use Rattle.points.specs.declared.step.Step.the-variants as S
 use Rattle.points.specs.Levels.{movedAll}
 use Rattle.points.specs.Step.{addAt, inRange, movedPoint, stepFits}
 use Rattle.points.proofs.AllOf.{allOf-append}
-use Rattle.motion.specs.Move.{MoveInput, moveInput, movedLength, movedLevels, moveOutcome}
-use Rattle.motion.proofs.MoveRules.{accept, refuse-12}
+use Rattle.motion.specs.Move.{MoveInput, moveInput, movedLength, movedLevels, moveRules, moveOutcome}
+use Rattle.motion.proofs.Order.{accepts, refuses}
 
 same-range : (q : Float → Bool) (n : ℕ) (x : Float) → q x ≡ true → allOf q (replicate n x) ≡ true
 same-range q zero x h = refl
@@ -70,12 +70,13 @@ module _ (v : ℕ) (x a : Float) (room : ℕ) where
 
   pub slid-accepted : verticesOk v ≡ true → ltb maxVertices (sweptVertices v 1) ≡ false → ltb room (movedLength slid) ≡ false →
       inRange x ≡ true → inRange a ≡ true → inRange (add binary64 x a) ≡ true → moveOutcome slid ≡ accepted (movedLength slid)
+  unfolding moveRules
   slid-accepted hv few fits hx ha hy =
-      sym (accept slid [] (rw hv refl) many (rw (ha, same-range inRange v x hx) refl) step-fits few (levels-in hx hy) fits .0)
+      sym (accepts slid [] _ _ (rw (hv, many, ha, same-range inRange v x hx, step-fits, few, levels-in hx hy, fits)) refl refl .0)
 
   pub slid-refused : (h : ℕ) → verticesOk v ≡ true → stepsOk h ≡ true →
       ltb maxVertices (sweptVertices v h) ≡ true → inRange x ≡ true → inRange a ≡ true →
       moveOutcome (moveInput 1 v h (S.Slide 0 a) (replicate v x) room) ≡ refused 12
+  unfolding moveRules
   slid-refused h hv hh large hx ha =
-      sym (refuse-12 (moveInput 1 v h (S.Slide 0 a) (replicate v x) room) [] (rw (hv, hh) refl)
-      many (rw (ha, same-range inRange v x hx) refl) step-fits large .0)
+      sym (refuses (moveInput 1 v h (S.Slide 0 a) (replicate v x) room) [] 12 (rw (hv, hh, many, ha, same-range inRange v x hx, step-fits, large)) .0)

@@ -14,12 +14,12 @@ use Rattle.records.specs.Layout.{cellOf, listSize, tableLength}
 use Rattle.complex.specs.Table.{tableOfList}
 use Rattle.complex.proofs.Accepted.{accepted-solid, passes}
 use Rattle.complex.proofs.OwnTable as own
-use Rattle.wing.specs.Wing.{wingOutcome, wingRules}
+use Rattle.wing.specs.Wing.{wingLength, wingOutcome, wingRules}
 
 pub accepted-long : (l : Listed) (x k : ℕ) → wingOutcome (record { list = l; room = x }) ≡ accepted k → k ≡ length (tableOfList l)
 unfolding wingOutcome wingRules solidRules tableOfList
 accepted-long l x k e =
-    let by = accepted-by wingRules (λ i. tableLength (i .list .d) (i .list .s)) (record { list = l; room = x }) k refl e in
+    let by = accepted-by wingRules wingLength (record { list = l; room = x }) k refl e in
     let none = by .1 .1 in
     let six = none .1 in
     let words = eqb-true (length (l .words)) (l .s * listSize (l .d)) (not-false (eqb (length (l .words)) (l .s * listSize (l .d))) (none .0)) in

@@ -4,7 +4,7 @@
 -- Assumes nothing.
 use mathlib.Core.Path.{_≡_, refl, sym, ap, _∙_}
 use mathlib.Core.Bool.{Bool, true, false}
-use mathlib.Core.List.{List, _++_}
+use mathlib.Core.List.{List, [], _++_}
 use Prim.Native.Nat.{ℕ, _*_}
 use lib.IntN.{pos, negℤ}
 use lib.ListN.{length, drop}
@@ -14,8 +14,8 @@ use Rattle.rules.specs.Limits.{maxDimension}
 use Rattle.rules.specs.Shapes.{shapeOk}
 use Rattle.rules.specs.Calls.{Outcome, accepted, refused, after}
 use Rattle.records.specs.Layout.{faceSize, facesWords, tableLength}
-use Rattle.boundary.specs.Faces.{boundaryCells, facesOutcome}
-use Rattle.boundary.proofs.Outcomes.{refused-at-2, refused-at-3}
+use Rattle.boundary.specs.Faces.{boundaryCells, facesRules, facesOutcome}
+use Rattle.boundary.proofs.Order.{refuses}
 use Rattle.winged.specs.Host.{hosted, hostAnswer, inWords, hostFacesInput, hostFacesOutcome, hostFaces, hostFacesBuffer}
 use Rattle.winged.specs.Sent.{facesIn, facesAnswer, facesAfter}
 use Rattle.winged.proofs.Hosting.{hosted-right, hosted-wrong}
@@ -50,14 +50,14 @@ module _ (d v s : ℕ) (table out : List ℕ) where
   host-refused n e = hosted-told (refused n) e
 
   outside : shapeOk maxDimension d v s ≡ false → hostFacesOutcome d v s table out ≡ refused 2
-  unfolding hostFacesOutcome
-  outside e = rw e (refused-at-2 (hostFacesInput d v s table out) e)
+  unfolding hostFacesOutcome facesRules
+  outside e = rw e (sym (refuses (hostFacesInput d v s table out) [] 2 (rw e) .0))
 
   wrong : shapeOk maxDimension d v s ≡ true → (length table ≡ tableLength d s * 2 → ⊥) → hostFacesOutcome d v s table out ≡ refused 3
-  unfolding hostFacesOutcome
+  unfolding hostFacesOutcome facesRules
   wrong ok n =
       hosted-wrong (shapeOk maxDimension d v s) table (tableLength d s) (facesOutcome (hostFacesInput d v s table out)) ok n
-      (λ w. refused-at-3 (hostFacesInput d v s table out) ok (ne-eqb (length (words16 table)) (tableLength d s) w))
+      (λ w. sym (refuses (hostFacesInput d v s table out) [] 3 (rw (ok, ne-eqb (length (words16 table)) (tableLength d s) w)) .0))
 
   right : length table ≡ tableLength d s * 2 → hostFacesOutcome d v s table out ≡ facesOutcome (facesIn d v s (words16 table) out)
   unfolding hostFacesOutcome

@@ -9,8 +9,8 @@
 --   sweep-large           a table too long for its array is swept to too many cells
 -- Assumes nothing.
 use mathlib.Core.Path.{_≡_, refl, sym, ap, _∙_}
-use mathlib.Core.Bool.{Bool, true, false, _&&_, _||_}
-use mathlib.Core.List.{List, _++_}
+use mathlib.Core.Bool.{Bool, true, false, not, _&&_, _||_}
+use mathlib.Core.List.{List, [], _++_}
 use Prim.Native.Nat.{ℕ, suc, _+_, _*_, _≤_, _<_}
 use native.Mathlib.Nat.{mul-add, mul-le-mul, mul-le-mul-right, mul-suc, one-mul}
 use native.Mathlib.Omega.{arith}
@@ -28,11 +28,11 @@ use Rattle.complex.specs.Accept.{solidRules}
 use Rattle.records.specs.Layout.{listSize, recordSize, tableLength}
 use Rattle.complex.specs.Table.{tableOfList}
 use Rattle.wing.specs.Wing.{WingInput, wingInput, wingOutcome, wingBuffer, wingRules}
-use Rattle.rules.proofs.InLimits.{limits-of, sweep-limits-are}
-use Rattle.wing.proofs.WingCases.{row-2, row-3}
+use Rattle.rules.proofs.InLimits.{limits-are, sweep-limits-are}
+use Rattle.wing.proofs.Order as wing
 use Rattle.prism.specs.Swept.{sweptCells}
 use Rattle.sweep.specs.Sweep.{SweepInput, sweepOutcome, sweepBuffer, sweepRules, sweptWords, sweepInput}
-use Rattle.sweep.proofs.Outcomes.{tooLarge, large-not, refused-at-2, refused-at-3, refused-at-12}
+use Rattle.sweep.proofs.Order as sweep
 use Rattle.winged.specs.Host.{hosted, hostAnswer, wordsIn, hostList, hostWing, hostWingOutcome, hostWingBuffer, hostSweepInput, hostSweep, hostSweepOutcome, hostSweepBuffer}
 use Rattle.winged.specs.Sent.{lesser, tableRoom, wingRead, sweepRead}
 use Rattle.winged.proofs.Hosting.{hosted-accepted, hosted-right, hosted-wrong}
@@ -55,14 +55,14 @@ sweep-after o i out e = ap (λ q. after q (sweptWords i) out) (sym e)
 
 module _ (d v s : ℕ) (cells : List ℕ) (x : ℕ) where
   pub wing-outside : shapeOk maxDimension d v s ≡ false → refused 2 ≡ wingRead d v s cells x
-  unfolding wingRead
-  wing-outside e = rw e (row-2 d v s (words16 cells) x e)
+  unfolding wingRead wingRules
+  wing-outside e = rw e (wing.refuses (wingInput d v s (words16 cells) x) [] 2 (rw e) .0)
 
   pub wing-wrong : shapeOk maxDimension d v s ≡ true → (length cells ≡ s * listSize d * 2 → ⊥) → refused 3 ≡ wingRead d v s cells x
-  unfolding wingRead
+  unfolding wingRead wingRules
   wing-wrong ok n =
       sym (hosted-wrong (shapeOk maxDimension d v s) cells (s * listSize d) (wingOutcome (wingInput d v s (words16 cells) x)) ok n
-      (λ w. sym (row-3 d v s (words16 cells) x ok w)))
+      (λ w. sym (wing.refuses (wingInput d v s (words16 cells) x) [] 3 (rw (ok, ne-eqb (length (words16 cells)) (s * listSize d) w)) .0)))
 
   pub wing-right : length cells ≡ s * listSize d * 2 → wingOutcome (wingInput d v s (words16 cells) x) ≡ wingRead d v s cells x
   unfolding wingRead
@@ -84,7 +84,7 @@ unfolding wingOutcome wingRules solidRules
 wing-same d v s ws x = go (shapeOk maxDimension d v s) refl
   where
     go : (t : Bool) → shapeOk maxDimension d v s ≡ t → wingOutcome (wingInput d v s ws (lesser x tableRoom)) ≡ wingOutcome (wingInput d v s ws x)
-    go true e = let l = limits-of d v s e in rw (room-cut x tableRoom (tableLength d s) (table-fits d s (l .0) (l .2))) refl
+    go true e = let l = limits-are maxDimension d v s (ap not e) in rw (room-cut x tableRoom (tableLength d s) (table-fits d s (l .dimension) (l .cells))) refl
     go false e = rw e refl
 
 pub wing-room : (d v s : ℕ) (cells : List ℕ) (x : ℕ) → wingRead d v s cells (lesser x tableRoom) ≡ wingRead d v s cells x
@@ -113,14 +113,14 @@ many-cells d s h steps n =
 
 module _ (d v s h : ℕ) (table : List ℕ) (x : ℕ) where
   pub sweep-outside : (shapeOk maxSource d v s && stepsOk h) ≡ false → refused 2 ≡ sweepRead d v s h table x
-  unfolding sweepRead
-  sweep-outside e = rw e (sym (refused-at-2 (sweepInput d v s h (words16 table) x) e))
+  unfolding sweepRead sweepRules
+  sweep-outside e = rw e (sweep.refuses (sweepInput d v s h (words16 table) x) [] 2 (rw e) .0)
 
   pub sweep-wrong : (shapeOk maxSource d v s && stepsOk h) ≡ true → (length table ≡ tableLength d s * 2 → ⊥) → refused 3 ≡ sweepRead d v s h table x
-  unfolding sweepRead
+  unfolding sweepRead sweepRules
   sweep-wrong ok n =
       sym (hosted-wrong (shapeOk maxSource d v s && stepsOk h) table (tableLength d s) (sweepOutcome (sweepInput d v s h (words16 table) x)) ok n
-      (λ w. refused-at-3 (sweepInput d v s h (words16 table) x) ok (ne-eqb (length (words16 table)) (tableLength d s) w)))
+      (λ w. sym (sweep.refuses (sweepInput d v s h (words16 table) x) [] 3 (rw (ok, ne-eqb (length (words16 table)) (tableLength d s) w)) .0)))
 
   pub sweep-right : length table ≡ tableLength d s * 2 → sweepOutcome (sweepInput d v s h (words16 table) x) ≡ sweepRead d v s h table x
   unfolding sweepRead
@@ -129,10 +129,11 @@ module _ (d v s h : ℕ) (table : List ℕ) (x : ℕ) where
 
   pub sweep-large : (shapeOk maxSource d v s && stepsOk h) ≡ true → length table ≡ tableLength d s * 2 → 12288 < tableLength d s →
       refused 12 ≡ sweepRead d v s h table x
+  unfolding sweepRules
   sweep-large ok e n =
-      let i = sweepInput d v s h (words16 table) x in
       let right = eq-eqb (length (words16 table)) (tableLength d s) (omega (arith, words-count table)) in
-      sym (refused-at-12 i ok right (or-right (ltb maxVertices (sweptVertices v h)) (lt-ltb maxCells (sweptCells d s h) (many-cells d s h (steps-some d v s h ok) n)))) ∙ sweep-right e
+      let large = or-right (ltb maxVertices (sweptVertices v h)) (lt-ltb maxCells (sweptCells d s h) (many-cells d s h (steps-some d v s h ok) n)) in
+      sweep.refuses (sweepInput d v s h (words16 table) x) [] 12 (rw (ok, right, large)) .0 ∙ sweep-right e
 
   pub sweep-host : (out : List ℕ) (o : Outcome ℕ) → x ≡ wordsIn out → o ≡ sweepRead d v s h table x →
       (hostAnswer o ≡ hostSweep d v s h table out) × (after o (bytesOf (sweptWords (hostSweepInput d v s h table out))) out ≡ hostSweepBuffer d v s h table out)
@@ -143,15 +144,15 @@ module _ (d v s h : ℕ) (table : List ℕ) (x : ℕ) where
 
 sweep-same : (d v s h : ℕ) (ws : List ℕ) (x : ℕ) → sweepOutcome (sweepInput d v s h ws (lesser x tableRoom)) ≡ sweepOutcome (sweepInput d v s h ws x)
 unfolding sweepOutcome sweepRules
-sweep-same d v s h ws x = go (shapeOk maxSource d v s && stepsOk h) refl (tooLarge (sweepInput d v s h ws x)) refl
+sweep-same d v s h ws x = go (shapeOk maxSource d v s && stepsOk h) refl ((ltb maxVertices (sweptVertices v h) || ltb maxCells (sweptCells d s h))) refl
   where
-    go : (a : Bool) → (shapeOk maxSource d v s && stepsOk h) ≡ a → (b : Bool) → tooLarge (sweepInput d v s h ws x) ≡ b →
+    go : (a : Bool) → (shapeOk maxSource d v s && stepsOk h) ≡ a → (b : Bool) → (ltb maxVertices (sweptVertices v h) || ltb maxCells (sweptCells d s h)) ≡ b →
         sweepOutcome (sweepInput d v s h ws (lesser x tableRoom)) ≡ sweepOutcome (sweepInput d v s h ws x)
     go false e b f = rw e refl
     go true e true f = rw f refl
     go true e false f =
-        let l = sweep-limits-are d v s h e in
-        let n = large-not (sweepInput d v s h ws x) f .1 in
+        let l = sweep-limits-are d v s h (ap not e) in
+        let n = sweep.small d v s h f .1 in
         rw (room-cut x tableRoom (tableLength (suc d) (sweptCells d s h)) (table-fits (suc d) (sweptCells d s h) (omega (arith, l .dimension)) n)) refl
 
 pub sweep-room : (d v s h : ℕ) (table : List ℕ) (x : ℕ) → sweepRead d v s h table (lesser x tableRoom) ≡ sweepRead d v s h table x

@@ -1,25 +1,33 @@
--- `numbers_ok` answers rule 2: each test that fails makes one factor false. Assumes nothing.
-use borrow.Author.Tests.{le-leb, lt-leb}
+-- `numbers_ok` answers row 2, by the tests of the three numbers. Assumes nothing.
+use borrow.Author.Needs.{needs}
 use Rattle.motion.proofs.numbers_ok.Statement.{statement}
 use Rattle.motion.proofs.numbers_ok.Tie as tie
 
+axes-ok-requires : tie.Need-axes-ok-requires
+axes-ok-requires c κs = search needs
+
+vertices-ok-requires : tie.Need-vertices-ok-requires
+vertices-ok-requires c κs = search needs
+
+steps-ok-requires : tie.Need-steps-ok-requires
+steps-ok-requires c κs = search needs
+
+both-requires : tie.Need-both-requires
+both-requires c κs = search needs
+
+both-requires-2 : tie.Need-both-requires-2
+both-requires-2 c κs = search needs
+
 returns : tie.Need-returns
-returns c = simp (lt-leb _ _ (c .if1 .taken))
-
-returns-2 : tie.Need-returns-2
-returns-2 c = simp (le-leb _ _ (c .before .if1 .left), lt-leb _ _ (c .if2 .taken))
-
-returns-3 : tie.Need-returns-3
-returns-3 c = simp (le-leb _ _ (c .before .before .if1 .left), le-leb _ _ (c .before .if2 .left), lt-leb _ _ (c .if3 .taken))
-
-returns-4 : tie.Need-returns-4
-returns-4 c = simp (le-leb _ _ (c .before .before .before .if1 .left), le-leb _ _ (c .before .before .if2 .left), le-leb _ _ (c .before .if3 .left), lt-leb _ _ (c .if4 .taken))
-
-returns-5 : tie.Need-returns-5
-returns-5 c = simp (le-leb _ _ (c .before .before .before .before .if1 .left), le-leb _ _ (c .before .before .before .if2 .left), le-leb _ _ (c .before .before .if3 .left), le-leb _ _ (c .before .if4 .left), lt-leb _ _ (c .if5 .taken))
-
-returns-6 : tie.Need-returns-6
-returns-6 c = simp (le-leb _ _ (c .before .before .before .before .if1 .left), le-leb _ _ (c .before .before .before .if2 .left), le-leb _ _ (c .before .before .if3 .left), le-leb _ _ (c .before .if4 .left), le-leb _ _ (c .if5 .left))
+returns c = cc
 
 pub numbers-ok-spec : {M : Type 1} → statement M
-numbers-ok-spec = tie.close (tie.spec returns returns-2 returns-3 returns-4 returns-5 returns-6)
+numbers-ok-spec =
+    tie.close
+    (tie.spec
+    axes-ok-requires
+    vertices-ok-requires
+    steps-ok-requires
+    both-requires
+    both-requires-2
+    returns)

@@ -1,87 +1,78 @@
--- `write_table` answers `tableRefusal` and leaves `tableAfter`: each return is a case of the laws of Tabling. Assumes nothing.
+-- `write_table` answers `tableOutcome` and leaves `tableAfter`: each return is a case of Tabling. Assumes nothing.
+use mathlib.Core.Path.{_≡_, sym, ap, _∙_}
 use mathlib.Core.Bool.{Bool, false}
-use mathlib.Core.Path.{_∙_}
-use Prim.Native.Nat.{ℕ, _+_, _≤_}
-use native.Mathlib.Nat.{mul-le-mul}
+use Prim.Native.Nat.{ℕ}
 use native.Mathlib.Omega.{arith}
+use lib.Dec.{ltb}
 use lib.ListN.{length, length-replicate}
 use borrow.Author.Needs.{needs}
+use borrow.Author.Tests.{ltb-false}
+use Rattle.rules.specs.Calls.{firstRefusal}
+use Rattle.rules.specs.Numbers.{verdictOf}
+use Rattle.complex.specs.Accept.{solidRules}
+use Rattle.records.specs.Layout.{listSize, tableLength}
+use Rattle.adjacency.specs.Held.{recordList}
 use Rattle.adjacency.proofs.SoundCases.{fresh-blank}
-use Rattle.rules.proofs.InLimits.{limits-of}
+use Rattle.adjacency.proofs.Tabling.{refuses, no-room, accepts}
 use Rattle.adjacency.proofs.Taking.{taken-written}
-use Rattle.adjacency.proofs.Tabling.{table-refused, table-no-room, table-accepted, after-refused, after-accepted}
 use Rattle.adjacency.proofs.tabled.write_table.Statement.{statement}
 use Rattle.adjacency.proofs.tabled.write_table.Tie as tie
 
-abbrev start : tie.After-take → tie.Start
-start c = c .before .before .before .before .before .before
-
-limits : (s : tie.Start) → (s .args .d ≤ 7) × (1 ≤ s .args .s) × (s .args .s ≤ 4096)
-limits s = limits-of _ (s .args .v) _ (s .pre .0)
-
 add-take : tie.Need-add-take
-add-take c = omega (arith, limits (c .before .before) .0)
+add-take c = search needs
 
 take-requires : tie.Need-take-requires
 take-requires c κs =
-    let s = c .before .before .before .before .before in
-    let lim = limits s in (
-      (lim .0, omega arith, omega arith, lim .2, omega (arith, s .pre .1)),
-      (length-replicate {A = ℕ} 32768 0, length-replicate {A = Bool} 4096 false, fresh-blank),
-    )
+    ((omega arith, omega arith, omega arith, omega arith, omega arith), (length-replicate {A = ℕ} 32768 0, length-replicate {A = Bool} 4096 false, fresh-blank))
+
+enum-known-verdict : tie.Need-enum-known-verdict
+enum-known-verdict c = search needs
 
 returns : tie.Need-returns
 returns c =
-    let t = c .before .take in
-    let s = start (c .before) in
-    let a = s .args in
-    let e = table-refused _ _ _ _ (s .pre .1) _ (t .ensures .0) (length (a .table .now)) (c .if1 .taken) in
-    (e, after-refused _ _ _ _ _ _ (c .if1 .taken) e)
+    let s : tie.Start = search needs in
+    let t : tie.After-take = search needs in
+    let v = c .before .verdict .given in
+    refuses _ _ _ _ _ (s .pre .2) (v .0 .0) (sym (ap verdictOf (v .1)) ∙ t .take .ensures .0)
 
-add-if2 : tie.Need-add-if2
-add-if2 c = omega (arith, limits (start (c .before)) .0)
+enum-told : tie.Need-enum-told
+enum-told c = search needs
 
-add-if2-2 : tie.Need-add-if2-2
-add-if2-2 c = omega (arith, limits (start (c .before)) .0)
+-- rows 6 to 11 pass
+abbrev start : tie.After-enum-told → tie.Start
+start c = search needs
 
-mul-if2 : tie.Need-mul-if2
-mul-if2 c =
-    let s = start (c .before) in
-    let lim = limits s in
-    omega (arith, mul-le-mul {n₁ = s .args .s} {m₁ = s .args .d + s .args .d + 3} {n₂ = 4096} {m₂ = 17} (omega arith) (omega arith))
+none : (c : tie.After-enum-told) → let a = start c .args in 0 ≡ firstRefusal solidRules (recordList (listSize (a .d)) (a .d) (a .v) (a .s) (a .cells .now))
+none c = let t : tie.After-take = search needs in sym (ap verdictOf (c .enum-told .given .1)) ∙ t .take .ensures .0
+
+table-words-requires : tie.Need-table-words-requires
+table-words-requires c κs = search needs
+
+less-requires : tie.Need-less-requires
+less-requires c κs = search needs
 
 returns-2 : tie.Need-returns-2
-returns-2 c =
-    let t = c .before .before .take in
-    let s = start (c .before .before) in
-    let a = s .args in
-    let e = table-no-room _ _ _ _ (s .pre .1) _ (t .ensures .0) (length (a .table .now)) (c .before .if1 .left) (c .if2 .taken) in
-    (e, after-refused _ _ _ _ _ 15 (λ z. absurd (omega (arith, z))) e)
+returns-2 c = let s : tie.Start = search needs in no-room _ _ _ _ _ (s .pre .2) (none (search needs)) (cc)
+
+fits : (c : tie.Else1) → let a = start (search needs) .args in ltb (length (a .table .now)) (tableLength (a .d) (a .s)) ≡ false
+fits c = cc
 
 fill-requires : tie.Need-fill-requires
-fill-requires c κs =
-    let else = c .before .before .before .before in
-    let lim = limits (start (else .before .before)) in
-    (lim .0, lim .2, else .if2 .left)
+fill-requires c κs = (omega arith, omega arith, ltb-false _ _ (fits (search needs)))
 
 same-length : tie.Need-same-length
 same-length c = search needs
 
 returns-3 : tie.Need-returns-3
 returns-3 c =
-    let else = c .before .before .before .before .before .before .before in
-    let call = else .before .before in
-    let t = call .take in
-    let s = start call in
+    let e : tie.Else1 = search needs in
+    let t = e .before .before .before in
+    let s = start t in
     let a = s .args in
-    let lim = limits s in
-    let e = table-accepted _ _ _ _ (s .pre .1) _ (t .ensures .0) (length (a .table .now)) (else .before .if1 .left) (else .if2 .left) in (
-      e,
-      c .before .before .fill .ensures
-          ∙ taken-written _ _ _ _ (t .last .1 .1 .1 .1 .1 .0) (t .last .1 .1 .1 .1 .1 .1 .0) (t .last .1 .1 .1 .1 .1 .1 .1 .0)
-          _ (lim .0) (lim .2) (s .pre .1) (t .ensures .1 (else .before .if1 .left))
-          ∙ after-accepted _ _ _ _ _ e,
-    )
+    let call = t .before .before .take in
+    accepts _ _ _ _ _ (s .pre .2) (none t) _ _ (fits e) (e .before .before .table-words .ensures)
+    (c .before .before .fill .ensures
+    ∙ taken-written (a .d) (a .v) (a .s) (a .cells .now) _ _ _ (a .table .now) (omega arith) (omega arith) (s .pre .2) (call .ensures .1 (ap verdictOf (t .enum-told .given .1))))
 
 pub write-table-spec : {M : Type 1} → statement M
 write-table-spec =
@@ -89,10 +80,11 @@ write-table-spec =
     (tie.spec
     add-take
     take-requires
+    enum-known-verdict
     returns
-    add-if2
-    add-if2-2
-    mul-if2
+    enum-told
+    table-words-requires
+    less-requires
     returns-2
     fill-requires
     same-length

@@ -1,6 +1,6 @@
 -- The call faces from bytes to bytes: rows 2 and 3, and then the table is decoded. Assumes nothing.
 use mathlib.Core.Path.{_≡_, sym, ap, _∙_}
-use mathlib.Core.Bool.{true}
+use mathlib.Core.Bool.{true, not}
 use mathlib.Core.List.{List}
 use Prim.Native.Nat.{ℕ, _≤_}
 use native.Mathlib.Omega.{arith}
@@ -31,7 +31,7 @@ inside c = sym (c .before .within .ensures) ∙ not-false _ (c .if1 .left)
 few : (c : tie.Else1) → (start c .args .d ≤ 7) × (tableLength (start c .args .d) (start c .args .s) ≤ tableRoom)
 few c =
     let a = start c .args in
-    let l = limits-are maxDimension (a .d) (a .v) (a .s) (inside c) in
+    let l = limits-are maxDimension (a .d) (a .v) (a .s) (ap not (inside c)) in
     (l .dimension, table-fits (a .d) (a .s) (l .dimension) (l .cells))
 
 -- the table lent, and its words

@@ -1,13 +1,14 @@
 -- Faces of a table of the right length: rows 14 and 15, and then all faces are written. Assumes nothing.
-use mathlib.Core.Path.{_≡_, sym, ap, ap₂, _∙_}
-use mathlib.Core.Bool.{true}
-use mathlib.Core.List.{List, _++_, map}
+use mathlib.Core.Path.{_≡_, refl, sym, ap, ap₂, _∙_}
+use mathlib.Core.Bool.{true, not}
+use mathlib.Core.List.{List, [], _++_, map}
 use Prim.Native.Nat.{ℕ, _+_, _*_, _≤_}
 use native.Mathlib.Nat.{mul-le-mul}
 use native.Mathlib.Numerals.{add-one}
 use native.Mathlib.Omega.{arith}
 use borrow.Author.Needs.{needs}
 use borrow.Author.Tests.{not-true, not-false, eq-eqb, lt-ltb, le-ltb}
+use lib.Dec.{eqb}
 use lib.IntN.{pos}
 use lib.ListN.{length, drop}
 use mir.Syntax.{w64}
@@ -17,12 +18,13 @@ use Rattle.words.specs.Records.{concat}
 use Rattle.words.proofs.Bytes.{bytes-length}
 use Rattle.records.specs.Layout.{tableLength, facesWords}
 use Rattle.records.specs.Inside.{Table}
-use Rattle.boundary.specs.Faces.{FacesInput, boundaryCells, facesLength}
+use Rattle.boundary.specs.Faces.{FacesInput, boundaryCells, facesLength, facesRules}
 use Rattle.boundary.specs.Walk.{tableFaces}
 use Rattle.boundary.proofs.Sizes.{words-long}
 use Rattle.rules.specs.Limits.{maxDimension}
 use Rattle.rules.proofs.InLimits.{Limits, limits-are}
-use Rattle.boundary.proofs.Outcomes.{rightLength, isSound, refused-at-14, refused-at-15, accepted-with}
+use Rattle.boundary.proofs.Order.{refuses, accepts}
+use Rattle.complex.specs.Table.{sound}
 use Rattle.words.proofs.Placed.{placed-first}
 use Rattle.winged.specs.Sent.{facesIn, facesBytes}
 use Rattle.winged.proofs.FaceBytes.{bytes-faces}
@@ -37,12 +39,12 @@ abbrev input : tie.Start → FacesInput
 input c = facesIn (c .args .d) (c .args .v) (c .args .s) (c .args .table .now) (c .args .out .now)
 
 limits : (c : tie.Start) → Limits maxDimension (c .args .d) (c .args .v) (c .args .s)
-limits c = limits-are maxDimension (c .args .d) (c .args .v) (c .args .s) (c .pre .0)
+limits c = limits-are maxDimension (c .args .d) (c .args .v) (c .args .s) (ap not (c .pre .0))
 
-right : (c : tie.Start) → rightLength (input c) ≡ true
+right : (c : tie.Start) → eqb (length (c .args .table .now)) (tableLength (c .args .d) (c .args .s)) ≡ true
 right c = eq-eqb (length (c .args .table .now)) (tableLength (c .args .d) (c .args .s)) (c .pre .1)
 
-whole : (c : tie.Else1) → isSound (input (start (c .before))) ≡ true
+whole : (c : tie.Else1) → let a = start (c .before) .args in sound (a .d) (a .v) (a .s) (a .table .now) ≡ true
 whole c = sym (c .before .is-sound .ensures) ∙ not-false _ (c .if1 .left)
 
 table : (c : tie.Start) → Table (c .args .d) (c .args .s) (c .args .table .now)
@@ -66,10 +68,12 @@ minus-requires : tie.Need-minus-requires
 minus-requires c κs = search needs
 
 returns : tie.Need-returns
+unfolding facesRules
 returns c =
     let s = start (c .before .before) in
     let a = s .args in
-    let o = refused-at-14 (input s) (s .pre .0) (right s) (sym (c .before .before .is-sound .ensures) ∙ not-true _ (c .before .if1 .taken)) in
+    let unsound = sym (c .before .before .is-sound .ensures) ∙ not-true _ (c .before .if1 .taken) in
+    let o = sym (refuses (input s) [] 14 (rw (s .pre .0, right s, unsound)) .0) in
     let told = told-refused (a .d) (a .v) (a .s) (a .table .now) (a .out .now) 14 o in
     (toZ-ofZ w64 _ (search needs) ∙ c .minus .ensures ∙ told .0, told .1)
 
@@ -86,13 +90,14 @@ minus-requires-2 : tie.Need-minus-requires-2
 minus-requires-2 c κs = search needs
 
 returns-2 : tie.Need-returns-2
+unfolding facesRules
 returns-2 c =
     let n = c .before .before in
     let s = from n in
     let a = s .args in
     let o =
-    refused-at-15 (input s) (s .pre .0) (right s) (whole (n .before))
-    (lt-ltb (input s .room) (facesLength (input s)) (omega (arith, c .before .if2 .taken, needed n))) in
+    let short = lt-ltb (input s .room) (facesLength (input s)) (omega (arith, c .before .if2 .taken, needed n)) in
+    sym (refuses (input s) [] 15 (rw (s .pre .0, right s, whole (n .before), short)) .0) in
     let told = told-refused (a .d) (a .v) (a .s) (a .table .now) (a .out .now) 15 o in
     (toZ-ofZ w64 _ (search needs) ∙ c .minus2 .ensures ∙ told .0, told .1)
 
@@ -113,15 +118,15 @@ same-length : tie.Need-same-length
 same-length c = search needs
 
 returns-3 : tie.Need-returns-3
-unfolding boundaryCells
+unfolding boundaryCells facesRules
 returns-3 c =
     let two = c .before .before .before .before in
     let n = two .before in
     let s = from n in
     let a = s .args in
     let o =
-    accepted-with (input s) (s .pre .0) (right s) (whole (n .before))
-    (le-ltb (input s .room) (facesLength (input s)) (omega (arith, two .if2 .left, needed n))) in
+    let fits = le-ltb (input s .room) (facesLength (input s)) (omega (arith, two .if2 .left, needed n)) in
+    sym (accepts (input s) [] _ _ (rw (s .pre .0, right s, whole (n .before), fits)) refl refl .0) in
     let told = told-accepted (a .d) (a .v) (a .s) (a .table .now) (a .out .now) (length (boundaryCells (input s))) o in
     let fs = tableFaces (a .d) (a .s) (a .table .now) in (
       toZ-pos w64 (n .count-faces .result * (a .d + 1)) (omega (arith, few n)) ∙ ap pos (needed n) ∙ told .0,

@@ -1,6 +1,6 @@
 -- The call sweep on bytes: each return is the outcome of its row, and the call is lent the decoded words. Assumes nothing.
 use mathlib.Core.Path.{_≡_, refl, sym, ap, _∙_}
-use mathlib.Core.Bool.{true, _&&_}
+use mathlib.Core.Bool.{true, not, _&&_}
 use mathlib.Core.List.{List}
 use Prim.Native.Nat.{ℕ, _*_, _≤_}
 use native.Mathlib.Nat.{mul-le-mul}
@@ -29,7 +29,7 @@ inside c = sym (c .before .in-limits .ensures) ∙ not-false _ (c .if1 .left)
 few : (c : tie.Else1) → (start c .args .d ≤ 6) × (start c .args .s * recordSize (start c .args .d) ≤ 61440)
 few c =
     let a = start c .args in
-    let l = sweep-limits-are (a .d) (a .v) (a .s) (a .h) (inside c) in
+    let l = sweep-limits-are (a .d) (a .v) (a .s) (a .h) (ap not (inside c)) in
     (l .dimension, mul-le-mul {n₁ = a .s} {m₁ = recordSize (a .d)} {n₂ = 4096} {m₂ = 15} (l .cells) (omega (arith, l .dimension)))
 
 -- the table lent, and its words

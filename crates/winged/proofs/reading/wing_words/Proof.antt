@@ -1,6 +1,6 @@
 -- The call wing on bytes: each return is the outcome of its row, and the call is lent the decoded words. Assumes nothing.
 use mathlib.Core.Path.{_≡_, refl, sym, ap, _∙_}
-use mathlib.Core.Bool.{true}
+use mathlib.Core.Bool.{true, not}
 use mathlib.Core.List.{List}
 use Prim.Native.Nat.{ℕ, _+_, _*_, _≤_}
 use native.Mathlib.Nat.{mul-le-mul}
@@ -13,7 +13,7 @@ use Rattle.words.specs.Bytes.{words16}
 use Rattle.rules.specs.Limits.{maxDimension}
 use Rattle.rules.specs.Shapes.{shapeOk}
 use Rattle.wing.specs.Wing.{wingInput, wingOutcome, wingBuffer}
-use Rattle.rules.proofs.InLimits.{limits-of}
+use Rattle.rules.proofs.InLimits.{limits-are}
 use Rattle.winged.proofs.Inward.{decoded-front, wing-after, wing-outside, wing-wrong, wing-right}
 use Rattle.winged.proofs.reading.wing_words.Statement.{statement}
 use Rattle.winged.proofs.reading.wing_words.Tie as tie
@@ -28,8 +28,8 @@ inside c = sym (c .before .within .ensures) ∙ not-false _ (c .if1 .left)
 few : (c : tie.Else1) → (start c .args .d ≤ 7) × (start c .args .s * (start c .args .d + 2) ≤ 36864)
 few c =
     let a = start c .args in
-    let l = limits-of (a .d) (a .v) (a .s) (inside c) in
-    (l .0, mul-le-mul {n₁ = a .s} {m₁ = a .d + 2} {n₂ = 4096} {m₂ = 9} (l .2) (omega (arith, l .0)))
+    let l = limits-are maxDimension (a .d) (a .v) (a .s) (ap not (inside c)) in
+    (l .dimension, mul-le-mul {n₁ = a .s} {m₁ = a .d + 2} {n₂ = 4096} {m₂ = 9} (l .cells) (omega (arith, l .dimension)))
 
 -- the list lent, and its words
 abbrev cells : tie.Else2 → List ℕ

@@ -1,24 +1,19 @@
--- `Shape::within` answers `shapeOk`, by the shape that the numbers make. Assumes nothing.
-use mathlib.Core.Path.{sym, _∙_}
+-- `Shape::within` answers `shapeOk`, by its two tests. Assumes nothing.
 use borrow.Author.Needs.{needs}
-use Rattle.rules.proofs.Shaping.{shape-within, shape-outside}
 use Rattle.rules.proofs.limits.Shape.within.Statement.{statement}
 use Rattle.rules.proofs.limits.Shape.within.Tie as tie
 
-new-requires : tie.Need-new-requires
-new-requires c κs = search needs
+at-most-requires : tie.Need-at-most-requires
+at-most-requires c κs = search needs
 
-enum-told : tie.Need-enum-told
-enum-told c = search needs
+sizes-ok-requires : tie.Need-sizes-ok-requires
+sizes-ok-requires c κs = search needs
 
-enum-told-2 : tie.Need-enum-told-2
-enum-told-2 c = search needs
+both-requires : tie.Need-both-requires
+both-requires c κs = search needs
 
 returns : tie.Need-returns
-returns c = sym (shape-within _ _ _ _ _ (sym (c .before .before .new .ensures) ∙ c .enum-told .given .1))
-
-returns-2 : tie.Need-returns-2
-returns-2 c = sym (shape-outside _ _ _ _ (sym (c .before .before .new .ensures) ∙ c .enum-told2 .given .1))
+returns c = cc
 
 pub within-spec : {M : Type 1} → statement M
-within-spec = tie.close (tie.spec new-requires enum-told enum-told-2 returns returns-2)
+within-spec = tie.close (tie.spec at-most-requires sizes-ok-requires both-requires returns)

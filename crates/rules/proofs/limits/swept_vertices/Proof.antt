@@ -3,8 +3,8 @@ use Prim.Native.Nat.{_+_}
 use native.Mathlib.Nat.{mul-le-mul}
 use native.Mathlib.Omega.{arith}
 use borrow.Author.Needs.{needs}
-use Rattle.sweep.proofs.limits.swept_vertices.Statement.{statement}
-use Rattle.sweep.proofs.limits.swept_vertices.Tie as tie
+use Rattle.rules.proofs.limits.swept_vertices.Statement.{statement}
+use Rattle.rules.proofs.limits.swept_vertices.Tie as tie
 
 add-result : tie.Need-add-result
 add-result c = search needs
