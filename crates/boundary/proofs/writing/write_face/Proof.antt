@@ -60,7 +60,7 @@ loop-again c =
     let turn = c .before .before in
     let start = turn .before .before .before .before in
     let here : turn .loop .j < length (words start) = omega (arith, long start) in
-    (omega arith, cc, left-next 0 (words start) (turn .loop .j) _ _ here (c .face-word .ensures) (omega arith) (turn .loop .inv .2))
+    (omega arith, cc, left-next 0 (words start) (turn .loop .j) here (turn .loop .inv .2) _ _ (c .face-word .ensures) (omega arith))
 
 same-length : tie.Need-same-length Inv-loop μ-loop
 same-length c = c .before .loop .inv .2 .same

@@ -47,7 +47,7 @@ loop-again : tie.Need-loop-again Inv-loop μ-loop
 loop-again c =
     let turn = c .before .before in
     let s = turn .before .before .before in
-    (omega arith, left-next 0 (vertices s) (turn .loop .k) _ _ (omega (arith, long s)) (c .face-vertex .ensures) (omega arith) (turn .loop .inv .1))
+    (omega arith, left-next 0 (vertices s) (turn .loop .k) (omega (arith, long s)) (turn .loop .inv .1) _ _ (c .face-vertex .ensures) (omega arith))
 
 same-length : tie.Need-same-length Inv-loop μ-loop
 same-length c = c .before .loop .inv .1 .same
