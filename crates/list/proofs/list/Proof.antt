@@ -1,8 +1,8 @@
 -- The call list: each return is a rule's, and only an accepted call writes. Assumes nothing.
-use mathlib.Core.Path.{_≡_, _∙_}
+use mathlib.Core.Path.{_≡_, ap, _∙_}
 use mathlib.Core.Bool.{_&&_}
 use Prim.Native.Nat.{_*_}
-use lib.Dec.{eqb}
+use lib.Dec.{eqb, ltb}
 use lib.ListN.{length}
 use borrow.Author.Needs.{needs}
 use borrow.Author.Tests.{eqb-true, ltb-false, not-false}
@@ -14,7 +14,7 @@ use Rattle.records.specs.Layout.{tableLength}
 use Rattle.boundary.specs.Walk.{tableFaces}
 use Rattle.listing.specs.Lines.{keyText}
 use Rattle.listing.specs.Parts.{Points}
-use Rattle.list.specs.Listing.{listText, listRules}
+use Rattle.list.specs.Listing.{listInput, listText, listRules}
 use Rattle.list.proofs.Order.{refuses, accepts}
 use Rattle.list.proofs.list.Statement.{statement}
 use Rattle.list.proofs.list.Tie as tie
@@ -70,15 +70,22 @@ key-size-requires c κs = told (search needs)
 less-requires : tie.Need-less-requires
 less-requires c κs = search needs
 
+-- what is compared with the room is the length of the key
+compared : (c : tie.After-less) → let a = start (search needs) .args in
+    c .less .result ≡ ltb (length (a .out .now)) (length (listText (listInput (a .d) (a .n) (a .v) (a .s) (a .table .now) (a .points .now) 0)))
+unfolding listText
+compared c = let k : tie.After-key-size = search needs in c .less .ensures ∙ ap (ltb _) (k .key-size .ensures .text)
+
 returns-5 : tie.Need-returns-5
 unfolding listRules listText
-returns-5 c = refuses _ _ 15 cc
+returns-5 c = refuses _ _ 15 (cc (compared (c .before)))
 
 put-key-requires : tie.Need-put-key-requires
+unfolding listText
 put-key-requires c κs =
     let t = told (search needs) in
     let k : tie.After-key-size = search needs in
-    (t .0, t .1, k .key-size .ensures .faces, ltb-false _ _ (cc))
+    (t .0, t .1, k .key-size .ensures .faces, ltb-false _ _ (cc (compared (search needs))))
 
 same-length : tie.Need-same-length
 same-length c = search needs
@@ -88,7 +95,7 @@ unfolding listRules listText
 returns-6 c =
     let k : tie.After-key-size = search needs in
     let a = start (search needs) .args in
-    accepts _ _ _ _ (cc) (k .key-size .ensures .text)
+    accepts _ _ _ _ (cc (compared (search needs))) (k .key-size .ensures .text)
     (c .before .before .put-key .ensures .content
     ∙ placed-first (keyText (a .d) (a .n) (a .v) (a .points .now) (tableFaces (a .d) (a .s) (a .table .now))) (a .out .now))
 
