@@ -1,9 +1,13 @@
 // Winged solids for a host in C: numbers and lent bytes in, a count of words or minus a refusal's number out.
 ghost use mathlib.Core.Path.{_≡_};
-ghost use Rattle.winged.specs.Host.{hostWing, hostWingBuffer, hostSweep, hostSweepBuffer, hostFaces, hostFacesBuffer};
+ghost use Rattle.winged.specs.Host.{hostWing, hostWingBuffer, hostSweep, hostSweepBuffer, hostFaces, hostFacesBuffer, hostAnswer};
+ghost use lib.ListN.{length};
+ghost use Rattle.marking.specs.Key.{textOutcome, textBuffer};
 use crate::faces::faces_bytes;
 use crate::host::sweep_bytes;
 use crate::host::wing_bytes;
+use crate::sending::answered;
+use marking::key::key_text;
 
 mod faces;
 mod host;
@@ -50,4 +54,12 @@ pub extern "C" fn winged_faces(d: u32, v: u32, s: u32, table: &[u8], faces: &mut
 {
     let mut words = [0u16; 69632];
     faces_bytes(d as usize, v as usize, s as usize, table, &mut words, faces)
+}
+
+#[no_mangle]
+pub extern "C" fn winged_key(file: &[u8], text: &mut [u8]) -> i64
+    ensures answer { λ r. ⌜ r ≡ hostAnswer (textOutcome (now (file .entry)) (length (now (text .entry)))) ⌝ }
+    ensures buffer { λ _. ⌜ now (text .exit) ≡ textBuffer (now (file .entry)) (now (text .entry)) ⌝ }
+{
+    answered(key_text(file, text))
 }
