@@ -16,7 +16,7 @@ ghost use Rattle.file.specs.Tests.{floatsOk};
 
 // Whether the float at a place is finite, and of magnitude below 1,048,576. An exponent field of 2047 is an infinity's
 // or a NaN's.
-fn in_range(b: &[u8], at: usize) -> bool
+pub fn in_range(b: &[u8], at: usize) -> bool
     requires { ⌜ at + 8 ≤ length (now b) ⌝ }
     ensures { λ r. ⌜ r ≡ inRange (float64 (now (b .entry)) at) ⌝ }
 {
@@ -29,7 +29,7 @@ fn in_range(b: &[u8], at: usize) -> bool
 }
 
 // The float at a place, one in range.
-pub(crate) fn float_at(b: &[u8], at: usize) -> f64
+pub fn float_at(b: &[u8], at: usize) -> f64
     requires { ⌜ (at + 8 ≤ length (now b)) × (inRange (float64 (now b) at) ≡ true) ⌝ }
     ensures { λ r. ⌜ r ≡ float64 (now (b .entry)) at ⌝ }
 {

@@ -18,7 +18,7 @@ ghost use Rattle.complex.specs.Layout.{tableLength};
 ghost use Rattle.list.specs.Listing.{listInput, listOutcome, listBuffer};
 
 // Row 2.
-fn numbers_fit(d: usize, n: usize, v: usize, s: usize) -> bool
+pub fn numbers_fit(d: usize, n: usize, v: usize, s: usize) -> bool
     ensures { λ r. ⌜ r ≡ (shapeOk maxDimension d v s && axesOk n) ⌝ }
 {
     if !Shape::within(Shape::MAX_DIMENSION, d, v, s) {

@@ -1,16 +1,22 @@
 -- The count of an accepted call is at most the room that it was lent.
---   text-within           of key_text
+--   text-within, list-within      of key_text, of list on bytes
 -- Assumes nothing.
 use mathlib.Core.Path.{_≡_, refl}
-use mathlib.Core.Bool.{Bool, true, false, cond}
+use mathlib.Core.Bool.{Bool, true, false, cond, _&&_}
 use mathlib.Core.List.{List}
-use Prim.Native.Nat.{ℕ, _≤_}
+use Prim.Native.Nat.{ℕ, _*_, _≤_}
 use native.Mathlib.Omega.{arith}
-use lib.Dec.{ltb}
+use lib.Dec.{eqb, ltb}
 use lib.ListN.{length}
 use borrow.Author.Tests.{ltb-false}
+use Rattle.rules.specs.Limits.{maxDimension, axesOk}
+use Rattle.rules.specs.Shapes.{shapeOk}
 use Rattle.rules.specs.Calls.{Outcome, accepted, refused}
+use Rattle.complex.specs.Layout.{tableLength}
+use Rattle.list.specs.Listing.{ListInput, listOutcome}
+use Rattle.hosting.specs.Lists.{byBytes, hostListInput, hostListOutcome}
 use Rattle.marking.specs.Key.{printed, textOutcome}
+use Rattle.marking.proofs.Staged.{list-long}
 use Rattle.winged.specs.Sent.{countOf}
 
 pub text-within : (b : List ℕ) (room : ℕ) → countOf (textOutcome b room) ≤ room
@@ -20,3 +26,21 @@ text-within b room = go (ltb room (length (printed b))) refl
     go : (t : Bool) → ltb room (length (printed b)) ≡ t → countOf (cond t (refused 15) (accepted (length (printed b)))) ≤ room
     go true e = omega arith
     go false e = ltb-false room (length (printed b)) e
+
+listed : (i : ListInput) → countOf (listOutcome i) ≤ i .room
+listed i = go (listOutcome i) refl
+  where
+    go : (o : Outcome ℕ) → listOutcome i ≡ o → countOf o ≤ i .room
+    go (accepted k) e = let l = list-long i k e in omega (arith, l .0, l .1)
+    go (refused k) e = omega arith
+
+by-bytes : (numbers lengths : Bool) (o : Outcome ℕ) (m : ℕ) → countOf o ≤ m → countOf (byBytes numbers lengths o) ≤ m
+by-bytes false lengths o m h = omega arith
+by-bytes true false o m h = omega arith
+by-bytes true true o m h = h
+
+pub list-within : (d n v s : ℕ) (table points out : List ℕ) → countOf (hostListOutcome d n v s table points out) ≤ length out
+unfolding hostListOutcome
+list-within d n v s table points out =
+    by-bytes (shapeOk maxDimension d v s && axesOk n) (eqb (length table) (tableLength d s * 2) && eqb (length points) (v * n * 8))
+    (listOutcome (hostListInput d n v s table points out)) (length out) (listed (hostListInput d n v s table points out))

@@ -2,11 +2,13 @@
 ghost use mathlib.Core.Path.{_≡_};
 ghost use Rattle.winged.specs.Host.{hostWing, hostWingBuffer, hostSweep, hostSweepBuffer, hostFaces, hostFacesBuffer, hostAnswer};
 ghost use lib.ListN.{length};
+ghost use Rattle.hosting.specs.Lists.{hostListOutcome, hostListBuffer};
 ghost use Rattle.marking.specs.Key.{textOutcome, textBuffer};
 use crate::faces::faces_bytes;
 use crate::host::sweep_bytes;
 use crate::host::wing_bytes;
 use crate::sending::answered;
+use hosting::listing::list_bytes;
 use marking::key::key_text;
 
 mod faces;
@@ -54,6 +56,30 @@ pub extern "C" fn winged_faces(d: u32, v: u32, s: u32, table: &[u8], faces: &mut
 {
     let mut words = [0u16; 69632];
     faces_bytes(d as usize, v as usize, s as usize, table, &mut words, faces)
+}
+
+#[no_mangle]
+pub extern "C" fn winged_list(
+    d: u32,
+    n: u32,
+    v: u32,
+    s: u32,
+    table: &[u8],
+    points: &[u8],
+    text: &mut [u8],
+) -> i64
+    ensures answer { λ r. ⌜ r ≡ hostAnswer (hostListOutcome d n v s (now (table .entry)) (now (points .entry)) (now (text .entry))) ⌝ }
+    ensures buffer { λ _. ⌜ now (text .exit) ≡ hostListBuffer d n v s (now (table .entry)) (now (points .entry)) (now (text .entry)) ⌝ }
+{
+    answered(list_bytes(
+        d as usize,
+        n as usize,
+        v as usize,
+        s as usize,
+        table,
+        points,
+        text,
+    ))
 }
 
 #[no_mangle]

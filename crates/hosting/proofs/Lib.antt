@@ -1,0 +1,3 @@
+-- Laws of the calls on bytes.
+pub mod FloatLaws
+pub mod ListRows

@@ -1,0 +1,3 @@
+-- The calls on bytes.
+pub mod Floats
+pub mod Lists

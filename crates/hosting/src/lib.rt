@@ -1,0 +1,3 @@
+// The calls list, move and read from bytes to bytes: words of 16 bits and floats by their bits, little-endian.
+pub mod floats;
+pub mod listing;
