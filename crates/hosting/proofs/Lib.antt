@@ -1,3 +1,5 @@
 -- Laws of the calls on bytes.
 pub mod FloatLaws
 pub mod ListRows
+pub mod StepLaws
+pub mod MoveRows

@@ -1,3 +1,5 @@
 -- The calls on bytes.
 pub mod Floats
 pub mod Lists
+pub mod Moves
+pub mod Rooms

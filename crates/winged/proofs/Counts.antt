@@ -1,5 +1,5 @@
 -- The count of an accepted call is at most the room that it was lent.
---   text-within, list-within      of key_text, of list on bytes
+--   text-within, list-within, move-within     of key_text, of list and move on bytes
 -- Assumes nothing.
 use mathlib.Core.Path.{_≡_, refl}
 use mathlib.Core.Bool.{Bool, true, false, cond, _&&_}
@@ -12,9 +12,12 @@ use borrow.Author.Tests.{ltb-false}
 use Rattle.rules.specs.Limits.{maxDimension, axesOk}
 use Rattle.rules.specs.Shapes.{shapeOk}
 use Rattle.rules.specs.Calls.{Outcome, accepted, refused}
+use Rattle.rules.proofs.Accepting.{accepted-by}
 use Rattle.complex.specs.Layout.{tableLength}
+use Rattle.motion.specs.Move.{movedLength}
 use Rattle.list.specs.Listing.{ListInput, listOutcome}
 use Rattle.hosting.specs.Lists.{byBytes, hostListInput, hostListOutcome}
+use Rattle.hosting.specs.Moves.{MoveTold, toldMove, hostMoveRules, hostMoveOutcome}
 use Rattle.marking.specs.Key.{printed, textOutcome}
 use Rattle.marking.proofs.Staged.{list-long}
 use Rattle.winged.specs.Sent.{countOf}
@@ -44,3 +47,13 @@ unfolding hostListOutcome
 list-within d n v s table points out =
     by-bytes (shapeOk maxDimension d v s && axesOk n) (eqb (length table) (tableLength d s * 2) && eqb (length points) (v * n * 8))
     (listOutcome (hostListInput d n v s table points out)) (length out) (listed (hostListInput d n v s table points out))
+
+pub move-within : (i : MoveTold) → countOf (hostMoveOutcome i) ≤ i .room
+unfolding hostMoveOutcome hostMoveRules
+move-within i = go (hostMoveOutcome i) refl
+  where
+    go : (o : Outcome ℕ) → hostMoveOutcome i ≡ o → countOf o ≤ i .room
+    go (accepted k) e =
+        let by = accepted-by hostMoveRules (λ i. movedLength (toldMove i)) i k refl e in
+        omega (arith, by .0, ltb-false (i .room) (movedLength (toldMove i)) (by .1 .1 .1 .1 .1 .1 .1 .0))
+    go (refused k) e = omega arith
