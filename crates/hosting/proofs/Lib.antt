@@ -3,3 +3,4 @@ pub mod FloatLaws
 pub mod ListRows
 pub mod StepLaws
 pub mod MoveRows
+pub mod ReadRows

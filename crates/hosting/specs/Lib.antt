@@ -3,3 +3,4 @@ pub mod Floats
 pub mod Lists
 pub mod Moves
 pub mod Rooms
+pub mod Reads

@@ -2,4 +2,5 @@
 pub mod floats;
 pub mod listing;
 pub mod moving;
+pub mod reading;
 pub mod step_bits;
