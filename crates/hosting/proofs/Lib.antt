@@ -4,3 +4,4 @@ pub mod ListRows
 pub mod StepLaws
 pub mod MoveRows
 pub mod ReadRows
+pub mod Examples

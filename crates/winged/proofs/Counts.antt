@@ -1,10 +1,11 @@
 -- The count of an accepted call is at most the room that it was lent.
---   text-within, list-within, move-within     of key_text, of list and move on bytes
+--   text-within, list-within, move-within, read-within    of key_text, and of list, move and read on bytes
+--   read-small                so read's is no large number
 -- Assumes nothing.
-use mathlib.Core.Path.{_≡_, refl}
+use mathlib.Core.Path.{_≡_, refl, ap}
 use mathlib.Core.Bool.{Bool, true, false, cond, _&&_}
 use mathlib.Core.List.{List}
-use Prim.Native.Nat.{ℕ, _*_, _≤_}
+use Prim.Native.Nat.{ℕ, _*_, _/_, _≤_, _<_}
 use native.Mathlib.Omega.{arith}
 use lib.Dec.{eqb, ltb}
 use lib.ListN.{length}
@@ -15,9 +16,14 @@ use Rattle.rules.specs.Calls.{Outcome, accepted, refused}
 use Rattle.rules.proofs.Accepting.{accepted-by}
 use Rattle.complex.specs.Layout.{tableLength}
 use Rattle.motion.specs.Move.{movedLength}
+use Rattle.file.specs.Tests.{cellsLength}
+use Rattle.read.specs.declared.Header.{Header}
+use Rattle.read.specs.Read.{ReadInput, readInput, readRules, readOutcome, headerOf}
+use Rattle.read.proofs.Outcomes.{rooms-parts}
 use Rattle.list.specs.Listing.{ListInput, listOutcome}
 use Rattle.hosting.specs.Lists.{byBytes, hostListInput, hostListOutcome}
 use Rattle.hosting.specs.Moves.{MoveTold, toldMove, hostMoveRules, hostMoveOutcome}
+use Rattle.hosting.specs.Reads.{wordCount, withHeader, hostReadOutcome}
 use Rattle.marking.specs.Key.{printed, textOutcome}
 use Rattle.marking.proofs.Staged.{list-long}
 use Rattle.winged.specs.Sent.{countOf}
@@ -57,3 +63,24 @@ move-within i = go (hostMoveOutcome i) refl
         let by = accepted-by hostMoveRules (λ i. movedLength (toldMove i)) i k refl e in
         omega (arith, by .0, ltb-false (i .room) (movedLength (toldMove i)) (by .1 .1 .1 .1 .1 .1 .1 .0))
     go (refused k) e = omega arith
+
+pub read-within : (b header cells points : List ℕ) → countOf (hostReadOutcome b header cells points) ≤ length cells / 2
+unfolding hostReadOutcome readOutcome readRules
+read-within b header cells points = go (readOutcome i) refl
+  where
+    i : ReadInput
+    i = readInput b (length cells / 2) (length points / 8)
+
+    pick : (t : Bool) → cellsLength b ≤ length cells / 2 → countOf (cond t (refused 15) (accepted (cellsLength b))) ≤ length cells / 2
+    pick true h = omega arith
+    pick false h = h
+
+    go : (o : Outcome Header) → readOutcome i ≡ o → countOf (withHeader (length header) (wordCount b o)) ≤ length cells / 2
+    go (accepted x) e =
+        let by = accepted-by readRules (λ i. headerOf (i .bytes)) i x refl e in
+        pick (ltb (length header) 40) (rooms-parts b (length cells / 2) (length points / 8) (by .1 .1 .1 .1 .1 .1 .1 .1 .1 .0) .0)
+    go (refused k) e = omega arith
+
+pub read-small : (o : Outcome ℕ) (b header cells points : List ℕ) → o ≡ hostReadOutcome b header cells points → length cells < 18446744073709551616 →
+    countOf o < 9223372036854775808
+read-small o b header cells points e h = omega (arith, ap countOf e, read-within b header cells points)

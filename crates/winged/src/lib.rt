@@ -5,6 +5,7 @@ ghost use Prim.Native.Nat.{_/_};
 ghost use lib.ListN.{length};
 ghost use Rattle.hosting.specs.Lists.{hostListOutcome, hostListBuffer};
 ghost use Rattle.hosting.specs.Moves.{moveTold, hostMoveOutcome, hostMoveBuffer};
+ghost use Rattle.hosting.specs.Reads.{hostReadOutcome, hostReadHeader, hostReadCells, hostReadPoints};
 ghost use Rattle.marking.specs.Key.{textOutcome, textBuffer};
 use crate::faces::faces_bytes;
 use crate::host::sweep_bytes;
@@ -12,6 +13,7 @@ use crate::host::wing_bytes;
 use crate::sending::answered;
 use hosting::listing::list_bytes;
 use hosting::moving::move_bytes;
+use hosting::reading::read_bytes;
 use hosting::step_bits::StepBits;
 use marking::key::key_text;
 
@@ -60,6 +62,21 @@ pub extern "C" fn winged_faces(d: u32, v: u32, s: u32, table: &[u8], faces: &mut
 {
     let mut words = [0u16; 69632];
     faces_bytes(d as usize, v as usize, s as usize, table, &mut words, faces)
+}
+
+#[no_mangle]
+pub extern "C" fn winged_read(
+    file: &[u8],
+    header: &mut [u8],
+    cells: &mut [u8],
+    points: &mut [u8],
+) -> i64
+    ensures answer { λ r. ⌜ r ≡ hostAnswer (hostReadOutcome (now (file .entry)) (now (header .entry)) (now (cells .entry)) (now (points .entry))) ⌝ }
+    ensures header { λ _. ⌜ now (header .exit) ≡ hostReadHeader (now (file .entry)) (now (header .entry)) (now (cells .entry)) (now (points .entry)) ⌝ }
+    ensures cells { λ _. ⌜ now (cells .exit) ≡ hostReadCells (now (file .entry)) (now (header .entry)) (now (cells .entry)) (now (points .entry)) ⌝ }
+    ensures points { λ _. ⌜ now (points .exit) ≡ hostReadPoints (now (file .entry)) (now (header .entry)) (now (cells .entry)) (now (points .entry)) ⌝ }
+{
+    answered(read_bytes(file, header, cells, points))
 }
 
 #[no_mangle]
