@@ -132,12 +132,32 @@ def in_own_function(edit):
     return place.parent.name not in cited and ".Tie as " in (crate / place).read_text()
 
 
+def in_own_statement(edit):
+    """Whether the edit is all in a statement whose only fact is the one that it must refuse."""
+    if edit.of_code() or not edit.fact or len(edit.pairs) != 1:
+        return False
+    crate, (file, old, _) = ROOT / "crates" / edit.crate, edit.pairs[0]
+    if not (crate / edit.place).is_file():
+        return False
+    text, proofs = (crate / file).read_text(), (crate / edit.place).read_text()
+    statement = re.findall(r"^abbrev pub ([\w-]+) : Type 0$", text[:text.find(old)], re.MULTILINE)[-1:]
+    declared = re.findall(r"^(?:abbrev |unfoldable )?(?:pub )?([\w-]+) :", text[:text.find(old)], re.MULTILINE)[-1:]
+    return statement == declared != [] and re.findall(rf"^(?:pub )?([\w-]+) : {statement[0]}$", proofs, re.MULTILINE) == [edit.fact]
+
+
+def together(edit, other):
+    """Whether two edits can be tried at once: what each must bring about has nothing to do with the other."""
+    if in_own_function(edit) and in_own_function(other):
+        return edit.place != other.place
+    return in_own_statement(edit) and in_own_statement(other) and edit.fact != other.fact
+
+
 def batches(edits):
     """The edits, those together that can be tried at once."""
     found = []
     for edit in edits:
-        for batch in found if in_own_function(edit) else []:
-            if all(in_own_function(e) and e.place != edit.place for e in batch):
+        for batch in found:
+            if all(together(edit, e) for e in batch):
                 batch.append(edit)
                 break
         else:

@@ -34,7 +34,7 @@ def stands_alone(edit):
     crate = ROOT / "crates" / edit.crate
     if edit.of_code() or edit.refuted or edit.worthless or not (crate / (edit.place or "?")).is_file() or not (crate / "src" / "lib.rt").is_file():
         return False
-    definitions = "".join(p.read_text() for p in (crate / "specs").glob("*.antt"))
+    definitions = "".join(p.read_text() for p in (crate / "specs").rglob("*.antt"))
     return "·specs.specs.declared." not in definitions and f"Rattle.{edit.crate}.proofs." not in (crate / edit.place).read_text()
 
 

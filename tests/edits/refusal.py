@@ -50,7 +50,7 @@ def refused(log, crate):
 
 
 def is_example(text, name):
-    """Whether a file's declaration is an equation without variables, proved by computing, or a record of such.
+    """Whether a file's declaration is an equation without variables, proved by computing, or several, or a record of such.
 
     An instance of a law counts too: what the law, as r, says at given values. A record may cite other declarations.
     """
@@ -60,4 +60,5 @@ def is_example(text, name):
     proof = " ".join(body["proof"].split())
     if body["given"]:
         return re.fullmatch(r"r( \.[\w-]+)+( [^λ]*)?", proof) is not None
-    return re.fullmatch(r"refl|record \{( [\w-]+ = ([\w-]+|\([\w-]+(, [\w-]+)*\));?)+ \}", proof) is not None
+    several = r"\([\w-]+(, [\w-]+)*\)"
+    return re.fullmatch(rf"refl|{several}|record \{{( [\w-]+ = ([\w-]+|{several});?)+ \}}", proof) is not None

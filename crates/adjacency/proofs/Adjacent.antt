@@ -9,7 +9,7 @@ use native.Mathlib.Nat.{add-zero, mul-le-mul}
 use lib.ListN.{length, getD, take}
 use lib.Dec.{leb}
 use lib.Seq.{length-take-le}
-use Rattle.words.specs.Records.{part, tabulate}
+use Rattle.words.specs.Records.{part, tabulate, anyBelow}
 use Rattle.words.proofs.Records.{tabulate-at, tabulate-length}
 use Rattle.simplex.specs.Cell.{Cell, Row, Sign, alternating, cell, times}
 use Rattle.simplex.specs.Chain.{total}
@@ -21,8 +21,8 @@ use Rattle.complex.specs.Accept.{cellTwice, crowdedFace, equalSigns}
 use Rattle.adjacency.specs.Held.{Blank, Winged, cellHeld, falls, heldCells}
 use Rattle.matching.specs.Matching.{earlier}
 use Rattle.adjacency.specs.Pairing.{faceCount, keySign, paired, twinAt}
-use Rattle.adjacency.specs.Scan.{anyBelow, seenAt, seenLike, seenTwice}
-use Rattle.adjacency.proofs.Below.{below-ext, below-not}
+use Rattle.adjacency.specs.Scan.{seenAt, seenLike, seenTwice}
+use Rattle.words.proofs.Below.{below-ext, below-not}
 use Rattle.complex.proofs.Codec.{part-length}
 use Rattle.adjacency.proofs.FaceKeys.{Holds, earlier-prev, facet-cell, facets-length, key-cell, key-face}
 use Rattle.matching.proofs.KeptRows.{cell-at}
@@ -62,7 +62,8 @@ module _ (d s : ℕ) (rows : List ℕ) (signs : List Sign) (hd : d ≤ 7) (hs : 
 
   pub held-falls : (p : ℕ) → falls d rows p ≡ fallsIn d (take (suc d) (part 8 p rows))
   held-falls p =
-      below-ext d (λ j. leb (getD rows (p * 8 + j + 1) 0) (getD rows (p * 8 + j) 0)) (λ j. leb (getD (take (suc d) (part 8 p rows)) (suc j) 0) (getD (take (suc d) (part 8 p rows)) j 0))
+      below-ext d (λ j. leb (getD rows (p * 8 + j + 1) 0) (getD rows (p * 8 + j) 0))
+      (λ j. leb (getD (take (suc d) (part 8 p rows)) (suc j) 0) (getD (take (suc d) (part 8 p rows)) j 0))
       (λ j l. ap₂ leb (ap (λ i. getD rows i 0) (next j) ∙ held-vertex p (suc j) (omega arith)) (held-vertex p j (omega arith)))
     where
       next : (j : ℕ) → p * 8 + j + 1 ≡ p * 8 + suc j
@@ -70,7 +71,8 @@ module _ (d s : ℕ) (rows : List ℕ) (signs : List Sign) (hd : d ≤ 7) (hs : 
 
   -- where no row falls, all ascend
   pub held-ascend : anyBelow s (falls d rows) ≡ false → All Asc (heldCells d s rows signs)
-  held-ascend e = all-tabulated Asc s (λ p. cellHeld d rows signs p) (λ p h. falls-not d (take (suc d) (part 8 p rows)) (row-long p h) (sym (held-falls p) ∙ below-not (falls d rows) s e p h))
+  held-ascend e = all-tabulated Asc s (λ p. cellHeld d rows signs p)
+      (λ p h. falls-not d (take (suc d) (part 8 p rows)) (row-long p h) (sym (held-falls p) ∙ below-not (falls d rows) s e p h))
 
   small : s * suc d ≤ 32768
   small = omega (arith, mul-le-mul hs (suc-le hd))
@@ -89,14 +91,16 @@ module _ (d s : ℕ) (rows : List ℕ) (signs : List Sign) (hd : d ≤ 7) (hs : 
       cellTwice (heldCells d s rows signs) ≡ anyBelow s (seenAt s P)
   cells-twice P k e h =
       twice-seen cs P (omega (arith, held-length))
-      (λ g l. h g (subst (λ n. g < n) held-length l) ∙ ap (λ k. earlier rows k 1 k g) e ∙ earlier-prev rows (suc d) 1 (suc d) cs (key-cell d rows cs held-long held-holds) g l)
+      (λ g l. h g (subst (λ n. g < n) held-length l) ∙ ap (λ k. earlier rows k 1 k g) e
+      ∙ earlier-prev rows (suc d) 1 (suc d) cs (key-cell d rows cs held-long held-holds) g l)
       ∙ ap (λ n. anyBelow n (seenAt n P)) held-length
 
   -- rows 10 and 11, and the wings
   module _ (P : List ℕ) (k : ℕ) (e : k ≡ suc d) (h : (g : ℕ) → g < faceCount d s → getD P g 0 ≡ earlier rows k k 0 g) where
     seen : Prev (facets (heldCells d s rows signs)) P
     seen g l =
-        h g (subst (λ n. g < n) count l) ∙ ap (λ k. earlier rows k k 0 g) e ∙ earlier-prev rows (suc d) (suc d) 0 (facets cs) (key-face d rows cs held-long held-holds) g l
+        h g (subst (λ n. g < n) count l) ∙ ap (λ k. earlier rows k k 0 g) e
+        ∙ earlier-prev rows (suc d) (suc d) 0 (facets cs) (key-face d rows cs held-long held-holds) g l
 
     pub faces-crowded : crowdedFace (facets (heldCells d s rows signs)) ≡ anyBelow (faceCount d s) (seenTwice (faceCount d s) P)
     faces-crowded = crowded-seen (facets cs) P few seen ∙ ap (λ n. anyBelow n (seenTwice n P)) count
@@ -105,10 +109,12 @@ module _ (d s : ℕ) (rows : List ℕ) (signs : List Sign) (hd : d ≤ 7) (hs : 
       meet : (w : Row) → total w (facets (heldCells d s rows signs)) ≤ 2
       meet = few-of 2 (facets cs) met
 
-      signs-of : (g : ℕ) → g < length (facets (heldCells d s rows signs)) → keySign (suc d) signs g ≡ cellAt (facets (heldCells d s rows signs)) g .sign
+      signs-of : (g : ℕ) → g < length (facets (heldCells d s rows signs)) →
+          keySign (suc d) signs g ≡ cellAt (facets (heldCells d s rows signs)) g .sign
       signs-of g l =
           let r = facet-cell d cs held-long g l in
-          sym (ap (λ (c : Cell). c .sign) (r .1) ∙ ap (λ (c : Cell). times (alternating (g % suc d)) (c .sign)) (held-at (g / suc d) (subst (λ n. g / suc d < n) held-length (r .0))))
+          sym (ap (λ (c : Cell). c .sign) (r .1)
+          ∙ ap (λ (c : Cell). times (alternating (g % suc d)) (c .sign)) (held-at (g / suc d) (subst (λ n. g / suc d < n) held-length (r .0))))
 
       pub faces-equal : equalSigns (facets (heldCells d s rows signs)) ≡ anyBelow (faceCount d s) (seenLike (faceCount d s) P (keySign k signs))
       faces-equal =
@@ -132,11 +138,13 @@ module _ (d s : ℕ) (rows : List ℕ) (signs : List Sign) (hd : d ≤ 7) (hs : 
           twins zero ne long = absurd (ne refl)
           twins (suc c) ne long = twins-seen c rows cs P long heads few seen meet ∙ ap (λ n. anyBelow n (twinAt (suc (suc c)) n rows P)) count
 
-      pub faces-paired : (W : List ℕ) → anyBelow s (falls d rows) ≡ false → Blank W → Winged d (heldCells d s rows signs) (paired k (faceCount d s) P (faceCount d s) W)
+      pub faces-paired : (W : List ℕ) → anyBelow s (falls d rows) ≡ false → Blank W →
+          Winged d (heldCells d s rows signs) (paired k (faceCount d s) P (faceCount d s) W)
       faces-paired W up blank =
           subst (λ k. Winged d cs (paired k (faceCount d s) P (faceCount d s) W)) (sym e)
           (subst (λ n. Winged d cs (paired (suc d) n P n W)) (ap (faceCount d) held-length)
-          (paired-winged d cs P W held-long (held-ascend up) (omega (arith, held-length)) (subst (λ n. n * suc d ≤ 32768) (sym held-length) small) seen meet blank))
+          (paired-winged d cs P W held-long (held-ascend up) (omega (arith, held-length))
+          (subst (λ n. n * suc d ≤ 32768) (sym held-length) small) seen meet blank))
 
 pub face-count : (d s : ℕ) → (d ≡ 0 → ⊥) → faceCount d s ≡ s * (d + 1)
 face-count zero s h = absurd (h refl)

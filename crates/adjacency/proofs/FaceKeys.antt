@@ -29,7 +29,14 @@ Holds d rows cs = (p : ℕ) → p < length cs → take (suc d) (part 8 p rows) �
 pub allFaces-length : (n : ℕ) (cs : List Cell) → All (Long n) cs → length (allFaces cs) ≡ length cs * n
 allFaces-length n [] long = sym (zero-mul n)
 allFaces-length n (c ∷ cs) long =
-    omega (arith, length-append (faces (c .sign) (c .row)) (allFaces cs), faces-length (c .sign) (c .row), long .0, allFaces-length n cs (long .1), suc-mul (length cs) n)
+    omega (
+      arith,
+      length-append (faces (c .sign) (c .row)) (allFaces cs),
+      faces-length (c .sign) (c .row),
+      long .0,
+      allFaces-length n cs (long .1),
+      suc-mul (length cs) n,
+    )
 
 -- face a of cell p
 face-cell : (n : ℕ) (cs : List Cell) → All (Long n) cs → (p a : ℕ) → p < length cs → a < n → cellAt (allFaces cs) (p * n + a) ≡ face a (cellAt cs p)

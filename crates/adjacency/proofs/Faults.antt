@@ -7,17 +7,19 @@ use Prim.Native.Nat.{ℕ, _+_, _*_, _≤_, _<_}
 use native.Mathlib.Omega.{arith}
 use native.Mathlib.Numerals.{add-one}
 use lib.ListN.{length, getD}
+use Rattle.words.specs.Records.{anyBelow}
 use Rattle.simplex.specs.Cell.{Sign}
 use Rattle.simplex.specs.Faces.{facets}
 use Rattle.complex.specs.Accept.{cellTwice, crowdedFace, equalSigns}
 use Rattle.adjacency.specs.Held.{Blank, Winged, falls, faults, heldCells}
 use Rattle.matching.specs.Matching.{earlier}
 use Rattle.adjacency.specs.Pairing.{faceCount, keySign, paired, twinAt}
-use Rattle.adjacency.specs.Scan.{anyBelow, seenAt, seenLike, seenTwice}
+use Rattle.adjacency.specs.Scan.{seenAt, seenLike, seenTwice}
 use Rattle.adjacency.proofs.Adjacent.{cells-twice, faces-crowded, faces-equal, faces-paired, faces-twins}
 
 module _ (d s : ℕ) (rows : List ℕ) (signs : List Sign) (hd : d ≤ 7) (hs : s ≤ 4096) (wide : length rows ≡ 32768) where
-  pub twice-is : (P : List ℕ) → ((g : ℕ) → g < s * 1 → getD P g 0 ≡ earlier rows (d + 1) 1 (d + 1) g) → cellTwice (heldCells d s rows signs) ≡ anyBelow s (seenAt s P)
+  pub twice-is : (P : List ℕ) → ((g : ℕ) → g < s * 1 → getD P g 0 ≡ earlier rows (d + 1) 1 (d + 1) g) →
+      cellTwice (heldCells d s rows signs) ≡ anyBelow s (seenAt s P)
   twice-is P cells = cells-twice d s rows signs hd hs wide P (d + 1) (add-one d) (λ g l. cells g (omega arith))
 
   pub found-9 : cellTwice (heldCells d s rows signs) ≡ true → 9 ≡ faults (heldCells d s rows signs)
@@ -55,7 +57,8 @@ module _ (d s : ℕ) (rows : List ℕ) (signs : List Sign) (hd : d ≤ 7) (hs : 
         unfolding faults
         found-none e = rw (once, crowded ∙ met, equal ∙ e) refl
 
-      pub found-wings : (W X : List ℕ) → anyBelow s (falls d rows) ≡ false → Blank W → X ≡ paired (d + 1) n Q n W → Winged d (heldCells d s rows signs) X
+      pub found-wings : (W X : List ℕ) → anyBelow s (falls d rows) ≡ false →
+          Blank W → X ≡ paired (d + 1) n Q n W → Winged d (heldCells d s rows signs) X
       found-wings W X up blank e =
           subst (Winged d (heldCells d s rows signs)) (sym (e ∙ ap (λ n. paired (d + 1) n Q n W) count))
           (faces-paired d s rows signs hd hs wide Q (d + 1) (add-one d) some (crowded ∙ met) W up blank)

@@ -18,7 +18,7 @@ use Rattle.words.proofs.Records.{EachLong, part-concat, tabulate-at, tabulate-e
 use Rattle.simplex.specs.Cell.{Sign, sameRow}
 use Rattle.adjacency.specs.Held.{heldWords, recordHeld, run}
 use Rattle.simplex.specs.SignWords.{signWord}
-use Rattle.complex.specs.Layout.{recordSize, tableLength}
+use Rattle.records.specs.Layout.{recordSize, tableLength}
 use Rattle.complex.proofs.Codec.{part-length}
 use Rattle.matching.proofs.KeptRows.{same-false}
 use Rattle.adjacency.proofs.Repeats.{same-rows}
@@ -52,14 +52,16 @@ module _ (n from to j : ℕ) (words buf old new : List ℕ) (room : to + n ≤ l
 
   pub run-no-more : n ≤ j → new ≡ old → new ≡ placed to (take (j + 1) (run n from words)) buf
   run-no-more l k =
-      k ∙ e ∙ ap (λ (t : List ℕ). placed to t buf) (take-all j (run n from words) (omega (arith, many)) ∙ sym (take-all (j + 1) (run n from words) (omega (arith, many))))
+      k ∙ e ∙ ap (λ (t : List ℕ). placed to t buf) (take-all j (run n from words) (omega (arith, many))
+      ∙ sym (take-all (j + 1) (run n from words) (omega (arith, many))))
 
 -- two runs compared
 module _ (n from to : ℕ) (xs ys : List ℕ) where
   pub run-other : (j : ℕ) → j < n → (getD ys (to + j) 0 ≡ getD xs (from + j) 0 → ⊥) → sameRow (run n to ys) (run n from xs) ≡ false
   run-other j l h =
       same-false (run n to ys) (run n from xs)
-      (λ e. h (sym (tabulate-at n (λ i. getD ys (to + i) 0) j 0 l) ∙ ap (λ (t : List ℕ). getD t j 0) e ∙ tabulate-at n (λ i. getD xs (from + i) 0) j 0 l))
+      (λ e. h (sym (tabulate-at n (λ i. getD ys (to + i) 0) j 0 l)
+      ∙ ap (λ (t : List ℕ). getD t j 0) e ∙ tabulate-at n (λ i. getD xs (from + i) 0) j 0 l))
 
   pub run-same : ((j : ℕ) → j < n → getD ys (to + j) 0 ≡ getD xs (from + j) 0) → sameRow (run n to ys) (run n from xs) ≡ true
   run-same h = same-rows (run n to ys) (run n from xs) (tabulate-ext n (λ i. getD ys (to + i) 0) (λ i. getD xs (from + i) 0) h)
@@ -70,7 +72,8 @@ tabulate-split zero n f =
     ap (λ i. tabulate i f) {x = 0 + n} {y = n} (omega arith) ∙ tabulate-ext n f (λ j. f (0 + j)) (λ j l. ap f {x = j} {y = 0 + j} (omega arith))
 tabulate-split (suc m) n f =
     ap (λ i. tabulate i f) {x = suc m + n} {y = suc (m + n)} (omega arith)
-    ∙ ap {B = List ℕ} (λ r. f 0 ∷ r) (tabulate-split m n (λ j. f (suc j)) ∙ ap (λ r. tabulate m (λ j. f (suc j)) ++ r) (tabulate-ext n (λ j. f (suc (m + j))) (λ j. f (suc m + j)) (λ j l. ap f {x = suc (m + j)} {y = suc m + j} (omega arith))))
+    ∙ ap {B = List ℕ} (λ r. f 0 ∷ r) (tabulate-split m n (λ j. f (suc j)) ∙ ap (λ r. tabulate m (λ j. f (suc j)) ++ r)
+    (tabulate-ext n (λ j. f (suc (m + j))) (λ j. f (suc m + j)) (λ j l. ap f {x = suc (m + j)} {y = suc m + j} (omega arith))))
 
 -- the parts of a record of the table
 run-record : (d at : ℕ) (ws : List ℕ) → run (recordSize d) at ws ≡ getD ws at 0 ∷ (run (d + 1) (at + 1) ws ++ run (d + 1) (at + 1 + (d + 1)) ws)
@@ -79,8 +82,10 @@ run-record d at ws =
     ∙ ap₂ {C = List ℕ} (λ x r. x ∷ r) (ap (λ i. getD ws i 0) (add-zero at))
     (tabulate-split (d + 1) (d + 1) (λ j. getD ws (at + suc j) 0)
     ∙ ap₂ {C = List ℕ} (λ a b. a ++ b)
-    (tabulate-ext (d + 1) (λ j. getD ws (at + suc j) 0) (λ j. getD ws (at + 1 + j) 0) (λ j l. ap (λ i. getD ws i 0) {x = at + suc j} {y = at + 1 + j} (omega arith)))
-    (tabulate-ext (d + 1) (λ j. getD ws (at + suc (d + 1 + j)) 0) (λ j. getD ws (at + 1 + (d + 1) + j) 0) (λ j l. ap (λ i. getD ws i 0) {x = at + suc (d + 1 + j)} {y = at + 1 + (d + 1) + j} (omega arith))))
+    (tabulate-ext (d + 1) (λ j. getD ws (at + suc j) 0) (λ j. getD ws (at + 1 + j) 0)
+    (λ j l. ap (λ i. getD ws i 0) {x = at + suc j} {y = at + 1 + j} (omega arith)))
+    (tabulate-ext (d + 1) (λ j. getD ws (at + suc (d + 1 + j)) 0) (λ j. getD ws (at + 1 + (d + 1) + j) 0)
+    (λ j l. ap (λ i. getD ws i 0) {x = at + suc (d + 1 + j)} {y = at + 1 + (d + 1) + j} (omega arith))))
 
 and-assoc : (a b c : Bool) → (a && (b && c)) ≡ ((a && b) && c)
 and-assoc true b c = refl
@@ -103,7 +108,12 @@ module _ (d : ℕ) (rows : List ℕ) (signs : List Sign) (wings : List ℕ) (p :
   pub record-long : length (recordHeld d rows signs wings p) ≡ recordSize d
   unfolding recordHeld
   record-long =
-      omega (arith, length-append vertices neighbours, tabulate-length (d + 1) (λ j. getD rows (p * 8 + j) 0), tabulate-length (d + 1) (λ j. getD wings (p * (d + 1) + j) 0))
+      omega (
+        arith,
+        length-append vertices neighbours,
+        tabulate-length (d + 1) (λ j. getD rows (p * 8 + j) 0),
+        tabulate-length (d + 1) (λ j. getD wings (p * (d + 1) + j) 0),
+      )
 
   -- a record written in its three parts
   module _ (at x : ℕ) (buf one : List ℕ) (room : at + recordSize d ≤ length buf) (ex : x ≡ signWord (getD signs p false))
@@ -125,13 +135,15 @@ module _ (d : ℕ) (rows : List ℕ) (signs : List Sign) (wings : List ℕ) (p :
     pub record-placed : (two : List ℕ) → two ≡ placed (at + 1 + (d + 1)) neighbours one → two ≡ placed at (recordHeld d rows signs wings p) buf
     unfolding recordHeld
     record-placed two e2 =
-        e2 ∙ ap₂ {C = List ℕ} (λ n l. placed n neighbours l) {x = at + 1 + (d + 1)} {y = at + length (x ∷ vertices)} (omega (arith, head-long)) first-two
+        e2 ∙ ap₂ {C = List ℕ} (λ n l. placed n neighbours l) {x = at + 1 + (d + 1)}
+        {y = at + length (x ∷ vertices)} (omega (arith, head-long)) first-two
         ∙ placed-then at (x ∷ vertices) neighbours buf (omega (arith, head-long))
         ∙ ap (λ n. placed at (n ∷ (vertices ++ neighbours)) buf) ex
 
   -- a record compared in its three parts
   pub record-same : (at : ℕ) (ws : List ℕ) → sameRow (run (recordSize d) at ws) (recordHeld d rows signs wings p)
-      ≡ (eqb (getD ws at 0) (signWord (getD signs p false)) && (sameRow (run (d + 1) (at + 1) ws) vertices && sameRow (run (d + 1) (at + 1 + (d + 1)) ws) neighbours))
+      ≡ (eqb (getD ws at 0) (signWord (getD signs p false))
+      && (sameRow (run (d + 1) (at + 1) ws) vertices && sameRow (run (d + 1) (at + 1 + (d + 1)) ws) neighbours))
   unfolding recordHeld
   record-same at ws =
       ap (λ (t : List ℕ). sameRow t (signWord (getD signs p false) ∷ (vertices ++ neighbours))) (run-record d at ws)
@@ -165,7 +177,8 @@ module _ (d : ℕ) (rows : List ℕ) (signs : List Sign) (wings : List ℕ) (s :
   records-length = concat-tabulate-length (recordSize d) s records (λ p l. record-long d rows signs wings p)
 
   module _ (ws : List ℕ) (long : length ws ≡ tableLength d s) where
-    pub table-same : ((p : ℕ) → p < s → run (recordSize d) (p * recordSize d) ws ≡ recordHeld d rows signs wings p) → sameRow ws (heldWords d s rows signs wings) ≡ true
+    pub table-same : ((p : ℕ) → p < s → run (recordSize d) (p * recordSize d) ws ≡ recordHeld d rows signs wings p) →
+        sameRow ws (heldWords d s rows signs wings) ≡ true
     unfolding heldWords
     table-same h =
         let n : ℕ = recordSize d in
@@ -174,7 +187,8 @@ module _ (d : ℕ) (rows : List ℕ) (signs : List Sign) (wings : List ℕ) (s :
         ∙ ap concat (tabulate-ext s (λ p. take n (part n p ws)) records
         (λ p l. take-take n n (drop (p * n) ws) (omega arith) ∙ part-run n p s ws l (omega arith) ∙ h p l)))
 
-    pub table-other : (p : ℕ) → p < s → sameRow (run (recordSize d) (p * recordSize d) ws) (recordHeld d rows signs wings p) ≡ false → sameRow ws (heldWords d s rows signs wings) ≡ false
+    pub table-other : (p : ℕ) → p < s → sameRow (run (recordSize d) (p * recordSize d) ws) (recordHeld d rows signs wings p) ≡ false →
+        sameRow ws (heldWords d s rows signs wings) ≡ false
     unfolding heldWords
     table-other p l k =
         let n : ℕ = recordSize d in

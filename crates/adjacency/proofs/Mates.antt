@@ -23,7 +23,8 @@ pub paired-length : (k n : ℕ) (P : List ℕ) (m : ℕ) (W : List ℕ) → leng
 paired-length k n P zero W = refl
 paired-length k n P (suc g) W = go (seenAt n P g) (paired-length k n P g W)
   where
-    go : (t : Bool) → length (paired k n P g W) ≡ length W → length (cond t (set (set (paired k n P g W) g (getD P g 0 / k)) (getD P g 0) (g / k)) (paired k n P g W)) ≡ length W
+    go : (t : Bool) → length (paired k n P g W) ≡ length W →
+        length (cond t (set (set (paired k n P g W) g (getD P g 0 / k)) (getD P g 0) (g / k)) (paired k n P g W)) ≡ length W
     go true e = length-set (set (paired k n P g W) g (getD P g 0 / k)) (getD P g 0) (g / k) ∙ length-set (paired k n P g W) g (getD P g 0 / k) ∙ e
     go false e = e
 
@@ -37,7 +38,8 @@ two-second W f g x y h = getD-set-same (set W g x) f y 0 (rw (length-set W g x) 
 two-other : (W : List ℕ) (f g j x y : ℕ) → (j ≡ f → ⊥) → (j ≡ g → ⊥) → getD (set (set W g x) f y) j 0 ≡ getD W j 0
 two-other W f g j x y a b = getD-set-other (set W g x) f j y 0 a ∙ getD-set-other W g j x 0 b
 
-module _ (L : List Cell) (P : List ℕ) (small : length L ≤ 32768) (prev : Prev L P) (meet : (w : Row) → total w L ≤ 2) (k : ℕ) (W : List ℕ) (room : length L ≤ length W) where
+module _ (L : List Cell) (P : List ℕ) (small : length L ≤ 32768) (prev : Prev L P)
+    (meet : (w : Row) → total w L ≤ 2) (k : ℕ) (W : List ℕ) (room : length L ≤ length W) where
   abbrev after : ℕ → List ℕ
   after m = paired k (length L) P m W
 
@@ -90,9 +92,11 @@ module _ (L : List Cell) (P : List ℕ) (small : length L ≤ 32768) (prev : Pre
         go (yes z) s =
             let hj : j < m = omega (arith, r .0, r .2, z) in
             let same : getD P m 0 ≡ j = only-seen j m hj hm (r .3 ∙ ap (rowAt L) z) in
-            ap (λ i. getD next i 0) z ∙ two-first (after m) (getD P m 0) m (getD P m 0 / k) (m / k) (in-room m m hm) (λ y. omega (arith, is .0, y)) ∙ ap (λ i. i / k) same
+            ap (λ i. getD next i 0) z ∙ two-first (after m) (getD P m 0) m (getD P m 0 / k) (m / k) (in-room m m hm) (λ y. omega (arith, is .0, y))
+            ∙ ap (λ i. i / k) same
         go (no z) (yes s) =
-            ap (λ i. getD next i 0) s ∙ two-second (after m) (getD P m 0) m (getD P m 0 / k) (m / k) (in-room m (getD P m 0) (omega (arith, is .0))) ∙ ap (λ i. i / k) (sym (third s))
+            ap (λ i. getD next i 0) s ∙ two-second (after m) (getD P m 0) m (getD P m 0 / k) (m / k) (in-room m (getD P m 0) (omega (arith, is .0)))
+            ∙ ap (λ i. i / k) (sym (third s))
         go (no z) (no s) = two-other (after m) (getD P m 0) m g (getD P m 0 / k) (m / k) s z ∙ kept j g (old z s)
 
     alone-more : (g : ℕ) → g < length L → ((j : ℕ) → Mate L (suc m) j g → ⊥) → getD next g 0 ≡ getD W g 0
@@ -125,7 +129,8 @@ module _ (L : List Cell) (P : List ℕ) (small : length L ≤ 32768) (prev : Pre
     where
       go : (t : Bool) → seenAt (length L) P m ≡ t → Kept m × Alone m →
           ((j g : ℕ) → Mate L (suc m) j g → getD (cond t (set (set (after m) m (getD P m 0 / k)) (getD P m 0) (m / k)) (after m)) g 0 ≡ j / k)
-          × ((g : ℕ) → g < length L → ((j : ℕ) → Mate L (suc m) j g → ⊥) → getD (cond t (set (set (after m) m (getD P m 0 / k)) (getD P m 0) (m / k)) (after m)) g 0 ≡ getD W g 0)
+          × ((g : ℕ) → g < length L → ((j : ℕ) → Mate L (suc m) j g → ⊥) →
+          getD (cond t (set (set (after m) m (getD P m 0 / k)) (getD P m 0) (m / k)) (after m)) g 0 ≡ getD W g 0)
       go true e r = (kept-more m h e (r .0) (r .1), alone-more m h e (r .0) (r .1))
       go false e r = (kept-same m h e (r .0), (λ g l none. r .1 g l (λ j s. none j (omega (arith, s .0), omega (arith, s .1), s .2, s .3))))
 

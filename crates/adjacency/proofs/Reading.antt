@@ -27,7 +27,8 @@ module _ (n at : ℕ) (ws : List ℕ) (j : ℕ) (row new : List ℕ) (read : Rea
       go i (yes k) l m = getD-set-other row j i (getD ws (at + j) 0) 0 (λ e. omega arith) ∙ read .1 i k m
       go i (no k) l m =
           let same : j ≡ i = omega arith in
-          ap (λ m. getD (set row j (getD ws (at + j) 0)) m 0) (sym same) ∙ getD-set-same row j (getD ws (at + j) 0) 0 (omega (arith, read .0)) ∙ ap (λ m. getD ws (at + m) 0) same
+          ap (λ m. getD (set row j (getD ws (at + j) 0)) m 0) (sym same)
+          ∙ getD-set-same row j (getD ws (at + j) 0) 0 (omega (arith, read .0)) ∙ ap (λ m. getD ws (at + m) 0) same
 
   pub read-no-more : n ≤ j → new ≡ row → Read n at ws (j + 1) new
   read-no-more h e = (
@@ -62,7 +63,8 @@ module _ (n at : ℕ) (ws : List ℕ) (j : ℕ) (row : List ℕ) (read : Read n 
   place : (i : ℕ) → Dec (i < n) → i < 8 → getD row i 0 ≡ getD (rowOfEight vertices) i 0
   place i (yes m) k =
       read .1 i (omega arith) m
-      ∙ sym (List·getD-append vertices (replicate (8 - length vertices) 0) 0 i (omega (arith, long)) ∙ getD-take n (drop at ws) i 0 m ∙ getD-drop at ws i 0)
+      ∙ sym (List·getD-append vertices (replicate (8 - length vertices) 0) 0 i (omega (arith, long))
+      ∙ getD-take n (drop at ws) i 0 m ∙ getD-drop at ws i 0)
   place i (no m) k =
       let behind : i ≡ length vertices + (i - n) = omega (arith, long) in
       read .2 i (omega arith) k

@@ -9,7 +9,7 @@ use lib.Dec.{leb, ltb}
 use lib.ListN.{length, getD, take, drop, length-drop}
 use lib.Seq.{length-take-le, getD-take, getD-drop}
 use borrow.Author.Tests.{leb-true, leb-false, lt-ltb, le-ltb}
-use Rattle.words.specs.Records.{anyOf, part, tabulate}
+use Rattle.words.specs.Records.{anyOf, part, tabulate, anyBelow}
 use Rattle.words.proofs.Records.{EachLong, part-concat, tabulate-at, tabulate-ext, tabulate-length, tabulate-map}
 use Rattle.rules.specs.Calls.{firstRefusal}
 use Rattle.rules.specs.Limits.{within}
@@ -18,10 +18,9 @@ use Rattle.simplex.specs.Order.{ascending, sorted}
 use Rattle.simplex.proofs.Insert.{Each}
 use Rattle.complex.specs.Accept.{Listed, badSign, listedCells, repeats, solidOf, solidRules, vertexBeyond, vertexTwice}
 use Rattle.adjacency.specs.Held.{badAt, beyondAt, cellHeld, cellRead, falls, faults, heldCells, recordList}
-use Rattle.complex.specs.Layout.{cellOf, listSize}
-use Rattle.adjacency.specs.Scan.{anyBelow}
+use Rattle.records.specs.Layout.{cellOf, listSize}
 use Rattle.adjacency.proofs.Adjacent.{held-falls, held-vertex}
-use Rattle.adjacency.proofs.Below.{below-not, some-below, true-unless}
+use Rattle.words.proofs.Below.{below-not, some-below, true-unless}
 use Rattle.complex.proofs.Codec.{part-length}
 use Rattle.adjacency.proofs.SortedTests.{beyond-last, fallsIn, twice-falls}
 use Rattle.complex.proofs.Tests.{of-none, or-false}
@@ -29,14 +28,16 @@ use Rattle.complex.proofs.Tests.{of-none, or-false}
 any-at : {A : Type 0} (q : A → Bool) (n : ℕ) (f : ℕ → A) (p : ℕ) → p < n → q (f p) ≡ true → anyOf q (tabulate n f) ≡ false → ⊥
 any-at q zero f p h e k = not-suc-le-zero h
 any-at q (suc n) f zero h e k = true≢false (sym e ∙ or-false (q (f 0)) (anyOf q (tabulate n (λ i. f (suc i)))) k .0)
-any-at q (suc n) f (suc p) h e k = any-at q n (λ i. f (suc i)) p (le-of-suc-le-suc h) e (or-false (q (f 0)) (anyOf q (tabulate n (λ i. f (suc i)))) k .1)
+any-at q (suc n) f (suc p) h e k =
+    any-at q n (λ i. f (suc i)) p (le-of-suc-le-suc h) e (or-false (q (f 0)) (anyOf q (tabulate n (λ i. f (suc i)))) k .1)
 
 each-tabulated : {A : Type 0} (Q : A → Type 0) (n : ℕ) (f : ℕ → A) → ((p : ℕ) → p < n → Q (f p)) → Each Q (tabulate n f)
 each-tabulated Q zero f h = tt
 each-tabulated Q (suc n) f h = (h 0 (omega arith), each-tabulated Q n (λ i. f (suc i)) (λ p l. h (suc p) (omega arith)))
 
 -- a test of a tabulated list is one of the numbers below its length
-pub any-tabulate : {A : Type 0} (q : A → Bool) (r : ℕ → Bool) (n : ℕ) (f : ℕ → A) → ((p : ℕ) → p < n → q (f p) ≡ r p) → anyOf q (tabulate n f) ≡ anyBelow n r
+pub any-tabulate : {A : Type 0} (q : A → Bool) (r : ℕ → Bool) (n : ℕ) (f : ℕ → A) →
+    ((p : ℕ) → p < n → q (f p) ≡ r p) → anyOf q (tabulate n f) ≡ anyBelow n r
 any-tabulate q r n f h = go (anyBelow n r) refl
   where
     go : (t : Bool) → anyBelow n r ≡ t → anyOf q (tabulate n f) ≡ t
@@ -76,7 +77,8 @@ module _ (size d v s : ℕ) (ws : List ℕ) (hz : d + 2 ≤ size) (room : s * si
   sign-bad =
       any-tabulate (λ x. not (leb x 1)) (badAt size ws) s (λ p. getD (part (listSize d) p (list .words)) 0 0)
       (λ p h. not-leb (getD (part (listSize d) p (list .words)) 0 0)
-      ∙ ap (ltb 1) (ap (λ r. getD r 0 0) (record-is p h) ∙ getD-take (listSize d) (part size p ws) 0 0 (omega arith) ∙ getD-take size (drop (p * size) ws) 0 0 (omega arith)
+      ∙ ap (ltb 1) (ap (λ r. getD r 0 0) (record-is p h) ∙ getD-take (listSize d) (part size p ws) 0 0 (omega arith)
+      ∙ getD-take size (drop (p * size) ws) 0 0 (omega arith)
       ∙ getD-drop (p * size) ws 0 0 ∙ ap (λ i. getD ws i 0) (add-zero (p * size))))
 
   module _ (rows : List ℕ) (signs : List Sign) (hs : s ≤ 4096) (hd : d ≤ 7) (wide : length rows ≡ 32768)
@@ -98,7 +100,8 @@ module _ (size d v s : ℕ) (ws : List ℕ) (hz : d + 2 ≤ size) (room : s * si
     vertex-beyond =
         ap (vertexBeyond v) listed-is
         ∙ any-tabulate (λ c. anyOf (λ x. leb v x) (c .row)) (beyondAt d v rows) s (λ p. cellRead size d ws p)
-        (λ p h. beyond-last v d (cellRead size d ws p .row) (row-long p h) ∙ ap (leb v) (ap (λ r. getD r d 0) (sym (row-held p h)) ∙ sym (held-vertex d s rows signs hd hs wide p d (omega arith))))
+        (λ p h. beyond-last v d (cellRead size d ws p .row) (row-long p h)
+        ∙ ap (leb v) (ap (λ r. getD r d 0) (sym (row-held p h)) ∙ sym (held-vertex d s rows signs hd hs wide p d (omega arith))))
 
     falls-is : (p : ℕ) → p < s → falls d rows p ≡ fallsIn d (sorted (cellRead size d ws p .row))
     falls-is p h = held-falls d s rows signs hd hs wide p ∙ ap (fallsIn d) (row-held p h)

@@ -10,7 +10,7 @@ use native.Mathlib.Decide.{decLt}
 use lib.ListN.{length, getD}
 use lib.Dec.{ltb}
 use borrow.Author.Tests.{lt-ltb, ltb-true}
-use Rattle.words.specs.Records.{anyOf}
+use Rattle.words.specs.Records.{anyOf, anyBelow}
 use Rattle.rules.proofs.Tests.{and-parts}
 use Rattle.simplex.specs.Cell.{Cell, Row, Sign, sameRow, times}
 use Rattle.simplex.specs.Chain.{total}
@@ -18,8 +18,8 @@ use Rattle.simplex.proofs.Rows.{sameRow-refl, sameRow-true}
 use Rattle.simplex.proofs.Sums.{plusOn, sumChain}
 use Rattle.complex.specs.Accept.{crowdedFace, equalSigns}
 use Rattle.matching.specs.Matching.{lastBelow}
-use Rattle.adjacency.specs.Scan.{anyBelow, seenAt, seenLike, seenTwice}
-use Rattle.adjacency.proofs.Below.{below-false, some-below, true-unless}
+use Rattle.adjacency.specs.Scan.{seenAt, seenLike, seenTwice}
+use Rattle.words.proofs.Below.{below-false, some-below, true-unless}
 use Rattle.matching.proofs.Earlier.{last-bounds}
 use Rattle.matching.proofs.LastBelow.{last-is}
 use Rattle.complex.proofs.Solid.{rowAt}
@@ -68,7 +68,11 @@ module _ (L : List Cell) (P : List ℕ) (small : length L ≤ 32768) (prev : Pre
 
     three-rows : (f g h : ℕ) → f < g → g < h → h < length L → rowAt L f ≡ w → rowAt L g ≡ w → rowAt L h ≡ w → 3 ≤ total w L
     three-rows f g h l m n a b c =
-        omega (arith, total-counts w L, count-three (onRow w) L f g h l m n (same-rows (rowAt L f) w a) (same-rows (rowAt L g) w b) (same-rows (rowAt L h) w c))
+        omega (
+          arith,
+          total-counts w L,
+          count-three (onRow w) L f g h l m n (same-rows (rowAt L f) w a) (same-rows (rowAt L g) w b) (same-rows (rowAt L h) w c),
+        )
 
   is-row : (w : Row) (f : ℕ) → onRow w (cellAt L f) ≡ true → rowAt L f ≡ w
   is-row w f e = sameRow-true (rowAt L f) w e
@@ -85,7 +89,8 @@ module _ (L : List Cell) (P : List ℕ) (small : length L ≤ 32768) (prev : Pre
       once : anyBelow (length L) (seenAt (length L) P) ≡ false → (w : Row) → Dec (1 < total w L) → total w L ≤ 1
       once e w (yes l) =
           let r = spots (onRow w) L (omega (arith, total-counts w L)) in
-          absurd (below-false (seenAt (length L) P) (length L) e (r .1) (r .3) (is-seen (r .0) (r .1) (r .2) (r .3) (is-row w (r .0) (r .4) ∙ sym (is-row w (r .1) (r .5))) .0))
+          absurd (below-false (seenAt (length L) P) (length L) e (r .1) (r .3)
+          (is-seen (r .0) (r .1) (r .2) (r .3) (is-row w (r .0) (r .4) ∙ sym (is-row w (r .1) (r .5))) .0))
       once e w (no l) = omega arith
 
       go : (t : Bool) → anyBelow (length L) (seenAt (length L) P) ≡ t → anyOf (λ c. ltb 1 (total (c .row) L)) L ≡ t
@@ -159,10 +164,12 @@ module _ (L : List Cell) (P : List ℕ) (small : length L ≤ 32768) (prev : Pre
                 arith,
                 sum-counts s w L,
                 signs-once L e s w,
-                count-two (onSigned s w) L f g (k .0) (r .1) (and-both _ _ on-f (same-rows (rowAt L f) w (k .1))) (and-both _ _ on-g (same-rows w w refl)),
+                count-two (onSigned s w) L f g (k .0) (r .1) (and-both _ _ on-f (same-rows (rowAt L f) w (k .1)))
+                    (and-both _ _ on-g (same-rows w w refl)),
               )
 
-          once : anyBelow (length L) (seenLike (length L) P sg) ≡ false → (s : Sign) (w : Row) → Dec (1 < sumChain (plusOn w) s L) → sumChain (plusOn w) s L ≤ 1
+          once : anyBelow (length L) (seenLike (length L) P sg) ≡ false → (s : Sign) (w : Row) →
+              Dec (1 < sumChain (plusOn w) s L) → sumChain (plusOn w) s L ≤ 1
           once e s w (yes l) =
               let r = spots (onSigned s w) L (omega (arith, sum-counts s w L)) in
               let f = r .0 in
@@ -174,7 +181,8 @@ module _ (L : List Cell) (P : List ℕ) (small : length L ≤ 32768) (prev : Pre
               let sf : sg f ≡ s = signs f (omega (arith, r .2, r .3)) ∙ times-same (cellAt L f .sign) s (af .0) in
               let sgg : sg g ≡ s = signs g (r .3) ∙ times-same (cellAt L g .sign) s (ag .0) in
               absurd (below-false (seenLike (length L) P sg) (length L) e g (r .3)
-              (and-both (seenAt (length L) P g) (times (sg g) (sg (getD P g 0))) (is-seen f g (r .2) (r .3) rows .0) (rw (is, sf, sgg) (times-self s))))
+              (and-both (seenAt (length L) P g) (times (sg g) (sg (getD P g 0)))
+              (is-seen f g (r .2) (r .3) rows .0) (rw (is, sf, sgg) (times-self s))))
           once e s w (no l) = omega arith
 
           go : (t : Bool) → anyBelow (length L) (seenLike (length L) P sg) ≡ t → equalSigns L ≡ t

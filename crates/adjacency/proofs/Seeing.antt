@@ -8,10 +8,11 @@ use native.Mathlib.Numerals.{add-one}
 use lib.Dec.{eqb}
 use lib.ListN.{length, getD, set}
 use borrow.Author.Tests.{lt-ltb, le-ltb}
+use Rattle.words.specs.Records.{anyBelow}
 use Rattle.simplex.specs.Cell.{Sign, alternating, times}
 use Rattle.simplex.proofs.Signs.{not-not}
 use Rattle.adjacency.specs.Pairing.{Met, Pairing, keySign, paired, pairedAt, twinAt}
-use Rattle.adjacency.specs.Scan.{anyBelow, seenAt, seenLike, seenTwice}
+use Rattle.adjacency.specs.Scan.{seenAt, seenLike, seenTwice}
 use Rattle.adjacency.proofs.Mates.{paired-length}
 
 module _ (n : ℕ) (P : List ℕ) (g f : ℕ) (e : f ≡ getD P g 0) where
@@ -78,12 +79,14 @@ module _ (k n : ℕ) (rows : List ℕ) (signs : List Sign) (P : List ℕ) (g : �
         wings = m .wings ∙ ap (pairedAt k n P g) (h .wings) ∙ ap (λ i. paired k n P i W) (sym (add-one g));
         twice = m .twice ∙ ap (λ t. seenTwice n P g || t) (h .twice) ∙ ap (λ i. anyBelow i (seenTwice n P)) (sym (add-one g));
         twin = m .twin ∙ ap (λ t. twinAt k n rows P g || t) (h .twin) ∙ ap (λ i. anyBelow i (twinAt k n rows P)) (sym (add-one g));
-        like = m .like ∙ ap (λ t. seenLike n P (keySign k signs) g || t) (h .like) ∙ ap (λ i. anyBelow i (seenLike n P (keySign k signs))) (sym (add-one g));
+        like = m .like ∙ ap (λ t. seenLike n P (keySign k signs) g || t) (h .like)
+            ∙ ap (λ i. anyBelow i (seenLike n P (keySign k signs))) (sym (add-one g));
       }
 
   pub pairing-none : Pairing k n rows signs P 0 W W false false false
   pairing-none = record { wings = refl; twice = refl; twin = refl; like = refl }
 
 -- the words that are paired stay as many
-pub pairing-long : (k n : ℕ) (rows : List ℕ) (signs : List Sign) (P : List ℕ) (g : ℕ) (W X : List ℕ) (c r e : Bool) → Pairing k n rows signs P g W X c r e → length X ≡ length W
+pub pairing-long : (k n : ℕ) (rows : List ℕ) (signs : List Sign) (P : List ℕ) (g : ℕ) (W X : List ℕ) (c r e : Bool) →
+    Pairing k n rows signs P g W X c r e → length X ≡ length W
 pairing-long k n rows signs P g W X c r e h = ap length (h .wings) ∙ paired-length k n P g W

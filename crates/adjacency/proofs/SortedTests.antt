@@ -10,15 +10,14 @@ use lib.Dec.{eqb, leb}
 use lib.ListN.{length, getD}
 use lib.Seq.{take-all}
 use borrow.Author.Tests.{eqb-true, eq-eqb, le-leb, lt-leb, leb-true, leb-false}
-use Rattle.words.specs.Records.{anyOf}
+use Rattle.words.specs.Records.{anyOf, anyBelow}
 use Rattle.simplex.specs.Cell.{Row, one}
 use Rattle.simplex.specs.Order.{sorted}
 use Rattle.simplex.specs.Sort.{Asc, Up, occurs}
 use Rattle.simplex.proofs.Sorting.{sorted-ascends, sorted-length, sorted-occurs, sorted-up}
 use Rattle.simplex.proofs.Up.{up-reach}
 use Rattle.complex.specs.Accept.{repeats}
-use Rattle.adjacency.specs.Scan.{anyBelow}
-use Rattle.adjacency.proofs.Below.{below-false, none-below, true-unless}
+use Rattle.words.proofs.Below.{below-false, none-below, true-unless}
 use Rattle.complex.proofs.Tests.{asc-once, once-each, or-false}
 
 -- a test that fails at every vertex of a row fails at the row
@@ -90,7 +89,8 @@ pub falls-not : (d : ℕ) (u : Row) → length u ≡ suc d → fallsIn d u ≡ f
 falls-not d u e k = steps-asc d u e (step-below u d k)
 
 pub not-falls : (d : ℕ) (u : Row) → length u ≡ suc d → Asc u → fallsIn d u ≡ false
-not-falls d u e a = none-below (λ j. leb (getD u (suc j) 0) (getD u j 0)) d (λ j h. lt-leb (getD u (suc j) 0) (getD u j 0) (asc-steps u a j (omega arith)))
+not-falls d u e a =
+    none-below (λ j. leb (getD u (suc j) 0) (getD u j 0)) d (λ j h. lt-leb (getD u (suc j) 0) (getD u j 0) (asc-steps u a j (omega arith)))
 
 no-repeats : (w : Row) → ((x : ℕ) → occurs x w ≤ 1) → repeats w ≡ false
 no-repeats [] h = refl

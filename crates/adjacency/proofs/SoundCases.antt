@@ -11,7 +11,7 @@ use Rattle.rules.specs.Shapes.{shapeOk}
 use Rattle.simplex.specs.Cell.{Sign, sameRow}
 use Rattle.complex.specs.Accept.{acceptable, solidRules}
 use Rattle.adjacency.specs.Held.{Blank, Taken, heldWords, recordList}
-use Rattle.complex.specs.Layout.{recordSize, tableLength}
+use Rattle.records.specs.Layout.{recordSize, tableLength}
 use Rattle.complex.specs.Table.{ownTable, sound}
 use Rattle.rules.proofs.InLimits.{limits-of}
 use Rattle.adjacency.proofs.Taking.{taken-table}
@@ -32,9 +32,14 @@ module _ (d v s : ℕ) (ws : List ℕ) where
     module _ (len : length ws ≡ tableLength d s) (k : ℕ) (found : k ≡ firstRefusal solidRules (recordList (recordSize d) d v s ws)) where
       pub unsound-refused : (k ≡ 0 → ⊥) → false ≡ sound d v s ws
       unfolding sound ownTable acceptable
-      unsound-refused n = rw (ok, eq-eqb (length ws) (tableLength d s) len, ne-eqb (firstRefusal solidRules (recordList (recordSize d) d v s ws)) 0 (λ e. n (found ∙ e))) refl
+      unsound-refused n = rw (
+        ok,
+        eq-eqb (length ws) (tableLength d s) len,
+        ne-eqb (firstRefusal solidRules (recordList (recordSize d) d v s ws)) 0 (λ e. n (found ∙ e)),
+      ) refl
 
-      pub sound-same : (rows : List ℕ) (signs : List Sign) (wings : List ℕ) (r : Bool) → k ≡ 0 → Taken (recordList (recordSize d) d v s ws) rows signs wings →
+      pub sound-same : (rows : List ℕ) (signs : List Sign) (wings : List ℕ) (r : Bool) →
+          k ≡ 0 → Taken (recordList (recordSize d) d v s ws) rows signs wings →
           r ≡ sameRow ws (heldWords d s rows signs wings) → r ≡ sound d v s ws
       unfolding sound ownTable acceptable
       sound-same rows signs wings r z t e =

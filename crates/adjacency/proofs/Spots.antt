@@ -43,12 +43,14 @@ module _ (q : Cell → Bool) where
   count-two (c ∷ L) zero (suc g) l h e k = rw e (omega (arith, count-one L g (le-of-suc-le-suc h) k))
   count-two (c ∷ L) (suc f) (suc g) l h e k = omega (arith, count-two L f g (le-of-suc-le-suc l) (le-of-suc-le-suc h) e k)
 
-  pub count-three : (L : List Cell) (f g h : ℕ) → f < g → g < h → h < length L → q (cellAt L f) ≡ true → q (cellAt L g) ≡ true → q (cellAt L h) ≡ true → 3 ≤ countIf q L
+  pub count-three : (L : List Cell) (f g h : ℕ) → f < g → g < h → h < length L →
+      q (cellAt L f) ≡ true → q (cellAt L g) ≡ true → q (cellAt L h) ≡ true → 3 ≤ countIf q L
   count-three [] f g h l m n a b c = absurd (not-suc-le-zero n)
   count-three (x ∷ L) f g zero l m n a b c = absurd (not-suc-le-zero m)
   count-three (x ∷ L) f zero (suc h) l m n a b c = absurd (not-suc-le-zero l)
   count-three (x ∷ L) zero (suc g) (suc h) l m n a b c = rw a (omega (arith, count-two L g h (le-of-suc-le-suc m) (le-of-suc-le-suc n) b c))
-  count-three (x ∷ L) (suc f) (suc g) (suc h) l m n a b c = omega (arith, count-three L f g h (le-of-suc-le-suc l) (le-of-suc-le-suc m) (le-of-suc-le-suc n) a b c)
+  count-three (x ∷ L) (suc f) (suc g) (suc h) l m n a b c =
+      omega (arith, count-three L f g h (le-of-suc-le-suc l) (le-of-suc-le-suc m) (le-of-suc-le-suc n) a b c)
 
   -- the places of one, two, three cells that pass
   abbrev pub Spot : List Cell → Type 0
@@ -74,7 +76,8 @@ module _ (q : Cell → Bool) where
       go false e h k j = let r = j (omega arith) in (suc (r .0), suc (r .1), omega (arith, r .2), omega (arith, r .3), r .4, r .5)
 
   abbrev pub Three : List Cell → Type 0
-  Three L = (f : ℕ) × (g : ℕ) × (h : ℕ) × (f < g) × (g < h) × (h < length L) × (q (cellAt L f) ≡ true) × (q (cellAt L g) ≡ true) × (q (cellAt L h) ≡ true)
+  Three L =
+      (f : ℕ) × (g : ℕ) × (h : ℕ) × (f < g) × (g < h) × (h < length L) × (q (cellAt L f) ≡ true) × (q (cellAt L g) ≡ true) × (q (cellAt L h) ≡ true)
 
   pub three : (L : List Cell) → 3 ≤ countIf q L → Three L
   three [] h = absurd (not-suc-le-zero h)
@@ -82,4 +85,5 @@ module _ (q : Cell → Bool) where
     where
       go : (t : Bool) → q c ≡ t → 3 ≤ one t + countIf q L → (2 ≤ countIf q L → Spots L) → (3 ≤ countIf q L → Three L) → Three (c ∷ L)
       go true e h k j = let r = k (omega arith) in (0, suc (r .0), suc (r .1), omega arith, omega (arith, r .2), omega (arith, r .3), e, r .4, r .5)
-      go false e h k j = let r = j (omega arith) in (suc (r .0), suc (r .1), suc (r .2), omega (arith, r .3), omega (arith, r .4), omega (arith, r .5), r .6, r .7, r .8)
+      go false e h k j = let r = j (omega arith) in
+          (suc (r .0), suc (r .1), suc (r .2), omega (arith, r .3), omega (arith, r .4), omega (arith, r .5), r .6, r .7, r .8)

@@ -6,7 +6,8 @@ use Prim.Native.Nat.{ℕ, zero, suc, _+_, _*_, _-_, _≤_, _<_}
 use native.Mathlib.Omega.{arith}
 use native.Mathlib.Nat.{add-zero, ne-of-lt}
 use lib.ListN.{length, take, drop, getD, set, replicate, length-set, length-append, length-drop, List·getD-append}
-use lib.Seq.{paste, length-paste, length-take-le, take-at, drop-at, take-take, drop-drop, getD-take, getD-drop, getD-set-same, getD-set-other, ext-getD}
+use lib.Seq.{paste, length-paste, length-take-le, take-at, drop-at, take-take, drop-drop, getD-take, getD-drop, getD-set-same, getD-set-other}
+use lib.Seq.{ext-getD}
 use Rattle.words.specs.Records.{part}
 use Rattle.simplex.specs.Cell.{Sign, cell, times}
 use Rattle.simplex.specs.Order.{orientation, sorted}
@@ -18,8 +19,10 @@ use Rattle.adjacency.proofs.Reading.{eight-front, eight-long, eight-res
 use Rattle.simplex.specs.SignWords.{signOf}
 
 -- two lists with one record p
-pub part-same : (n p : ℕ) (X Y : List ℕ) → p * n + n ≤ length X → length X ≡ length Y → ((i : ℕ) → i < n → getD X (p * n + i) 0 ≡ getD Y (p * n + i) 0) → part n p X ≡ part n p Y
-part-same n p X Y h e same = ext-getD 0 (part n p X) (part n p Y) (long X h ∙ sym (long Y (omega arith))) (λ i l. word X i (omega (arith, long X h)) ∙ same i (omega (arith, long X h)) ∙ sym (word Y i (omega (arith, long X h))))
+pub part-same : (n p : ℕ) (X Y : List ℕ) → p * n + n ≤ length X → length X ≡ length Y →
+    ((i : ℕ) → i < n → getD X (p * n + i) 0 ≡ getD Y (p * n + i) 0) → part n p X ≡ part n p Y
+part-same n p X Y h e same = ext-getD 0 (part n p X) (part n p Y) (long X h ∙ sym (long Y (omega arith)))
+    (λ i l. word X i (omega (arith, long X h)) ∙ same i (omega (arith, long X h)) ∙ sym (word Y i (omega (arith, long X h))))
   where
     long : (Z : List ℕ) → p * n + n ≤ length Z → length (part n p Z) ≡ n
     long Z l = length-take-le n (drop (p * n) Z) (rw (length-drop (p * n) Z) (omega arith))
@@ -37,7 +40,8 @@ module _ (size d p : ℕ) (ws : List ℕ) (hd : d + 2 ≤ size) where
   pub read-sign : cellRead size d ws p .sign ≡ signOf (getD ws (p * size) 0)
   read-sign =
       ap signOf
-      (getD-take (d + 2) (part size p ws) 0 0 (omega arith) ∙ getD-take size (drop (p * size) ws) 0 0 (omega arith) ∙ getD-drop (p * size) ws 0 0 ∙ ap (λ i. getD ws i 0) (add-zero (p * size)))
+      (getD-take (d + 2) (part size p ws) 0 0 (omega arith) ∙ getD-take size (drop (p * size) ws) 0 0 (omega arith)
+      ∙ getD-drop (p * size) ws 0 0 ∙ ap (λ i. getD ws i 0) (add-zero (p * size)))
 
   pub read-row : cellRead size d ws p .row ≡ take (suc d) (drop (p * size + 1) ws)
   read-row =
@@ -60,14 +64,16 @@ module _ (rows row : List ℕ) (p : ℕ) (hp : p < 4096) (wide : length rows ≡
   paste-there q h =
       part-same 8 q (paste rows (p * 8) row 8) rows (omega (arith, paste-wide)) (paste-wide ∙ sym wide)
       (λ i l. ap (λ (xs : List ℕ). getD xs (q * 8 + i) 0) (append-assoc (take (p * 8) rows) (take 8 row) (drop (p * 8 + 8) rows))
-      ∙ List·getD-append (take (p * 8) rows) (take 8 row ++ drop (p * 8 + 8) rows) 0 (q * 8 + i) (omega (arith, length-take-le (p * 8) rows (omega arith)))
+      ∙ List·getD-append (take (p * 8) rows) (take 8 row ++ drop (p * 8 + 8) rows)
+      0 (q * 8 + i) (omega (arith, length-take-le (p * 8) rows (omega arith)))
       ∙ getD-take (p * 8) rows (q * 8 + i) 0 (omega arith))
 
 -- the row sorted by its first d + 1 vertices
 module _ (d : ℕ) (row : List ℕ) (hd : d ≤ 7) (eight : length row ≡ 8) where
   sorted-front : take (suc d) (rowSorted (suc d) row) ≡ sorted (take (suc d) row)
   unfolding rowSorted
-  sorted-front = take-at (sorted (take (suc d) row)) (drop (suc d) row) (suc d) (sorted-length (take (suc d) row) ∙ length-take-le (suc d) row (omega arith))
+  sorted-front =
+      take-at (sorted (take (suc d) row)) (drop (suc d) row) (suc d) (sorted-length (take (suc d) row) ∙ length-take-le (suc d) row (omega arith))
 
   sorted-whole : rowSorted (suc d) row ≡ sorted (take (suc d) row) ++ drop (suc d) row
   unfolding rowSorted
@@ -76,7 +82,13 @@ module _ (d : ℕ) (row : List ℕ) (hd : d ≤ 7) (eight : length row ≡ 8) wh
   sorted-eight : length (rowSorted (suc d) row) ≡ 8
   unfolding rowSorted
   sorted-eight =
-      omega (arith, length-append (sorted (take (suc d) row)) (drop (suc d) row), sorted-length (take (suc d) row), length-take-le (suc d) row (omega arith), length-drop (suc d) row)
+      omega (
+        arith,
+        length-append (sorted (take (suc d) row)) (drop (suc d) row),
+        sorted-length (take (suc d) row),
+        length-take-le (suc d) row (omega arith),
+        length-drop (suc d) row,
+      )
 
   sorted-sign : (t : Bool) → times (not (rowOdd (suc d) row)) t ≡ times (orientation (take (suc d) row)) t
   unfolding rowOdd
@@ -84,16 +96,20 @@ module _ (d : ℕ) (row : List ℕ) (hd : d ≤ 7) (eight : length row ≡ 8) wh
 
 -- what storing a cell leaves
 pub gathered : (size d p : ℕ) (ws rows : List ℕ) (signs : List Sign) (row new rows′ : List ℕ) (signs′ : List Sign) (n at : ℕ) (odd t : Bool) →
-    d ≤ 7 → d + 2 ≤ size → p < 4096 → length rows ≡ 32768 → length signs ≡ 4096 → n ≡ suc d → at ≡ p * size + 1 → at + n ≤ length ws → row ≡ rowOfEight (take n (drop at ws)) →
-    new ≡ rowSorted n row → odd ≡ rowOdd n row → t ≡ times (not odd) (signOf (getD ws (p * size) 0)) → rows′ ≡ paste rows (p * 8) new 8 → signs′ ≡ set signs p t →
+    d ≤ 7 → d + 2 ≤ size → p < 4096 → length rows ≡ 32768 → length signs ≡ 4096 →
+    n ≡ suc d → at ≡ p * size + 1 → at + n ≤ length ws → row ≡ rowOfEight (take n (drop at ws)) →
+    new ≡ rowSorted n row → odd ≡ rowOdd n row → t ≡ times (not odd) (signOf (getD ws (p * size) 0)) →
+    rows′ ≡ paste rows (p * 8) new 8 → signs′ ≡ set signs p t →
     Gathered size d p ws rows signs rows′ signs′
 gathered size d p ws rows signs row new rows′ signs′ n at odd t hd hz hp wide many en ea room read es eo et er eg =
     record {
       wide = ap length er ∙ paste-wide rows new p hp wide new-eight;
       many = ap length eg ∙ length-set signs p t ∙ many;
-      new = ap₂ cell (ap (λ (xs : List Sign). getD xs p false) eg ∙ getD-set-same signs p t false (omega arith) ∙ sign) (ap (take (suc d)) (ap (part 8 p) er ∙ paste-here rows new p hp wide new-eight) ∙ front);
+      new = ap₂ cell (ap (λ (xs : List Sign). getD xs p false) eg ∙ getD-set-same signs p t false (omega arith) ∙ sign)
+          (ap (take (suc d)) (ap (part 8 p) er ∙ paste-here rows new p hp wide new-eight) ∙ front);
       eight = ap (part 8 p) er ∙ paste-here rows new p hp wide new-eight ∙ whole;
-      old = λ q l. ap₂ cell (ap (λ (xs : List Sign). getD xs q false) eg ∙ getD-set-other signs p q t false (ne-of-lt l)) (ap (take (suc d)) (ap (part 8 q) er ∙ paste-there rows new p hp wide new-eight q l));
+      old = λ q l. ap₂ cell (ap (λ (xs : List Sign). getD xs q false) eg ∙ getD-set-other signs p q t false (ne-of-lt l))
+          (ap (take (suc d)) (ap (part 8 q) er ∙ paste-there rows new p hp wide new-eight q l));
     }
   where
     long : length (take n (drop at ws)) ≡ n
@@ -125,9 +141,11 @@ gathered size d p ws rows signs row new rows′ signs′ n at odd t hd hz hp wid
 
     whole : new ≡ rowOfEight (sorted (cellRead size d ws p .row))
     whole =
-        es′ ∙ sorted-whole d row hd eight ∙ ap₂ {C = List ℕ} (λ a b. a ++ b) (ap sorted row-is) (ap (λ n. drop n row) (sym en) ∙ rest-is ∙ ap (λ k. replicate (8 - k) 0) (en ∙ sym count))
+        es′ ∙ sorted-whole d row hd eight ∙ ap₂ {C = List ℕ} (λ a b. a ++ b) (ap sorted row-is)
+        (ap (λ n. drop n row) (sym en) ∙ rest-is ∙ ap (λ k. replicate (8 - k) 0) (en ∙ sym count))
 
     sign : t ≡ times (orientation (cellRead size d ws p .row)) (cellRead size d ws p .sign)
     sign =
-        et ∙ ap (λ o. times (not o) (signOf (getD ws (p * size) 0))) (eo ∙ ap (λ n. rowOdd n row) en) ∙ sorted-sign d row hd eight (signOf (getD ws (p * size) 0))
+        et ∙ ap (λ o. times (not o) (signOf (getD ws (p * size) 0))) (eo ∙ ap (λ n. rowOdd n row) en)
+        ∙ sorted-sign d row hd eight (signOf (getD ws (p * size) 0))
         ∙ ap₂ times (ap orientation row-is) (sym (read-sign size d p ws hz))

@@ -14,7 +14,7 @@ use Rattle.simplex.proofs.Counts.{All}
 use Rattle.simplex.proofs.Rows.{Long}
 use Rattle.adjacency.specs.Held.{Winged, cellHeld, heldCells, heldWords, recordHeld, run}
 use Rattle.simplex.specs.SignWords.{signWord}
-use Rattle.complex.specs.Layout.{Entry, entryWords, tableWords}
+use Rattle.records.specs.Layout.{Entry, entryWords, tableWords}
 use Rattle.complex.specs.Table.{entryAt, tableOf}
 use Rattle.complex.specs.Wings.{neighbour, wingsOf}
 use Rattle.adjacency.proofs.Adjacent.{held-at, held-length, held-long, held-vertex}
@@ -22,7 +22,8 @@ use Rattle.adjacency.proofs.Filling.{is-tabulated}
 use Rattle.complex.proofs.Solid.{all-at}
 use Rattle.complex.proofs.Tables.{cellAt, entries-length, table-at, wings-tabulated}
 
-module _ (d s : ℕ) (rows : List ℕ) (signs : List Sign) (wings : List ℕ) (hd : d ≤ 7) (hs : s ≤ 4096) (wide : length rows ≡ 32768) (winged : Winged d (heldCells d s rows signs) wings) where
+module _ (d s : ℕ) (rows : List ℕ) (signs : List Sign) (wings : List ℕ) (hd : d ≤ 7) (hs : s ≤ 4096)
+    (wide : length rows ≡ 32768) (winged : Winged d (heldCells d s rows signs) wings) where
   count : length (heldCells d s rows signs) ≡ s
   count = held-length d s rows signs hd hs wide
 
@@ -48,8 +49,10 @@ module _ (d s : ℕ) (rows : List ℕ) (signs : List Sign) (wings : List ℕ) (h
 
     entry-is : entryWords (entryAt (tableOf (heldCells d s rows signs)) p) ≡ signWord (getD signs p false) ∷ (row ++ tabulate (suc d) wing)
     entry-is =
-        ap entryWords (table-at (heldCells d s rows signs) p (omega (arith, count)) ∙ ap (λ (c : Cell). record { cell = c; wings = wingsOf (heldCells d s rows signs) p c }) cell-is)
-        ∙ ap (λ (ws : List ℕ). signWord (getD signs p false) ∷ (row ++ ws)) (wings-tabulated (heldCells d s rows signs) p (cellHeld d rows signs p) ∙ ap (λ n. tabulate n wing) row-length)
+        ap entryWords (table-at (heldCells d s rows signs) p (omega (arith, count))
+        ∙ ap (λ (c : Cell). record { cell = c; wings = wingsOf (heldCells d s rows signs) p c }) cell-is)
+        ∙ ap (λ (ws : List ℕ). signWord (getD signs p false) ∷ (row ++ ws))
+        (wings-tabulated (heldCells d s rows signs) p (cellHeld d rows signs p) ∙ ap (λ n. tabulate n wing) row-length)
 
     row-run : row ≡ run (d + 1) (p * 8) rows
     row-run =
@@ -59,7 +62,8 @@ module _ (d s : ℕ) (rows : List ℕ) (signs : List Sign) (wings : List ℕ) (h
     wing-run : tabulate (suc d) wing ≡ run (d + 1) (p * (d + 1)) wings
     wing-run =
         tabulate-ext (suc d) wing (λ j. getD wings (p * suc d + j) 0)
-        (λ j l. ap (λ (c : Cell). neighbour p (without j (c .row)) (heldCells d s rows signs)) (sym cell-is) ∙ sym (winged p j (omega (arith, count)) l))
+        (λ j l. ap (λ (c : Cell). neighbour p (without j (c .row)) (heldCells d s rows signs)) (sym cell-is)
+        ∙ sym (winged p j (omega (arith, count)) l))
         ∙ ap (λ n. run n (p * n) wings) (sym (add-one d))
 
     record-is : entryWords (entryAt (tableOf (heldCells d s rows signs)) p) ≡ recordHeld d rows signs wings p
@@ -72,4 +76,5 @@ module _ (d s : ℕ) (rows : List ℕ) (signs : List Sign) (wings : List ℕ) (h
       let es : List Entry = tableOf (heldCells d s rows signs) in
       ap concat
       (ap (map entryWords) (sym (tabulate-getD (record { cell = cell true []; wings = [] }) es)) ∙ tabulate-map entryWords (length es) (entryAt es)
-      ∙ ap (λ n. tabulate n (λ p. entryWords (entryAt es p))) many ∙ tabulate-ext s (λ p. entryWords (entryAt es p)) (recordHeld d rows signs wings) record-is)
+      ∙ ap (λ n. tabulate n (λ p. entryWords (entryAt es p))) many
+      ∙ tabulate-ext s (λ p. entryWords (entryAt es p)) (recordHeld d rows signs wings) record-is)

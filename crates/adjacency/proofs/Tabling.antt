@@ -15,7 +15,7 @@ use borrow.Author.Tests.{lt-ltb, le-ltb}
 use Rattle.rules.specs.Calls.{Rule, firstRefusal, refuse, written}
 use Rattle.rules.proofs.Answers.{allNumbered, orElse, firstRefusal-append, firstRefusal-passed, firstRefusal-refused}
 use Rattle.complex.specs.Accept.{Listed, solidRules}
-use Rattle.complex.specs.Layout.{listSize, tableLength}
+use Rattle.records.specs.Layout.{listSize, tableLength}
 use Rattle.complex.specs.Table.{tableOfList}
 use Rattle.adjacency.specs.Held.{recordList}
 use Rattle.adjacency.specs.Tabled.{listWith, tableRefusal, tableAfter}
@@ -56,7 +56,8 @@ module _ (d v s : ℕ) (ws : List ℕ) where
       last true r = inr r
       last false r = absurd (n r)
 
-      go : (m : ℕ) → firstRefusal solidRules (listWith d v s ws) ≡ m → k ≡ orElse m (cond (ltb room (tableLength d s)) 15 0) → ((6 ≤ k) × (k ≤ 11)) ⊎ (k ≡ 15)
+      go : (m : ℕ) → firstRefusal solidRules (listWith d v s ws) ≡ m →
+          k ≡ orElse m (cond (ltb room (tableLength d s)) 15 0) → ((6 ≤ k) × (k ≤ 11)) ⊎ (k ≡ 15)
       go zero q r = last (ltb room (tableLength d s)) r
       go (suc m) q r = inl (solid-range (listWith d v s ws) k (r ∙ sym q) n)
 
@@ -65,6 +66,7 @@ module _ (d v s : ℕ) (ws : List ℕ) where
   after-refused out zero n e = absurd (n refl)
   after-refused out (suc k) n e = rw (sym e) refl
 
-  pub after-accepted : (out : List ℕ) → 0 ≡ tableRefusal d v s ws (length out) → written (tableOfList (listWith d v s ws)) out ≡ tableAfter d v s ws out
+  pub after-accepted : (out : List ℕ) → 0 ≡ tableRefusal d v s ws (length out) →
+      written (tableOfList (listWith d v s ws)) out ≡ tableAfter d v s ws out
   unfolding tableAfter
   after-accepted out e = rw (sym e) refl

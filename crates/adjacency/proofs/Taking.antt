@@ -21,7 +21,7 @@ use Rattle.simplex.specs.Cell.{Sign}
 use Rattle.simplex.specs.Faces.{facets}
 use Rattle.complex.specs.Accept.{Listed, badSign, cellTwice, crowdedFace, equalSigns, listedCells, solidOf, solidRules, vertexBeyond, vertexTwice}
 use Rattle.adjacency.specs.Held.{Taken, heldWords, recordList}
-use Rattle.complex.specs.Layout.{listSize, tableWords}
+use Rattle.records.specs.Layout.{listSize, tableWords}
 use Rattle.complex.specs.Table.{tableOf, tableOfList}
 use Rattle.adjacency.proofs.Filling.{parts-of}
 use Rattle.adjacency.proofs.TableWords.{table-words}
@@ -38,17 +38,20 @@ six-range false false false false false false k h n = absurd (n h)
 pub solid-range : (l : Listed) (k : ℕ) → k ≡ firstRefusal solidRules l → (k ≡ 0 → ⊥) → (6 ≤ k) × (k ≤ 11)
 unfolding solidRules
 solid-range l k e n =
-    six-range (badSign l) (vertexBeyond (l .v) (listedCells l)) (vertexTwice (listedCells l)) (cellTwice (solidOf l)) (crowdedFace (facets (solidOf l))) (equalSigns (facets (solidOf l))) k e n
+    six-range (badSign l) (vertexBeyond (l .v) (listedCells l)) (vertexTwice (listedCells l))
+    (cellTwice (solidOf l)) (crowdedFace (facets (solidOf l))) (equalSigns (facets (solidOf l))) k e n
 
 -- a list of words is the list of its records
-pub whole-list : (d v s : ℕ) (ws : List ℕ) → length ws ≡ s * listSize d → recordList (listSize d) d v s ws ≡ record { d = d; v = v; s = s; words = ws }
+pub whole-list : (d v s : ℕ) (ws : List ℕ) → length ws ≡ s * listSize d →
+    recordList (listSize d) d v s ws ≡ record { d = d; v = v; s = s; words = ws }
 whole-list d v s ws e = ap (λ (xs : List ℕ). record { d = d; v = v; s = s; words = xs }) (parts-of (listSize d) s ws e)
 
 -- the table of what was taken
 pub taken-table : (l : Listed) (rows : List ℕ) (signs : List Sign) (wings : List ℕ) → l .d ≤ 7 → l .s ≤ 4096 → Taken l rows signs wings →
     tableOfList l ≡ heldWords (l .d) (l .s) rows signs wings
 unfolding tableOfList
-taken-table l rows signs wings hd hs t = ap (λ cs. tableWords (tableOf cs)) (t .cells) ∙ table-words (l .d) (l .s) rows signs wings hd hs (t .wide) (t .winged)
+taken-table l rows signs wings hd hs t =
+    ap (λ cs. tableWords (tableOf cs)) (t .cells) ∙ table-words (l .d) (l .s) rows signs wings hd hs (t .wide) (t .winged)
 
 -- what is written of it is what wing writes
 pub taken-written : (d v s : ℕ) (cells rows : List ℕ) (signs : List Sign) (wings out : List ℕ) → d ≤ 7 → s ≤ 4096 → length cells ≡ s * listSize d →
@@ -56,4 +59,5 @@ pub taken-written : (d v s : ℕ) (cells rows : List ℕ) (signs : List Sign) (w
     placed 0 (heldWords d s rows signs wings) out ≡ written (tableOfList (record { d = d; v = v; s = s; words = cells })) out
 taken-written d v s cells rows signs wings out hd hs len t =
     placed-first (heldWords d s rows signs wings) out
-    ∙ ap (λ (xs : List ℕ). xs ++ drop (length xs) out) (sym (taken-table (recordList (listSize d) d v s cells) rows signs wings hd hs t) ∙ ap tableOfList (whole-list d v s cells len))
+    ∙ ap (λ (xs : List ℕ). xs ++ drop (length xs) out)
+    (sym (taken-table (recordList (listSize d) d v s cells) rows signs wings hd hs t) ∙ ap tableOfList (whole-list d v s cells len))

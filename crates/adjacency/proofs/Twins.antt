@@ -11,6 +11,7 @@ use native.Mathlib.Nat.{div-add-mod', mul-le-mul-right}
 use lib.Dec.{eqb}
 use lib.ListN.{length, getD}
 use borrow.Author.Tests.{eq-eqb, eqb-true}
+use Rattle.words.specs.Records.{anyBelow}
 use Rattle.rules.proofs.Tests.{and-parts}
 use Rattle.simplex.specs.Cell.{Cell, Row}
 use Rattle.simplex.specs.Chain.{total}
@@ -19,8 +20,8 @@ use Rattle.simplex.proofs.Counts.{All}
 use Rattle.simplex.proofs.Rows.{Long, sameRow-true}
 use Rattle.complex.specs.Accept.{cellTwice}
 use Rattle.adjacency.specs.Pairing.{twinAt}
-use Rattle.adjacency.specs.Scan.{anyBelow, seenAt}
-use Rattle.adjacency.proofs.Below.{below-false, some-below, true-unless}
+use Rattle.adjacency.specs.Scan.{seenAt}
+use Rattle.words.proofs.Below.{below-false, some-below, true-unless}
 use Rattle.adjacency.proofs.FaceKeys.{facet-cell, facets-length, key-inside}
 use Rattle.matching.proofs.Quotients.{cell-of-key, place-of-key}
 use Rattle.adjacency.proofs.Repeats.{Prev, and-both, is-seen, same-rows, seen-is, seen-only}
@@ -80,7 +81,8 @@ module _ (d : ℕ) (rows : List ℕ) (cs : List Cell) (P : List ℕ) (long : All
     where
       before : {f g : ℕ} → Dec (f / k < g / k) → f < g → g % k ≡ 0 → f % k ≡ 0 → f / k < g / k
       before (yes l) h a b = l
-      before {f} {g} (no l) h a b = absurd (omega (arith, div-add-mod' f k, div-add-mod' g k, mul-le-mul-right {m = g / k} {n = f / k} k (omega arith)))
+      before {f} {g} (no l) h a b =
+          absurd (omega (arith, div-add-mod' f k, div-add-mod' g k, mul-le-mul-right {m = g / k} {n = f / k} k (omega arith)))
 
   once : anyBelow n (twinAt k n rows P) ≡ false → (w : Row) → Dec (1 < total w cs) → total w cs ≤ 1
   once e w (no l) = omega arith

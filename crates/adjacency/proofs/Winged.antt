@@ -9,7 +9,7 @@ use native.Mathlib.Nat.{zero-add, div-add-mod', mod-lt}
 use lib.ListN.{length, getD}
 use lib.Dec.{eqb}
 use borrow.Author.Tests.{eqb-true, eqb-false}
-use Rattle.rules.specs.Limits.{empty}
+use Rattle.records.specs.Layout.{empty}
 use Rattle.simplex.specs.Cell.{Cell, Row, one}
 use Rattle.simplex.specs.Chain.{total}
 use Rattle.simplex.specs.Faces.{face, facets, without}
@@ -72,8 +72,10 @@ module _ (d : ℕ) (cs : List Cell) (long : All (Long (suc d)) cs) where
       ∙ ap (λ i. without ((q * suc d + b) % suc d) (rowAt cs i)) (cell-of-key q b (suc d) hb)
       ∙ ap (λ i. without i (rowAt cs q)) (place-of-key q b (suc d) hb)
 
-module _ (d : ℕ) (cs : List Cell) (P W : List ℕ) (long : All (Long (suc d)) cs) (asc : All Asc cs) (few : length cs ≤ 4096) (small : length cs * suc d ≤ 32768)
-    (prev : Prev (facets cs) P) (meet : (w : Row) → total w (facets cs) ≤ 2) (wide : length W ≡ 32768) (blank : (g : ℕ) → g < 32768 → getD W g 0 ≡ empty) where
+module _ (d : ℕ) (cs : List Cell) (P W : List ℕ) (long : All (Long (suc d)) cs)
+    (asc : All Asc cs) (few : length cs ≤ 4096) (small : length cs * suc d ≤ 32768)
+    (prev : Prev (facets cs) P) (meet : (w : Row) → total w (facets cs) ≤ 2)
+    (wide : length W ≡ 32768) (blank : (g : ℕ) → g < 32768 → getD W g 0 ≡ empty) where
   n-small : length (facets cs) ≤ 32768
   n-small = omega (arith, facets-few d cs long)
 
@@ -119,12 +121,14 @@ module _ (d : ℕ) (cs : List Cell) (P W : List ℕ) (long : All (Long (suc d)) 
 
         go : Dec ((f / suc d) ≡ p) → ⊥
         go (yes z) =
-            let y : a ≡ (f % suc d) = faces-apart (rowAt cs p) a (f % suc d) (all-at Asc cs asc p hp) (omega (arith, row-length p hp)) (omega (arith, hb, row-length p hp))
+            let y : a ≡ (f % suc d) =
+            faces-apart (rowAt cs p) a (f % suc d) (all-at Asc cs asc p hp) (omega (arith, row-length p hp)) (omega (arith, hb, row-length p hp))
             (sym (ap (λ i. without (f % suc d) (rowAt cs i)) (sym z) ∙ same)) in
             m .2 (sym (div-add-mod' f (suc d)) ∙ ap (λ i. i * suc d + (f % suc d)) z ∙ ap (λ i. p * suc d + i) (sym y))
         go (no z) =
             let has : hasFace (without a (rowAt cs p)) (rowAt cs (f / suc d)) ≡ true =
-            subst (λ v. hasFace v (rowAt cs (f / suc d)) ≡ true) same (has-face (f % suc d) (rowAt cs (f / suc d)) (omega (arith, hb, row-length (f / suc d) (r .0))) (omega (arith, row-length (f / suc d) (r .0)))) in
+            subst (λ v. hasFace v (rowAt cs (f / suc d)) ≡ true) same (has-face (f % suc d) (rowAt cs (f / suc d))
+            (omega (arith, hb, row-length (f / suc d) (r .0))) (omega (arith, row-length (f / suc d) (r .0)))) in
             omega (
               arith,
               ap one has,

@@ -3,7 +3,7 @@
 --   cellHeld d rows signs p       cell p; heldCells d s rows signs are the s cells
 --   cellRead size d ws p          the cell of record p of the words ws, size words a record
 --   recordList size d v s ws      the list of the first s of these cells
---   Gathered ..                   rows and signs with cell p read, put in ascending order, and stored as a row of eight; the cells before it as they were
+-- Gathered .. rows and signs with cell p read, put in ascending order, and stored as a row of eight; the cells before it as they were
 --   badAt size ws p               whether the sign word of record p is neither 0 nor 1
 --   beyondAt d v rows p           whether the last vertex of the row of cell p is v or above
 --   falls d rows p                whether the row of cell p does not ascend; fallsAt rows p j at vertices j and j + 1
@@ -19,14 +19,12 @@ use mathlib.Core.Path.{_≡_}
 use Prim.Native.Nat.{ℕ, suc, _+_, _*_, _-_, _<_}
 use lib.Dec.{leb, ltb}
 use lib.ListN.{length, take, getD, replicate}
-use Rattle.words.specs.Records.{tabulate, part, concat}
-use Rattle.rules.specs.Limits.{empty}
+use Rattle.words.specs.Records.{tabulate, part, concat, anyBelow}
 use Rattle.simplex.specs.Cell.{Row, Sign, Cell, cell}
 use Rattle.simplex.specs.Order.{ascending}
 use Rattle.simplex.specs.Faces.{without, facets}
 use Rattle.simplex.specs.SignWords.{signWord}
-use Rattle.complex.specs.Layout.{listSize, cellOf}
-use Rattle.adjacency.specs.Scan.{anyBelow}
+use Rattle.records.specs.Layout.{empty, listSize, cellOf}
 use Rattle.complex.specs.Accept.{Listed, solidOf, cellTwice, crowdedFace, equalSigns}
 use Rattle.complex.specs.Wings.{neighbour}
 

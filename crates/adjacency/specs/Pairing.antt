@@ -12,8 +12,9 @@ use mathlib.Core.List.{List}
 use Prim.Native.Nat.{ℕ, zero, suc, _*_, _/_, _%_}
 use lib.Dec.{eqb}
 use lib.ListN.{getD, set}
+use Rattle.words.specs.Records.{anyBelow}
 use Rattle.simplex.specs.Cell.{Sign, times, alternating}
-use Rattle.adjacency.specs.Scan.{anyBelow, seenAt, seenLike, seenTwice}
+use Rattle.adjacency.specs.Scan.{seenAt, seenLike, seenTwice}
 
 abbrev pub faceCount : ℕ → ℕ → ℕ
 faceCount zero s = 0
@@ -33,7 +34,8 @@ abbrev pub twinAt : ℕ → ℕ → List ℕ → List ℕ → ℕ → Bool
 twinAt k n rows P g =
     seenAt n P g && (eqb (g % k) 0 && (eqb (getD P g 0 % k) 0 && eqb (getD rows (g / k * 8) 0) (getD rows (getD P g 0 / k * 8) 0)))
 
-pub record Met (k n : ℕ) (rows : List ℕ) (signs : List Sign) (P : List ℕ) (g : ℕ) (W : List ℕ) (crowded repeated equal : Bool) (X : List ℕ) (crowded′ repeated′ equal′ : Bool) : Type 0 where
+pub record Met (k n : ℕ) (rows : List ℕ) (signs : List Sign) (P : List ℕ) (g : ℕ) (W : List ℕ)
+    (crowded repeated equal : Bool) (X : List ℕ) (crowded′ repeated′ equal′ : Bool) : Type 0 where
   pub wings : X ≡ pairedAt k n P g W
   pub twice : crowded′ ≡ (seenTwice n P g || crowded)
   pub twin : repeated′ ≡ (twinAt k n rows P g || repeated)

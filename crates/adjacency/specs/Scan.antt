@@ -1,18 +1,13 @@
 -- What the code looks for among keys numbered from 0.
---   anyBelow n p              whether the test p passes at some number below n
 --   seenAt n P g              whether the list P names a key below n at g
 --   seenTwice n P g           whether it names one there that it names a key at too
 --   seenLike n P sg g         whether it names one there with the same sign, sg being the signs of the keys
-use mathlib.Core.Bool.{Bool, false, _&&_, _||_}
+use mathlib.Core.Bool.{Bool, _&&_}
 use mathlib.Core.List.{List}
-use Prim.Native.Nat.{ℕ, zero, suc}
+use Prim.Native.Nat.{ℕ}
 use lib.Dec.{ltb}
 use lib.ListN.{getD}
 use Rattle.simplex.specs.Cell.{Sign, times}
-
-abbrev pub anyBelow : ℕ → (ℕ → Bool) → Bool
-anyBelow zero p = false
-anyBelow (suc n) p = p n || anyBelow n p
 
 abbrev pub seenAt : ℕ → List ℕ → ℕ → Bool
 seenAt n P g = ltb (getD P g 0) n

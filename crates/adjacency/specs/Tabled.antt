@@ -8,7 +8,7 @@ use lib.Dec.{ltb}
 use lib.ListN.{length}
 use Rattle.rules.specs.Calls.{refuse, firstRefusal, outcome, after}
 use Rattle.complex.specs.Accept.{Listed, solidRules}
-use Rattle.complex.specs.Layout.{tableLength}
+use Rattle.records.specs.Layout.{tableLength}
 use Rattle.complex.specs.Table.{tableOfList}
 
 abbrev pub listWith : ℕ → ℕ → ℕ → List ℕ → Listed

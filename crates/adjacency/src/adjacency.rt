@@ -10,9 +10,10 @@ ghost use mathlib.Core.Path.{_≡_};
 ghost use Prim.Native.Nat.{_+_, _*_, _/_, _<_, _≤_};
 ghost use lib.Dec.{eqb};
 ghost use lib.ListN.{length, getD};
+ghost use Rattle.words.specs.Records.{anyBelow};
 ghost use Rattle.simplex.specs.Cell.{Sign, times, alternating};
 ghost use Rattle.complex.specs.Accept.{cellTwice};
-ghost use Rattle.adjacency.specs.Scan.{anyBelow, seenAt};
+ghost use Rattle.adjacency.specs.Scan.{seenAt};
 ghost use Rattle.adjacency.specs.Pairing.{Met, Pairing};
 ghost use Rattle.adjacency.specs.Held.{heldCells, falls, faults, Blank, Winged};
 
@@ -104,8 +105,10 @@ fn meet(
 ) -> Found
     requires { ⌜ (p < 4096) × (q < 4096) × (f < 32768) ⌝ }
     ensures crowded { λ r. ⌜ r .crowded ≡ (seenAt n (now (prev .entry)) f || found .crowded) ⌝ }
-    ensures repeated { λ r. ⌜ r .repeated ≡ ((eqb a 0 && (eqb b 0 && eqb (getD (now (rows .entry)) (p * 8) 0) (getD (now (rows .entry)) (q * 8) 0))) || found .repeated) ⌝ }
-    ensures equal { λ r. ⌜ r .equal ≡ (times (times (alternating a) (getD (now (signs .entry)) p false)) (times (alternating b) (getD (now (signs .entry)) q false)) || found .equal) ⌝ }
+    ensures repeated { λ r. ⌜ r .repeated
+        ≡ ((eqb a 0 && (eqb b 0 && eqb (getD (now (rows .entry)) (p * 8) 0) (getD (now (rows .entry)) (q * 8) 0))) || found .repeated) ⌝ }
+    ensures equal { λ r. ⌜ r .equal ≡ (times (times (alternating a) (getD (now (signs .entry)) p false))
+        (times (alternating b) (getD (now (signs .entry)) q false)) || found .equal) ⌝ }
 {
     let crowded = either(seen(n, f, prev), found.crowded);
     let repeated = either(same_first(p, a, q, b, rows), found.repeated);
@@ -134,7 +137,8 @@ fn pair_at(
 ) -> Found
     requires { ⌜ (0 < k) × (k ≤ 8) × (part ≡ 1048576 / k + 1) × (n ≤ 4096 * k) ⌝ }
     requires { ⌜ (a < k) × (g ≡ p * k + a) × (g < n) × (length (now wings) ≡ 32768) ⌝ }
-    ensures { λ r. ⌜ Met k n (now (rows .entry)) (now (signs .entry)) (now (prev .entry)) g (now (wings .entry)) (found .crowded) (found .repeated) (found .equal) (now (wings .exit)) (r .crowded) (r .repeated) (r .equal) ⌝ }
+    ensures { λ r. ⌜ Met k n (now (rows .entry)) (now (signs .entry)) (now (prev .entry)) g (now (wings .entry))
+        (found .crowded) (found .repeated) (found .equal) (now (wings .exit)) (r .crowded) (r .repeated) (r .equal) ⌝ }
 {
     let f = wide(prev[g]);
     if f < n {
@@ -175,7 +179,8 @@ fn pair(
     wings: &mut [u16; 32768],
 ) -> Found
     requires { ⌜ (0 < k) × (k ≤ 8) × (n ≤ 4096 * k) × (length (now wings) ≡ 32768) ⌝ }
-    ensures { λ r. ⌜ Pairing k n (now (rows .entry)) (now (signs .entry)) (now (prev .entry)) n (now (wings .entry)) (now (wings .exit)) (r .crowded) (r .repeated) (r .equal) ⌝ }
+    ensures { λ r. ⌜ Pairing k n (now (rows .entry)) (now (signs .entry)) (now (prev .entry))
+        n (now (wings .entry)) (now (wings .exit)) (r .crowded) (r .repeated) (r .equal) ⌝ }
 {
     let part = 1048576 / k + 1;
     let mut found = Found {

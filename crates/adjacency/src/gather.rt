@@ -7,8 +7,8 @@ ghost use mathlib.Core.Path.{_≡_};
 ghost use Prim.Native.Nat.{ℕ, _+_, _*_, _<_, _≤_};
 ghost use lib.ListN.{length, take, drop};
 ghost use lib.Seq.{paste};
+ghost use Rattle.words.specs.Records.{anyBelow};
 ghost use Rattle.simplex.specs.Order.{ascending};
-ghost use Rattle.adjacency.specs.Scan.{anyBelow};
 ghost use Rattle.adjacency.specs.Held.{rowOfEight, Gathered, cellHeld, cellRead, badAt, beyondAt, fallsAt, falls};
 
 // The first n words from at, as a row of eight: the places behind them are 0. There are always eight turns, which

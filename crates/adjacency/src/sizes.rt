@@ -1,7 +1,7 @@
 // How long a table is.
 ghost use mathlib.Core.Path.{_≡_};
 ghost use Prim.Native.Nat.{_≤_};
-ghost use Rattle.complex.specs.Layout.{tableLength};
+ghost use Rattle.records.specs.Layout.{tableLength};
 
 // Words of a table of s cells of dimension d.
 pub fn table_words(d: usize, s: usize) -> usize

@@ -4,7 +4,7 @@ ghost use Prim.Native.Nat.{_+_, _*_, _<_, _≤_};
 ghost use lib.ListN.{length};
 ghost use Rattle.words.specs.Placed.{placed};
 ghost use Rattle.simplex.specs.Cell.{sameRow};
-ghost use Rattle.complex.specs.Layout.{recordSize, tableLength};
+ghost use Rattle.records.specs.Layout.{recordSize, tableLength};
 ghost use Rattle.adjacency.specs.Held.{run, recordHeld, heldWords};
 use simplex::sign_words::sign_word;
 
@@ -34,7 +34,8 @@ fn write_record(
     table: &mut [u16],
 )
     requires { ⌜ (d ≤ 7) × (p < 4096) × (at + recordSize d ≤ length (now table)) ⌝ }
-    ensures { λ _. ⌜ now (table .exit) ≡ placed at (recordHeld d (now (rows .entry)) (now (signs .entry)) (now (wings .entry)) p) (now (table .entry)) ⌝ }
+    ensures { λ _. ⌜ now (table .exit)
+        ≡ placed at (recordHeld d (now (rows .entry)) (now (signs .entry)) (now (wings .entry)) p) (now (table .entry)) ⌝ }
 {
     let k = d + 1;
     table[at] = sign_word(signs[p]);
@@ -52,7 +53,8 @@ pub fn fill(
     table: &mut [u16],
 )
     requires { ⌜ (d ≤ 7) × (s ≤ 4096) × (tableLength d s ≤ length (now table)) ⌝ }
-    ensures { λ _. ⌜ now (table .exit) ≡ placed 0 (heldWords d s (now (rows .entry)) (now (signs .entry)) (now (wings .entry))) (now (table .entry)) ⌝ }
+    ensures { λ _. ⌜ now (table .exit)
+        ≡ placed 0 (heldWords d s (now (rows .entry)) (now (signs .entry)) (now (wings .entry))) (now (table .entry)) ⌝ }
 {
     let mut at: usize = 0;
     let mut p: usize = 0;
@@ -89,7 +91,8 @@ fn same_record(
     table: &[u16],
 ) -> bool
     requires { ⌜ (d ≤ 7) × (p < 4096) × (at + recordSize d ≤ length (now table)) ⌝ }
-    ensures { λ r. ⌜ r ≡ sameRow (run (recordSize d) at (now (table .entry))) (recordHeld d (now (rows .entry)) (now (signs .entry)) (now (wings .entry)) p) ⌝ }
+    ensures { λ r. ⌜ r
+        ≡ sameRow (run (recordSize d) at (now (table .entry))) (recordHeld d (now (rows .entry)) (now (signs .entry)) (now (wings .entry)) p) ⌝ }
 {
     let k = d + 1;
     if table[at] != sign_word(signs[p]) {

@@ -7,7 +7,7 @@ ghost use Prim.Native.Nat.{_*_};
 ghost use lib.ListN.{length};
 ghost use Rattle.rules.specs.Limits.{maxDimension};
 ghost use Rattle.rules.specs.Shapes.{shapeOk};
-ghost use Rattle.complex.specs.Layout.{listSize};
+ghost use Rattle.records.specs.Layout.{listSize};
 ghost use Rattle.adjacency.specs.Tabled.{tableRefusal, tableAfter};
 
 // Writes the table of the s cells of a list from the start of the lent words and answers 0; or answers the number of

@@ -1,8 +1,9 @@
 -- Laws of boundaries.
 pub mod EmptyWings
 pub mod Lone
-pub mod EntryWords
-pub mod Counting
+pub mod FaceWords
+pub mod Sizes
+pub mod Walking
 pub mod Outcomes
 pub mod Examples
 pub mod FirstOfTwo

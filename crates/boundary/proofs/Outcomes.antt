@@ -14,7 +14,7 @@ use Rattle.words.specs.Records.{concat}
 use Rattle.rules.specs.Limits.{maxDimension}
 use Rattle.rules.specs.Shapes.{shapeOk}
 use Rattle.rules.specs.Calls.{accepted, refused}
-use Rattle.complex.specs.Layout.{tableLength, cellWords}
+use Rattle.records.specs.Layout.{tableLength, cellWords}
 use Rattle.complex.specs.Table.{sound}
 use Rattle.boundary.specs.Faces.{FacesInput, boundaryCells, facesLength, facesRules, facesOutcome, facesBuffer}
 

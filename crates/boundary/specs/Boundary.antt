@@ -7,11 +7,10 @@ use mathlib.Core.Bool.{cond}
 use mathlib.Core.List.{List, [], _∷_, _++_}
 use Prim.Native.Nat.{ℕ}
 use lib.Dec.{eqb}
-use Rattle.rules.specs.Limits.{empty}
 use Rattle.simplex.specs.Cell.{Cell, filled}
 use Rattle.simplex.specs.Faces.{faces, keep, facets}
 use Rattle.simplex.specs.Chain.{total}
-use Rattle.complex.specs.Layout.{Entry}
+use Rattle.records.specs.Layout.{empty, Entry}
 
 abbrev pub atEmpty : List Cell → List ℕ → List Cell
 atEmpty [] ws = []

@@ -1,18 +1,16 @@
 -- The call faces: it takes a table and writes one record for each boundary face: sign word, d vertices. Paper, sections 5 and 9.
---   faceSize d            words of a face record of a table of dimension d
 --   boundaryCells i       the boundary of the table
 --   facesRules, facesOutcome (the count of records), facesBuffer
 use mathlib.Core.Bool.{not}
-use mathlib.Core.List.{List, [], _∷_, map}
-use Prim.Native.Nat.{ℕ, suc, _*_}
+use mathlib.Core.List.{List, [], _∷_}
+use Prim.Native.Nat.{ℕ, _*_}
 use lib.Dec.{eqb, ltb}
 use lib.ListN.{length}
-use Rattle.words.specs.Records.{concat}
 use Rattle.rules.specs.Limits.{maxDimension}
 use Rattle.rules.specs.Shapes.{shapeOk}
 use Rattle.rules.specs.Calls.{Rule, refuse, Outcome, decide, after}
 use Rattle.simplex.specs.Cell.{Cell}
-use Rattle.complex.specs.Layout.{entriesOf, cellWords, tableLength}
+use Rattle.records.specs.Layout.{entriesOf, facesWords, faceSize, tableLength}
 use Rattle.complex.specs.Table.{sound}
 use Rattle.boundary.specs.Boundary.{boundaryOf}
 
@@ -22,9 +20,6 @@ pub record FacesInput : Type 0 where
   pub s : ℕ
   pub table : List ℕ
   pub room : ℕ
-
-abbrev pub faceSize : ℕ → ℕ
-faceSize d = suc d
 
 unfoldable pub boundaryCells : FacesInput → List Cell
 boundaryCells i = boundaryOf (entriesOf (i .d) (i .s) (i .table))
@@ -44,4 +39,4 @@ unfoldable pub facesOutcome : FacesInput → Outcome ℕ
 facesOutcome i = decide facesRules (λ i. length (boundaryCells i)) i
 
 unfoldable pub facesBuffer : FacesInput → List ℕ → List ℕ
-facesBuffer i out = after (facesOutcome i) (concat (map cellWords (boundaryCells i))) out
+facesBuffer i out = after (facesOutcome i) (facesWords (boundaryCells i)) out

@@ -3,7 +3,7 @@ ghost use mathlib.Core.Path.{_≡_};
 ghost use lib.ListN.{length};
 ghost use Rattle.rules.specs.Numbers.{outcomeOf};
 ghost use Rattle.boundary.specs.Faces.{facesOutcome, facesBuffer};
-ghost use Rattle.boundary.specs.Written.{facesInput};
+ghost use Rattle.boundary.specs.Walk.{facesInput};
 use crate::writing::count_faces;
 use crate::writing::write_faces;
 use adjacency::sizes::table_words;
@@ -12,7 +12,8 @@ use rules::limits::Shape;
 use rules::refusal::Answer;
 use rules::refusal::Refusal;
 
-mod faces_of;
+pub mod face;
+pub mod walk;
 pub mod writing;
 
 // Writes the faces from the start of out, a sign word and d vertices each, and answers their count, or says why not.

@@ -16,7 +16,7 @@ use Rattle.simplex.specs.Chain.{total}
 use Rattle.simplex.specs.Faces.{facets}
 use Rattle.simplex.specs.Order.{ascending, itself, sorted}
 use Rattle.simplex.specs.Sort.{Asc}
-use Rattle.simplex.proofs.Cancel.{loneIn, plus-minus}
+use Rattle.simplex.proofs.Cancel.{Paired, loneIn, plus-minus}
 use Rattle.simplex.proofs.Counts.{All}
 use Rattle.simplex.proofs.FaceCounts.{All-both, All-map}
 use Rattle.simplex.proofs.Insert.{Each, sortBy-all}
@@ -24,13 +24,15 @@ use Rattle.simplex.proofs.Rows.{Below, Filled, Good, Long}
 use Rattle.simplex.proofs.Ascending.{ascending-of-asc}
 use Rattle.simplex.proofs.Sorting.{sorted-ascends, sorted-length}
 use Rattle.simplex.proofs.Sums.{plusOn, sumChain}
-use Rattle.complex.specs.Accept.{Listed, acceptable, badSign, cellTwice, crowdedFace, equalSigns, listedCells, repeats, solidOf, solidRules, vertexBeyond, vertexTwice}
+use Rattle.complex.specs.Accept.{Listed, acceptable, badSign, cellTwice, crowdedFace, equalSigns, listedCells, repeats, solidOf, solidRules}
+use Rattle.complex.specs.Accept.{vertexBeyond, vertexTwice}
 use Rattle.simplex.specs.SignWords.{signWord}
-use Rattle.complex.specs.Layout.{cellOf, cellWords, cellsOf, listSize}
+use Rattle.records.specs.Layout.{cellOf, cellWords, cellsOf, listSize}
 use Rattle.complex.proofs.Codec.{cells-back, list-record, part-length}
-use Rattle.complex.proofs.Solid.{Solid}
+use Rattle.complex.proofs.Solid.{Solid, all-tabulated}
 use Rattle.complex.proofs.Tables.{cellAt}
-use Rattle.complex.proofs.Tests.{all-below, asc-once, below-all, each-row, few-of, none-of, of-few, of-none, once-each, once-signs, row-each, signs-once}
+use Rattle.complex.proofs.Tests.{all-below, asc-once, below-all, each-row, few-of, none-of, of-few, of-none, once-each, once-signs, row-each}
+use Rattle.complex.proofs.Tests.{signs-once}
 
 six-none : (a b c d e f : Bool) → eqb (cond a 6 (cond b 7 (cond c 8 (cond d 9 (cond e 10 (cond f 11 0)))))) 0 ≡ true →
     (a ≡ false) × (b ≡ false) × (c ≡ false) × (d ≡ false) × (e ≡ false) × (f ≡ false)
@@ -53,7 +55,8 @@ pub record Passed (l : Listed) : Type 0 where
 pub passed : (l : Listed) → acceptable l ≡ true → Passed l
 unfolding acceptable solidRules
 passed l e =
-    let r = six-none (badSign l) (vertexBeyond (l .v) (listedCells l)) (vertexTwice (listedCells l)) (cellTwice (solidOf l)) (crowdedFace (facets (solidOf l))) (equalSigns (facets (solidOf l))) e in
+    let r = six-none (badSign l) (vertexBeyond (l .v) (listedCells l)) (vertexTwice (listedCells l))
+    (cellTwice (solidOf l)) (crowdedFace (facets (solidOf l))) (equalSigns (facets (solidOf l))) e in
     record { sign = r .0; vertex = r .1; twice = r .2; cell = r .3; crowded = r .4; equal = r .5 }
 
 pub passes : (l : Listed) → Passed l → acceptable l ≡ true
@@ -62,11 +65,8 @@ passes l p = rw (p .sign, p .vertex, p .twice, p .cell, p .crowded, p .equal) re
 
 -- rows of records
 listed-long : (d s : ℕ) (ws : List ℕ) → length ws ≡ s * listSize d → All (Long (suc d)) (cellsOf d s ws)
-listed-long d s ws e = go s (λ p. cellOf (part (listSize d) p ws)) (λ p h. rw (length-drop 1 (part (listSize d) p ws), part-length (listSize d) p s ws h (omega arith)) (omega arith))
-  where
-    go : (n : ℕ) (f : ℕ → Cell) → ((p : ℕ) → p < n → length (f p .row) ≡ suc d) → All (Long (suc d)) (tabulate n f)
-    go zero f h = tt
-    go (suc n) f h = (h 0 (omega arith), go n (λ p. f (suc p)) (λ p l. h (suc p) (omega arith)))
+listed-long d s ws e = all-tabulated (Long (suc d)) s (λ p. cellOf (part (listSize d) p ws))
+    (λ p h. rw (length-drop 1 (part (listSize d) p ws), part-length (listSize d) p s ws h (omega arith)) (omega arith))
 
 -- what holds of the rows holds of the sorted rows
 all-sorted : (R Q : Row → Type 0) (cs : List Cell) → ((w : Row) → R w → Q (sorted w)) → All R cs → All Q (map ascending cs)
@@ -89,16 +89,18 @@ long-filled n [] e = absurd (omega arith)
 long-filled n (x ∷ w) e = tt
 
 -- accepted cells are a solid
-pub accepted-solid : (l : Listed) → length (l .words) ≡ l .s * listSize (l .d) → acceptable l ≡ true → Solid (l .v) (solidOf l) × All (Long (suc (l .d))) (solidOf l)
+pub accepted-solid : (l : Listed) → length (l .words) ≡ l .s * listSize (l .d) →
+    acceptable l ≡ true → Solid (l .v) (solidOf l) × All (Long (suc (l .d))) (solidOf l)
 accepted-solid l e k = (
   record {
     rows = all-sorted (λ w. Long (suc (l .d)) w × Below (l .v) w) (Good (l .v)) cells
-        (λ w r. (long-filled (l .d) (sorted w) (sorted-length w ∙ r .0), sorted-below (l .v) w (r .1))) (All-both (Long (suc (l .d))) (Below (l .v)) cells long (all-below (l .v) cells (p .vertex)));
+        (λ w r. (long-filled (l .d) (sorted w) (sorted-length w ∙ r .0), sorted-below (l .v) w (r .1)))
+        (All-both (Long (suc (l .d))) (Below (l .v)) cells long (all-below (l .v) cells (p .vertex)));
     asc = all-sorted (λ w. repeats w ≡ false) Asc cells (λ w r. sorted-ascends w (once-each w r))
         (each-row (λ w. repeats w ≡ false) (λ c. repeats (c .row) ≡ false) cells (λ c r. r) (none-of (λ c. repeats (c .row)) cells (p .twice)));
     distinct = few-of 1 (solidOf l) (p .cell);
     meet = few-of 2 (facets (solidOf l)) (p .crowded);
-    paired = λ w n. paired w n;
+    paired = paired;
   },
   all-sorted (Long (suc (l .d))) (Long (suc (l .d))) cells (λ w r. sorted-length w ∙ r) long,
 )
@@ -115,7 +117,7 @@ accepted-solid l e k = (
     F : List Cell
     F = facets (solidOf l)
 
-    paired : (w : Row) → loneIn F w ≡ false → sumChain (plusOn w) true F ≡ sumChain (plusOn w) false F
+    paired : Paired F
     paired w n =
         let not-one : total w F ≢ 1 = eqb-false (total w F) 1 n in
         omega (arith, plus-minus w F, signs-once F (p .equal) true w, signs-once F (p .equal) false w)
@@ -153,7 +155,8 @@ solid-accepted d v cs solid long =
     (record {
       sign = sign-words d cs long;
       vertex = ap (vertexBeyond v) (cells-back d cs long) ∙ below-all v cs (All-map (Good v) (Below v) cs (λ w g. g .1) (solid .rows));
-      twice = ap vertexTwice (cells-back d cs long) ∙ of-none (λ c. repeats (c .row)) cs (row-each Asc (λ c. repeats (c .row) ≡ false) cs (λ c a. asc-once (c .row) a) (solid .asc));
+      twice = ap vertexTwice (cells-back d cs long)
+          ∙ of-none (λ c. repeats (c .row)) cs (row-each Asc (λ c. repeats (c .row) ≡ false) cs (λ c a. asc-once (c .row) a) (solid .asc));
       cell = ap cellTwice back ∙ of-few 1 cs (solid .distinct) cs;
       crowded = ap (λ xs. crowdedFace (facets xs)) back ∙ of-few 2 F (solid .meet) F;
       equal = ap (λ xs. equalSigns (facets xs)) back ∙ once-signs F signs F;

@@ -3,7 +3,6 @@ use mathlib.Core.Path.{_≡_, refl}
 use mathlib.Core.Bool.{true, false}
 use mathlib.Core.List.{List, [], _∷_}
 use Prim.Native.Nat.{ℕ}
-use Rattle.complex.specs.Accept.{Listed}
 use Rattle.complex.specs.Table.{tableOfList, sound}
 use Rattle.complex.proofs.Computing.{computing}
 use Rattle.complex.proofs.FirstOfTwo.{told}

@@ -3,7 +3,7 @@ use mathlib.Core.Path.{_≡_, refl}
 use mathlib.Core.List.{List, [], _∷_}
 use Prim.Native.Nat.{ℕ}
 use Rattle.rules.specs.Calls.{firstRefusal}
-use Rattle.complex.specs.Accept.{Listed, solidRules}
+use Rattle.complex.specs.Accept.{solidRules}
 
 abbrev pub told : ℕ → ℕ → ℕ → List ℕ → ℕ
 told d v s words = firstRefusal solidRules (record { d = d; v = v; s = s; words = words })

@@ -16,7 +16,7 @@ use Rattle.simplex.specs.Chain.{sumRows, total}
 use Rattle.simplex.specs.Faces.{allFaces, faces, facets, without}
 use Rattle.simplex.specs.Sort.{Asc}
 use Rattle.simplex.proofs.Cancel.{total-keep}
-use Rattle.simplex.proofs.Counts.{All, countFaces, sumRows-allFaces, sumRows-le}
+use Rattle.simplex.proofs.Counts.{All, countFaces, one-and, sumRows-allFaces, sumRows-le}
 use Rattle.simplex.proofs.FaceCounts.{countFaces-face, countFaces-find, countFaces-once, total-faces, without-filled}
 use Rattle.simplex.proofs.Rows.{hits, sameRow-refl, sameRow-true}
 use Rattle.complex.specs.Wings.{hasFace, neighbourFrom}
@@ -25,10 +25,6 @@ use Rattle.complex.proofs.Solid.{rowAt}
 -- has, as a number
 abbrev pub faceIn : Row → Row → ℕ
 faceIn w v = one (hasFace w v)
-
-one-and : (s t : Bool) → one (s && t) ≤ one t
-one-and true t = omega arith
-one-and false t = omega arith
 
 pub faceIn-le : (w v : Row) → faceIn w v ≤ countFaces (hits w) v
 faceIn-le w v = omega (arith, total-faces w true v, go (ltb 0 (total w (faces true v))) refl, one-and (filled w) (ltb 0 (total w (faces true v))))
@@ -39,7 +35,8 @@ faceIn-le w v = omega (arith, total-faces w true v, go (ltb 0 (total w (faces tr
 
 pub has-face : (j : ℕ) (v : Row) → j < length v → 2 ≤ length v → hasFace (without j v) v ≡ true
 has-face j v h l =
-    rw (without-filled j v h l) (lt-ltb 0 (total (without j v) (faces true v)) (omega (arith, total-faces (without j v) true v, countFaces-face (hits (without j v)) j v h, ap one (sameRow-refl (without j v)))))
+    rw (without-filled j v h l) (lt-ltb 0 (total (without j v) (faces true v))
+    (omega (arith, total-faces (without j v) true v, countFaces-face (hits (without j v)) j v h, ap one (sameRow-refl (without j v)))))
 
 -- how many cells other than p have the face
 abbrev pub othersWith : ℕ → ℕ → Row → List Cell → ℕ
@@ -67,20 +64,23 @@ pub neighbour-none : (p n : ℕ) (w : Row) (cs : List Cell) → othersWith p n w
 neighbour-none p n w [] h = refl
 neighbour-none p n w (c ∷ cs) h = go (eqb p n) (hasFace w (c .row)) h (neighbour-none p (suc n) w cs)
   where
-    go : (s t : Bool) → cond s 0 (one t) + othersWith p (suc n) w cs ≡ 0 → (othersWith p (suc n) w cs ≡ 0 → neighbourFrom p (suc n) w cs ≡ 65535) → cond (not s && t) n (neighbourFrom p (suc n) w cs) ≡ 65535
+    go : (s t : Bool) → cond s 0 (one t) + othersWith p (suc n) w cs ≡ 0 →
+        (othersWith p (suc n) w cs ≡ 0 → neighbourFrom p (suc n) w cs ≡ 65535) → cond (not s && t) n (neighbourFrom p (suc n) w cs) ≡ 65535
     go true t h k = k (omega arith)
     go false true h k = absurd (omega arith)
     go false false h k = k (omega arith)
 
 -- one other cell: it
-pub neighbour-one : (p n q : ℕ) (w : Row) (cs : List Cell) → othersWith p n w cs ≤ 1 → q < length cs → (p ≡ n + q → ⊥) → hasFace w (rowAt cs q) ≡ true → neighbourFrom p n w cs ≡ n + q
+pub neighbour-one : (p n q : ℕ) (w : Row) (cs : List Cell) → othersWith p n w cs ≤ 1 →
+    q < length cs → (p ≡ n + q → ⊥) → hasFace w (rowAt cs q) ≡ true → neighbourFrom p n w cs ≡ n + q
 neighbour-one p n q w [] m h k e = absurd (not-suc-le-zero h)
 neighbour-one p n zero w (c ∷ cs) m h k e = rw (ne-eqb p n (λ e. k (omega arith)), e) (sym (add-zero n))
 neighbour-one p n (suc q) w (c ∷ cs) m h k e =
     go (eqb p n) (hasFace w (c .row)) m (λ l. neighbour-one p (suc n) q w cs l (le-of-suc-le-suc h) (λ z. k (omega arith)) e)
     (othersWith-ge p (suc n) q w cs (le-of-suc-le-suc h) (λ z. k (omega arith)))
   where
-    go : (s t : Bool) → cond s 0 (one t) + othersWith p (suc n) w cs ≤ 1 → (othersWith p (suc n) w cs ≤ 1 → neighbourFrom p (suc n) w cs ≡ suc n + q) → faceIn w (rowAt cs q) ≤ othersWith p (suc n) w cs →
+    go : (s t : Bool) → cond s 0 (one t) + othersWith p (suc n) w cs ≤ 1 →
+        (othersWith p (suc n) w cs ≤ 1 → neighbourFrom p (suc n) w cs ≡ suc n + q) → faceIn w (rowAt cs q) ≤ othersWith p (suc n) w cs →
         cond (not s && t) n (neighbourFrom p (suc n) w cs) ≡ n + suc q
     go true t m f g = omega (arith, f (omega arith))
     go false true m f g = absurd (omega (arith, ap one e))
@@ -90,7 +90,8 @@ pub neighbour-empty : (p n : ℕ) (w : Row) (cs : List Cell) → n + length cs �
 neighbour-empty p n w [] l e = refl
 neighbour-empty p n w (c ∷ cs) l e = go (eqb p n) (hasFace w (c .row)) e (neighbour-empty p (suc n) w cs (omega arith))
   where
-    go : (s t : Bool) → cond (not s && t) n (neighbourFrom p (suc n) w cs) ≡ 65535 → (neighbourFrom p (suc n) w cs ≡ 65535 → othersWith p (suc n) w cs ≡ 0) → cond s 0 (one t) + othersWith p (suc n) w cs ≡ 0
+    go : (s t : Bool) → cond (not s && t) n (neighbourFrom p (suc n) w cs) ≡ 65535 →
+        (neighbourFrom p (suc n) w cs ≡ 65535 → othersWith p (suc n) w cs ≡ 0) → cond s 0 (one t) + othersWith p (suc n) w cs ≡ 0
     go true t e k = omega (arith, k e)
     go false true e k = absurd (omega arith)
     go false false e k = omega (arith, k e)
@@ -106,7 +107,8 @@ neighbour-is p n w (c ∷ cs) h = go (eqb p n) refl (hasFace w (c .row)) refl h 
     next r = (suc (r .0), omega (arith, r .1), omega (arith, r .2), (λ e. r .3 (omega arith)), r .4)
 
     go : (s : Bool) → eqb p n ≡ s → (t : Bool) → hasFace w (c .row) ≡ t → (cond (not s && t) n (neighbourFrom p (suc n) w cs) ≡ 65535 → ⊥) →
-        ((neighbourFrom p (suc n) w cs ≡ 65535 → ⊥) → Wing p (suc n) w cs (neighbourFrom p (suc n) w cs)) → Wing p n w (c ∷ cs) (cond (not s && t) n (neighbourFrom p (suc n) w cs))
+        ((neighbourFrom p (suc n) w cs ≡ 65535 → ⊥) → Wing p (suc n) w cs (neighbourFrom p (suc n) w cs)) →
+        Wing p n w (c ∷ cs) (cond (not s && t) n (neighbourFrom p (suc n) w cs))
     go true z t y h k = next (k h)
     go false z true y h k = (0, omega arith, omega arith, (λ e. eqb-false p n z (omega arith)), y)
     go false z false y h k = next (k h)
@@ -121,7 +123,8 @@ has-filled (x ∷ w) v e = refl
 
 pub has-is : (w v : Row) → hasFace w v ≡ true → (b : ℕ) × (b < length v) × (without b v ≡ w)
 has-is w v h =
-    let r = countFaces-find (λ y. sameRow y w) v (omega (arith, ltb-true 0 (total w (faces true v)) (and-right (filled w) (ltb 0 (total w (faces true v))) h), total-faces w true v)) in
+    let r = countFaces-find (λ y. sameRow y w) v
+    (omega (arith, ltb-true 0 (total w (faces true v)) (and-right (filled w) (ltb 0 (total w (faces true v))) h), total-faces w true v)) in
     (r .0, r .1, sameRow-true (without (r .0) v) w (r .2))
 
 pub countFaces-faceIn : (w v : Row) → filled w ≡ true → Asc v → countFaces (hits w) v ≤ faceIn w v
@@ -132,7 +135,8 @@ countFaces-faceIn w v n s = rw n (go (ltb 0 (total w (faces true v))) refl)
     go false e = omega (arith, ltb-false 0 (total w (faces true v)) e, total-faces w true v)
 
 pub total-faceIn : (w : Row) (cs : List Cell) → filled w ≡ true → All Asc cs → total w (allFaces cs) ≤ sumRows (faceIn w) cs
-total-faceIn w cs n a = omega (arith, sumRows-allFaces (hits w) cs, sumRows-le Asc (countFaces (hits w)) (faceIn w) cs a (λ y s. countFaces-faceIn w y n s))
+total-faceIn w cs n a =
+    omega (arith, sumRows-allFaces (hits w) cs, sumRows-le Asc (countFaces (hits w)) (faceIn w) cs a (λ y s. countFaces-faceIn w y n s))
 
 sumRows-le′ : (f g : Row → ℕ) (cs : List Cell) → ((y : Row) → f y ≤ g y) → sumRows f cs ≤ sumRows g cs
 sumRows-le′ f g [] h = omega arith

@@ -1,5 +1,5 @@
 -- The table of an accepted list is sound, and its own table.
-use mathlib.Core.Path.{_≡_, ap, subst, sym, _∙_}
+use mathlib.Core.Path.{_≡_, ap, sym, _∙_}
 use Prim.Native.Nat.{_*_, suc, ℕ}
 use mathlib.Core.List.{List, map}
 use lib.ListN.{length}
@@ -8,20 +8,16 @@ use borrow.Author.Tests.{eq-eqb}
 use Rattle.words.specs.Records.{concat}
 use Rattle.rules.specs.Limits.{maxDimension}
 use Rattle.rules.specs.Shapes.{shapeOk}
-use Rattle.simplex.specs.Cell.{Cell, Row, sameRow}
+use Rattle.simplex.specs.Cell.{Cell}
 use Rattle.simplex.proofs.Counts.{All}
-use Rattle.simplex.proofs.Rows.{Long, sameRow-refl}
+use Rattle.simplex.proofs.Rows.{Long, same-rows}
 use Rattle.complex.specs.Accept.{acceptable, solidOf}
-use Rattle.complex.specs.Layout.{cellWords, entriesOf, ownList, recordSize, tableLength, tableWords}
+use Rattle.records.specs.Layout.{cellWords, entriesOf, ownList, recordSize, tableLength, tableWords}
 use Rattle.complex.specs.Table.{listed, ownTable, sound, tableOf, tableOfList}
 use Rattle.complex.proofs.Accepted.{listOf, solid-accepted, solid-back}
 use Rattle.complex.proofs.Codec.{Sized, entries-back, own-list, table-length, table-sized}
 use Rattle.complex.proofs.Solid.{Solid}
 use Rattle.complex.proofs.Tables.{entries-length, table-cells}
-
--- equal rows pass the test
-same-words : (v w : Row) → v ≡ w → sameRow v w ≡ true
-same-words v w e = subst (λ x. sameRow v x ≡ true) e (sameRow-refl v)
 
 module _ (d v : ℕ) (cs : List Cell) (solid : Solid v cs) (long : All (Long (suc d)) cs) where
   sized : Sized d (tableOf cs)
@@ -31,7 +27,8 @@ module _ (d v : ℕ) (cs : List Cell) (solid : Solid v cs) (long : All (Long (su
   pub own-cells : listed d v (length cs) (tableWords (tableOf cs)) ≡ listOf d v cs
   own-cells =
       ap (λ ws. record { d = d; v = v; s = length cs; words = ws })
-      (ap (λ n. ownList d n (tableWords (tableOf cs))) (sym (entries-length cs 0 cs)) ∙ own-list d (tableOf cs) sized ∙ ap (λ xs. concat (map cellWords xs)) (table-cells cs 0 cs))
+      (ap (λ n. ownList d n (tableWords (tableOf cs))) (sym (entries-length cs 0 cs))
+      ∙ own-list d (tableOf cs) sized ∙ ap (λ xs. concat (map cellWords xs)) (table-cells cs 0 cs))
 
   pub own-words : tableOfList (listed d v (length cs) (tableWords (tableOf cs))) ≡ tableWords (tableOf cs)
   unfolding tableOfList
@@ -41,7 +38,7 @@ module _ (d v : ℕ) (cs : List Cell) (solid : Solid v cs) (long : All (Long (su
   unfolding ownTable
   own-table =
       rw (ap acceptable own-cells ∙ solid-accepted d v cs solid long)
-      (same-words (tableWords (tableOf cs)) (tableOfList (listed d v (length cs) (tableWords (tableOf cs)))) (sym own-words))
+      (same-rows (tableWords (tableOf cs)) (tableOfList (listed d v (length cs) (tableWords (tableOf cs)))) (sym own-words))
 
   pub words-length : length (tableWords (tableOf cs)) ≡ tableLength d (length cs)
   words-length = table-length d (tableOf cs) sized ∙ ap (λ n. n * recordSize d) (entries-length cs 0 cs)

@@ -4,8 +4,10 @@
 use mathlib.Core.Bool.{true}
 use mathlib.Core.List.{List, [], _∷_}
 use Prim.Native.Nat.{ℕ, zero, suc, _≤_, _<_}
+use native.Mathlib.Omega.{arith}
 use native.Mathlib.Nat.{le-of-suc-le-suc, not-suc-le-zero}
 use lib.ListN.{length, getD}
+use Rattle.words.specs.Records.{tabulate}
 use Rattle.simplex.specs.Cell.{Cell, Row, cell}
 use Rattle.simplex.specs.Chain.{total}
 use Rattle.simplex.specs.Faces.{facets}
@@ -28,3 +30,7 @@ pub all-at : (R : Row → Type 0) (cs : List Cell) → All R cs → (p : ℕ) �
 all-at R [] a p h = absurd (not-suc-le-zero h)
 all-at R (c ∷ cs) a zero h = a .0
 all-at R (c ∷ cs) a (suc p) h = all-at R cs (a .1) p (le-of-suc-le-suc h)
+
+pub all-tabulated : (R : Row → Type 0) (n : ℕ) (f : ℕ → Cell) → ((p : ℕ) → p < n → R (f p .row)) → All R (tabulate n f)
+all-tabulated R zero f h = tt
+all-tabulated R (suc n) f h = (h 0 (omega arith), all-tabulated R n (λ p. f (suc p)) (λ p l. h (suc p) (omega arith)))

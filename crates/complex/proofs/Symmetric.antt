@@ -8,7 +8,7 @@ use native.Mathlib.Decide.{decLt}
 use mathlib.Core.Bool.{false≢true, true}
 use native.Mathlib.Nat.{le-of-suc-le-suc, not-suc-le-zero, zero-add}
 use lib.ListN.{length}
-use Rattle.rules.specs.Limits.{empty}
+use Rattle.records.specs.Layout.{empty}
 use Rattle.simplex.specs.Cell.{Cell, Row, filled, one, sameRow}
 use Rattle.simplex.specs.Chain.{sumRows}
 use Rattle.simplex.specs.Faces.{without}
@@ -17,7 +17,8 @@ use Rattle.simplex.proofs.Counts.{All}
 use Rattle.simplex.proofs.Rows.{Long, hits, sameRow-refl}
 use Rattle.simplex.proofs.Without.{two-faces}
 use Rattle.complex.specs.Wings.{hasFace, neighbour}
-use Rattle.complex.proofs.Neighbours.{Wing, faceIn-facets, has-face, has-filled, has-is, neighbour-is, neighbour-one, othersWith, othersWith-pick}
+use Rattle.complex.proofs.Neighbours.{Wing, faceIn-facets, has-face, has-filled, has-is, neighbour-is, neighbour-one, othersWith}
+use Rattle.complex.proofs.Neighbours.{othersWith-pick}
 use Rattle.complex.proofs.Solid.{Solid, all-at, rowAt}
 
 pub sumRows-one : (g : Row → ℕ) (q : ℕ) (cs : List Cell) → q < length cs → g (rowAt cs q) ≤ sumRows g cs
@@ -60,20 +61,30 @@ module _ (nv d : ℕ) (cs : List Cell) (solid : Solid nv cs) (long : All (Long (
       go (no l) = omega (arith, sumRows-two (hits (rowAt cs p)) q p cs (omega arith) hp, solid .distinct (rowAt cs p), at-p, at-q)
 
   -- two cells with one face are neighbours there
-  pub neighbour-at : (p q : ℕ) (w : Row) → p < length cs → q < length cs → (p ≡ q → ⊥) → hasFace w (rowAt cs p) ≡ true → hasFace w (rowAt cs q) ≡ true → neighbour p w cs ≡ q
+  pub neighbour-at : (p q : ℕ) (w : Row) → p < length cs → q < length cs → (p ≡ q → ⊥) →
+      hasFace w (rowAt cs p) ≡ true → hasFace w (rowAt cs q) ≡ true → neighbour p w cs ≡ q
   neighbour-at p q w hp hq apart ep eq =
       neighbour-one p 0 q w cs
-      (omega (arith, solid .meet w, faceIn-facets w cs (has-filled w (rowAt cs p) ep), othersWith-pick p 0 w cs hp, ap one ep, ap (λ m. othersWith m 0 w cs) (zero-add p)))
+      (omega (
+        arith,
+        solid .meet w,
+        faceIn-facets w cs (has-filled w (rowAt cs p) ep),
+        othersWith-pick p 0 w cs hp,
+        ap one ep,
+        ap (λ m. othersWith m 0 w cs) (zero-add p),
+      ))
       hq (λ e. apart (omega arith)) eq
       ∙ zero-add q
 
   abbrev pub Across : ℕ → ℕ → ℕ → Type 0
   Across p a q =
-      (b : ℕ) × (q < length cs) × (p ≡ q → ⊥) × (b ≤ d) × (without a (rowAt cs p) ≡ without b (rowAt cs q)) × (wing q b ≡ p) × ((m : ℕ) → m < b → wing q m ≡ p → ⊥)
+      (b : ℕ) × (q < length cs) × (p ≡ q → ⊥) × (b ≤ d) × (without a (rowAt cs p) ≡ without b (rowAt cs q))
+      × (wing q b ≡ p) × ((m : ℕ) → m < b → wing q m ≡ p → ⊥)
 
   module _ (small : length cs ≤ empty) where
     -- two cells share one face at most
-    only : (p a q b m : ℕ) → p < length cs → a ≤ d → q < length cs → (p ≡ q → ⊥) → b ≤ d → without b (rowAt cs q) ≡ without a (rowAt cs p) → m < b → wing q m ≡ p → ⊥
+    only : (p a q b m : ℕ) → p < length cs → a ≤ d → q < length cs → (p ≡ q → ⊥) →
+        b ≤ d → without b (rowAt cs q) ≡ without a (rowAt cs p) → m < b → wing q m ≡ p → ⊥
     only p a q b m hp ha hq pq hb f l e = go (neighbour-is q 0 (without m (rowAt cs q)) cs (λ z. omega arith))
       where
         two : (z : ℕ) × (z < length (rowAt cs p)) × (without z (rowAt cs p) ≡ without m (rowAt cs q)) → ⊥
@@ -83,14 +94,18 @@ module _ (nv d : ℕ) (cs : List Cell) (solid : Solid nv cs) (long : All (Long (
             (omega (arith, row-length q hq)) (r .1) (omega (arith, row-length p hp)) (sym (r .2)) f)
 
         go : Wing q 0 (without m (rowAt cs q)) cs (wing q m) → ⊥
-        go r = two (has-is (without m (rowAt cs q)) (rowAt cs p) (subst (λ k. hasFace (without m (rowAt cs q)) (rowAt cs k) ≡ true) (omega (arith, r .2)) (r .4)))
+        go r = two (has-is (without m (rowAt cs q)) (rowAt cs p)
+            (subst (λ k. hasFace (without m (rowAt cs q)) (rowAt cs k) ≡ true) (omega (arith, r .2)) (r .4)))
 
-    across-at : (p a q : ℕ) → 1 ≤ d → p < length cs → a ≤ d → q < length cs → (p ≡ q → ⊥) → (b : ℕ) × (b < length (rowAt cs q)) × (without b (rowAt cs q) ≡ without a (rowAt cs p)) → Across p a q
+    across-at : (p a q : ℕ) → 1 ≤ d → p < length cs → a ≤ d → q < length cs → (p ≡ q → ⊥) →
+        (b : ℕ) × (b < length (rowAt cs q)) × (without b (rowAt cs q) ≡ without a (rowAt cs p)) → Across p a q
     across-at p a q hd hp ha hq pq r =
         let b = r .0 in
         let hb : b ≤ d = omega (arith, r .1, row-length q hq) in
-        let e : wing q b ≡ p = neighbour-at q p (without b (rowAt cs q)) hq hp (λ z. pq (sym z)) (has-face b (rowAt cs q) (r .1) (omega (arith, row-length q hq)))
-        (subst (λ w. hasFace w (rowAt cs p) ≡ true) (sym (r .2)) (has-face a (rowAt cs p) (omega (arith, row-length p hp)) (omega (arith, row-length p hp)))) in
+        let e : wing q b ≡ p =
+        neighbour-at q p (without b (rowAt cs q)) hq hp (λ z. pq (sym z)) (has-face b (rowAt cs q) (r .1) (omega (arith, row-length q hq)))
+        (subst (λ w. hasFace w (rowAt cs p) ≡ true) (sym (r .2))
+        (has-face a (rowAt cs p) (omega (arith, row-length p hp)) (omega (arith, row-length p hp)))) in
         (b, hq, pq, hb, sym (r .2), e, (λ m l. only p a q b m hp ha hq pq hb (r .2) l))
 
     pub wings-symmetric : (p a : ℕ) → p < length cs → a ≤ d → (wing p a ≡ empty → ⊥) → Across p a (wing p a)
@@ -98,6 +113,8 @@ module _ (nv d : ℕ) (cs : List Cell) (solid : Solid nv cs) (long : All (Long (
       where
         go : Wing p 0 (without a (rowAt cs p)) cs (wing p a) → Across p a (wing p a)
         go r =
-            let two : 2 ≤ length (rowAt cs p) = filled-length a (rowAt cs p) (has-filled (without a (rowAt cs p)) (rowAt cs (r .0)) (r .4)) (omega (arith, row-length p hp)) in
+            let two : 2 ≤ length (rowAt cs p) =
+            filled-length a (rowAt cs p) (has-filled (without a (rowAt cs p)) (rowAt cs (r .0)) (r .4)) (omega (arith, row-length p hp)) in
             subst (Across p a) (sym (r .2 ∙ zero-add (r .0)))
-            (across-at p a (r .0) (omega (arith, two, row-length p hp)) hp ha (r .1) (λ z. r .3 (omega arith)) (has-is (without a (rowAt cs p)) (rowAt cs (r .0)) (r .4)))
+            (across-at p a (r .0) (omega (arith, two, row-length p hp)) hp ha (r .1)
+            (λ z. r .3 (omega arith)) (has-is (without a (rowAt cs p)) (rowAt cs (r .0)) (r .4)))

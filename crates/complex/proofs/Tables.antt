@@ -12,13 +12,12 @@ use lib.Dec.{eqb}
 use borrow.Author.Tests.{eqb-false, eqb-true}
 use Rattle.words.specs.Records.{tabulate}
 use Rattle.words.proofs.Records.{tabulate-at, tabulate-length}
-use Rattle.rules.specs.Limits.{empty}
 use Rattle.simplex.specs.Cell.{Cell, Row, Sign, cell}
 use Rattle.simplex.specs.Faces.{faces, prefixed, without}
 use Rattle.simplex.proofs.Counts.{All}
 use Rattle.simplex.proofs.Rows.{Long}
 use Rattle.simplex.proofs.Without.{without-length}
-use Rattle.complex.specs.Layout.{Entry}
+use Rattle.records.specs.Layout.{empty, Entry}
 use Rattle.complex.specs.Table.{entriesFrom, entryAt, tableOf, wingAt}
 use Rattle.complex.specs.Wings.{neighbour, neighbourFrom, wingsOf}
 use Rattle.complex.proofs.Neighbours.{Wing, has-is, neighbour-is}
@@ -86,7 +85,8 @@ table-wing n cs long p a = go (decLt p (length cs))
     row : Row
     row = rowAt cs p
 
-    at : p < length cs → Dec (a < length row) → getD (tabulate (length row) (λ j. neighbour p (without j row) cs)) a empty ≡ neighbour p (without a row) cs
+    at : p < length cs → Dec (a < length row) →
+        getD (tabulate (length row) (λ j. neighbour p (without j row) cs)) a empty ≡ neighbour p (without a row) cs
     at hp (yes l) = tabulate-at (length row) (λ j. neighbour p (without j row) cs) a empty l
     at hp (no l) =
         let f : ℕ → ℕ = λ j. neighbour p (without j row) cs in
@@ -96,8 +96,10 @@ table-wing n cs long p a = go (decLt p (length cs))
 
     go : Dec (p < length cs) → wingAt (tableOf cs) p a ≡ neighbour p (without a row) cs
     go (yes hp) =
-        ap (λ (e : Entry). getD (e .wings) a empty) (table-at cs p hp) ∙ ap (λ ws. getD ws a empty) (wings-tabulated cs p (cellAt cs p)) ∙ at hp (decLt a (length row))
+        ap (λ (e : Entry). getD (e .wings) a empty) (table-at cs p hp)
+        ∙ ap (λ ws. getD ws a empty) (wings-tabulated cs p (cellAt cs p)) ∙ at hp (decLt a (length row))
     go (no hp) =
         let k : length cs ≤ p = omega arith in
-        ap (λ (e : Entry). getD (e .wings) a empty) (List·getD-eq-default (tableOf cs) (record { cell = cell true []; wings = [] }) (rw (entries-length cs 0 cs) k))
+        ap (λ (e : Entry). getD (e .wings) a empty)
+        (List·getD-eq-default (tableOf cs) (record { cell = cell true []; wings = [] }) (rw (entries-length cs 0 cs) k))
         ∙ sym (ap (λ (c : Cell). neighbour p (without a (c .row)) cs) (List·getD-eq-default cs (cell true []) k) ∙ neighbour-of-nothing p 0 cs)

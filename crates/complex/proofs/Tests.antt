@@ -1,6 +1,6 @@
 -- What the tests of a list of cells say, each both ways.
 --   Each Q xs         every element of the list has the property
-use mathlib.Core.Path.{_≡_, ap, refl, subst, sym}
+use mathlib.Core.Path.{_≡_, ap, ap₂, refl, subst, sym}
 use mathlib.Core.Bool.{_&&_, Bool, false, true, true≢false, _||_}
 use Prim.Native.Nat.{_+_, ℕ, _≤_}
 use mathlib.Core.List.{List, [], _∷_}
@@ -9,12 +9,14 @@ use lib.Dec.{eqb, leb, ltb}
 use borrow.Author.Tests.{eqb-false, eqb-true, le-ltb, leb-false, lt-leb, ltb-false, ne-eqb}
 use mathlib.Core.Logic.{inl, inr, _⊎_}
 use Rattle.words.specs.Records.{anyOf}
+use Rattle.rules.proofs.Tests.{and-parts}
 use Rattle.simplex.specs.Cell.{Cell, Row, Sign, one, sameRow, times}
 use Rattle.simplex.specs.Chain.{countOn, total}
 use Rattle.simplex.specs.Sort.{Asc, occurs}
 use Rattle.simplex.proofs.Counts.{All}
 use Rattle.simplex.proofs.Insert.{Each}
 use Rattle.simplex.proofs.Rows.{Below, sameRow-true}
+use Rattle.simplex.proofs.Signs.{times-same}
 use Rattle.simplex.proofs.Sums.{plusOn, sumChain}
 use Rattle.simplex.proofs.Without.{asc-tail}
 use Rattle.complex.specs.Accept.{equalSigns, repeats, vertexBeyond}
@@ -50,10 +52,12 @@ is-below nv [] b = refl
 is-below nv (x ∷ w) b = rw (lt-leb nv x (b .0)) (is-below nv w (b .1))
 
 pub all-below : (nv : ℕ) (cs : List Cell) → vertexBeyond nv cs ≡ false → All (Below nv) cs
-all-below nv cs e = each-row (Below nv) (λ c. anyOf (λ x. leb nv x) (c .row) ≡ false) cs (λ c k. below-is nv (c .row) k) (none-of (λ c. anyOf (λ x. leb nv x) (c .row)) cs e)
+all-below nv cs e = each-row (Below nv) (λ c. anyOf (λ x. leb nv x) (c .row) ≡ false) cs
+    (λ c k. below-is nv (c .row) k) (none-of (λ c. anyOf (λ x. leb nv x) (c .row)) cs e)
 
 pub below-all : (nv : ℕ) (cs : List Cell) → All (Below nv) cs → vertexBeyond nv cs ≡ false
-below-all nv cs a = of-none (λ c. anyOf (λ x. leb nv x) (c .row)) cs (row-each (Below nv) (λ c. anyOf (λ x. leb nv x) (c .row) ≡ false) cs (λ c k. is-below nv (c .row) k) a)
+below-all nv cs a = of-none (λ c. anyOf (λ x. leb nv x) (c .row)) cs
+    (row-each (Below nv) (λ c. anyOf (λ x. leb nv x) (c .row) ≡ false) cs (λ c k. is-below nv (c .row) k) a)
 
 -- 8: no vertex twice in a cell
 absent : (x : ℕ) (w : Row) → anyOf (eqb x) w ≡ false → occurs x w ≡ 0
@@ -81,7 +85,7 @@ asc-once [] s = refl
 asc-once (x ∷ w) s = rw (above-all x w s) (asc-once w (asc-tail x w s))
 
 -- 9 to 11: what holds of the rows of a list, and of the rows that it has not, holds of all
-seen : (R : Row → Type 0) (w : Row) (cs : List Cell) → All R cs → (total w cs ≡ 0) ⊎ R w
+pub seen : (R : Row → Type 0) (w : Row) (cs : List Cell) → All R cs → (total w cs ≡ 0) ⊎ R w
 seen R w [] a = inl refl
 seen R w (c ∷ cs) a = go (sameRow (c .row) w) (sameRow-true (c .row) w) (seen R w cs (a .1))
   where
@@ -92,7 +96,8 @@ seen R w (c ∷ cs) a = go (sameRow (c .row) w) (sameRow-true (c .row) w) (seen 
 
 -- no row stands more than n times in the list
 pub few-of : (n : ℕ) (cs : List Cell) → anyOf (λ c. ltb n (total (c .row) cs)) cs ≡ false → (w : Row) → total w cs ≤ n
-few-of n cs e w = go (seen (λ v. total v cs ≤ n) w cs (each-row (λ v. total v cs ≤ n) (λ c. ltb n (total (c .row) cs) ≡ false) cs (λ c k. ltb-false n (total (c .row) cs) k) (none-of (λ c. ltb n (total (c .row) cs)) cs e)))
+few-of n cs e w = go (seen (λ v. total v cs ≤ n) w cs (each-row (λ v. total v cs ≤ n) (λ c. ltb n (total (c .row) cs) ≡ false)
+    cs (λ c k. ltb-false n (total (c .row) cs) k) (none-of (λ c. ltb n (total (c .row) cs)) cs e)))
   where
     go : (total w cs ≡ 0) ⊎ (total w cs ≤ n) → total w cs ≤ n
     go (inl z) = omega arith
@@ -108,22 +113,22 @@ count-sum s w [] = refl
 count-sum s w (c ∷ cs) = ap (λ n. one (times (c .sign) s && sameRow (c .row) w) + n) (count-sum s w cs)
 
 -- signed cells of a list that stand once
-once-signed : (s : Sign) (w : Row) (L cs : List Cell) → Each (λ c. ltb 1 (countOn (c .sign) (c .row) L) ≡ false) cs → (countOn s w cs ≡ 0) ⊎ (countOn s w L ≤ 1)
+once-signed : (s : Sign) (w : Row) (L cs : List Cell) →
+    Each (λ c. ltb 1 (countOn (c .sign) (c .row) L) ≡ false) cs → (countOn s w cs ≡ 0) ⊎ (countOn s w L ≤ 1)
 once-signed s w L [] a = inl refl
-once-signed s w L (c ∷ cs) a = go (c .sign) s (sameRow (c .row) w) (sameRow-true (c .row) w) (a .0) (once-signed s w L cs (a .1))
+once-signed s w L (c ∷ cs) a = go (times (c .sign) s && sameRow (c .row) w) hit (once-signed s w L cs (a .1))
   where
-    go : (p q t : Bool) → (t ≡ true → c .row ≡ w) → ltb 1 (countOn p (c .row) L) ≡ false → (countOn q w cs ≡ 0) ⊎ (countOn q w L ≤ 1) →
-        (one (times p q && t) + countOn q w cs ≡ 0) ⊎ (countOn q w L ≤ 1)
-    go true true true h e r = inr (subst (λ v. countOn true v L ≤ 1) (h refl) (ltb-false 1 (countOn true (c .row) L) e))
-    go false false true h e r = inr (subst (λ v. countOn false v L ≤ 1) (h refl) (ltb-false 1 (countOn false (c .row) L) e))
-    go true true false h e (inl z) = inl (omega arith)
-    go true true false h e (inr l) = inr l
-    go false false false h e (inl z) = inl (omega arith)
-    go false false false h e (inr l) = inr l
-    go true false t h e (inl z) = inl (omega arith)
-    go true false t h e (inr l) = inr l
-    go false true t h e (inl z) = inl (omega arith)
-    go false true t h e (inr l) = inr l
+    hit : (times (c .sign) s && sameRow (c .row) w) ≡ true → countOn s w L ≤ 1
+    hit k =
+        let r = and-parts (times (c .sign) s) (sameRow (c .row) w) k in
+        let e = ap₂ (λ s w. countOn s w L) (times-same (c .sign) s (r .0)) (sameRow-true (c .row) w (r .1)) in
+        omega (arith, ltb-false 1 (countOn (c .sign) (c .row) L) (a .0))
+
+    go : (t : Bool) → (t ≡ true → countOn s w L ≤ 1) → (countOn s w cs ≡ 0) ⊎ (countOn s w L ≤ 1) →
+        (one t + countOn s w cs ≡ 0) ⊎ (countOn s w L ≤ 1)
+    go true h r = inr (h refl)
+    go false h (inl z) = inl (omega arith)
+    go false h (inr l) = inr l
 
 -- 11: no face has one sign twice
 pub signs-once : (F : List Cell) → equalSigns F ≡ false → (s : Sign) (w : Row) → sumChain (plusOn w) s F ≤ 1
@@ -133,7 +138,8 @@ signs-once F e s w = go (once-signed s w F F (none-of (λ f. ltb 1 (countOn (f .
     go (inl z) = omega (arith, count-sum s w F)
     go (inr l) = omega (arith, count-sum s w F)
 
-pub once-signs : (F : List Cell) → ((s : Sign) (w : Row) → sumChain (plusOn w) s F ≤ 1) → (cs : List Cell) → anyOf (λ f. ltb 1 (countOn (f .sign) (f .row) F)) cs ≡ false
+pub once-signs : (F : List Cell) → ((s : Sign) (w : Row) → sumChain (plusOn w) s F ≤ 1) →
+    (cs : List Cell) → anyOf (λ f. ltb 1 (countOn (f .sign) (f .row) F)) cs ≡ false
 once-signs F h [] = refl
 once-signs F h (c ∷ cs) =
     rw (le-ltb 1 (countOn (c .sign) (c .row) F) (omega (arith, count-sum (c .sign) (c .row) F, h (c .sign) (c .row)))) (once-signs F h cs)

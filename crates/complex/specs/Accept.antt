@@ -14,7 +14,7 @@ use Rattle.simplex.specs.Cell.{Row, Cell}
 use Rattle.simplex.specs.Order.{ascending}
 use Rattle.simplex.specs.Faces.{facets}
 use Rattle.simplex.specs.Chain.{countOn, total}
-use Rattle.complex.specs.Layout.{listSize, cellsOf}
+use Rattle.records.specs.Layout.{listSize, cellsOf}
 
 pub record Listed : Type 0 where
   pub d : ℕ

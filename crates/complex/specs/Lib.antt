@@ -1,5 +1,4 @@
 -- Solids as lists of cells, their wings and their tables.
-pub mod Layout
 pub mod Accept
 pub mod Wings
 pub mod Table

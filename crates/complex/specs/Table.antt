@@ -10,10 +10,10 @@ use mathlib.Core.List.{List, [], _∷_}
 use Prim.Native.Nat.{ℕ, suc}
 use lib.Dec.{eqb}
 use lib.ListN.{length, getD}
-use Rattle.rules.specs.Limits.{empty, maxDimension}
+use Rattle.rules.specs.Limits.{maxDimension}
 use Rattle.rules.specs.Shapes.{shapeOk}
 use Rattle.simplex.specs.Cell.{Cell, cell, sameRow}
-use Rattle.complex.specs.Layout.{Entry, tableLength, tableWords, ownList}
+use Rattle.records.specs.Layout.{empty, Entry, tableLength, tableWords, ownList}
 use Rattle.complex.specs.Accept.{Listed, solidOf, acceptable}
 use Rattle.complex.specs.Wings.{wingsOf}
 

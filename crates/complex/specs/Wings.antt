@@ -6,7 +6,7 @@ use mathlib.Core.Bool.{Bool, true, not, cond, _&&_}
 use mathlib.Core.List.{List, [], _∷_, map}
 use Prim.Native.Nat.{ℕ, suc}
 use lib.Dec.{eqb, ltb}
-use Rattle.rules.specs.Limits.{empty}
+use Rattle.records.specs.Layout.{empty}
 use Rattle.simplex.specs.Cell.{Row, Cell, filled}
 use Rattle.simplex.specs.Faces.{faces}
 use Rattle.simplex.specs.Chain.{total}

@@ -22,7 +22,7 @@ use Rattle.words.proofs.Records.{tabulate-length, tabulate-at}
 use Rattle.words.proofs.Bytes.{words-of}
 use Rattle.simplex.specs.Cell.{Cell, cell}
 use Rattle.simplex.specs.SignWords.{signWord}
-use Rattle.complex.specs.Layout.{cellWords}
+use Rattle.records.specs.Layout.{cellWords}
 use Rattle.file.specs.File.{headerSize, dimensionOf, cellCountOf, pointCount, cellsStart, cellBytes, fileLength, filePoints, cellPart, signBytes, fileCells}
 
 abbrev pub cellPlace : List ℕ → ℕ → ℕ

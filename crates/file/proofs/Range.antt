@@ -7,7 +7,7 @@ use mathlib.Core.Path.{_≡_, ap, _∙_, subst⁻¹}
 use mathlib.Core.Bool.{Bool, true, false, not, cond, _&&_}
 use Prim.Native.Nat.{ℕ, _%_, _/_}
 use lib.Dec.{T, eqb, leb}
-use lib.Ieee.{nan, inf, binary64, ofBits, ofFields, isNan, nanBits}
+use lib.Ieee.{nan, inf, binary64, ofBits, ofFields, nanBits}
 use lib.Ieee.Bits.{nanBits-is}
 use borrow.Author.Tests.{ne-eqb}
 use Rattle.points.specs.Step.{inRange}

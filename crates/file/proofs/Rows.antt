@@ -1,10 +1,10 @@
--- Tests of the vertices that stand from a place, told by what is left of them.
---   any-first, any-next           whether some vertex passes a test
---   repeats-first, repeats-next   whether a vertex comes again
+-- Tests of the m vertices that stand from a place: those that are left decide.
+--   row-goes, row-stops, row-ends         whether some vertex passes a test
+--   again-goes, again-stops, again-ends   whether a vertex comes again
 -- Assumes nothing.
-use mathlib.Core.Path.{_≡_, refl, sym, ap, _∙_}
+use mathlib.Core.Path.{_≡_, sym, ap, _∙_}
 use mathlib.Core.Bool.{Bool, true, false}
-use mathlib.Core.List.{List}
+use mathlib.Core.List.{List, _∷_}
 use Prim.Native.Nat.{ℕ, _+_, _-_, _<_}
 use lib.Dec.{eqb}
 use Rattle.words.specs.Records.{anyOf}
@@ -12,20 +12,29 @@ use Rattle.words.specs.Bytes.{word16, wordsFrom}
 use Rattle.words.proofs.Bytes.{words-next}
 use Rattle.complex.specs.Accept.{repeats}
 
-module _ (b : List ℕ) (at m : ℕ) (h : 0 < m) where
-  pub any-first : (q : ℕ → Bool) → q (word16 b at) ≡ true → anyOf q (wordsFrom b at m) ≡ true
-  any-first q e = rw (words-next b at m h, e) refl
+module _ (b : List ℕ) (at m : ℕ) (whole : Bool) where
+  -- x is the first vertex
+  module _ (h : 0 < m) (x : ℕ) (e : x ≡ word16 b at) where
+    next : wordsFrom b at m ≡ x ∷ wordsFrom b (at + 2) (m - 1)
+    next = words-next b at m h ∙ ap (λ y. y ∷ wordsFrom b (at + 2) (m - 1)) (sym e)
 
-  pub any-next : (q : ℕ → Bool) → q (word16 b at) ≡ false → anyOf q (wordsFrom b at m) ≡ anyOf q (wordsFrom b (at + 2) (m - 1))
-  any-next q e = rw (words-next b at m h, e) refl
+    module _ (q : ℕ → Bool) (w : whole ≡ anyOf q (wordsFrom b at m)) where
+      pub row-goes : q x ≡ false → whole ≡ anyOf q (wordsFrom b (at + 2) (m - 1))
+      row-goes t = w ∙ rw (next, t)
 
-  -- x is the first vertex, and r says whether it comes again
-  module _ (x : ℕ) (r : Bool) (e : x ≡ word16 b at) (a : r ≡ anyOf (eqb x) (wordsFrom b (at + 2) (m - 1))) where
-    again : anyOf (eqb (word16 b at)) (wordsFrom b (at + 2) (m - 1)) ≡ r
-    again = ap (λ y. anyOf (eqb y) (wordsFrom b (at + 2) (m - 1))) (sym e) ∙ sym a
+      pub row-stops : q x ≡ true → true ≡ whole
+      row-stops t = sym (w ∙ rw (next, t))
 
-    pub repeats-first : r ≡ true → repeats (wordsFrom b at m) ≡ true
-    repeats-first t = rw (words-next b at m h, again ∙ t) refl
+    module _ (w : whole ≡ repeats (wordsFrom b at m)) where
+      pub again-goes : anyOf (eqb x) (wordsFrom b (at + 2) (m - 1)) ≡ false → whole ≡ repeats (wordsFrom b (at + 2) (m - 1))
+      again-goes t = w ∙ rw (next, t)
 
-    pub repeats-next : r ≡ false → repeats (wordsFrom b at m) ≡ repeats (wordsFrom b (at + 2) (m - 1))
-    repeats-next t = rw (words-next b at m h, again ∙ t) refl
+      pub again-stops : anyOf (eqb x) (wordsFrom b (at + 2) (m - 1)) ≡ true → true ≡ whole
+      again-stops t = sym (w ∙ rw (next, t))
+
+  module _ (none : m ≡ 0) where
+    pub row-ends : (q : ℕ → Bool) → whole ≡ anyOf q (wordsFrom b at m) → false ≡ whole
+    row-ends q w = sym (w ∙ rw none)
+
+    pub again-ends : whole ≡ repeats (wordsFrom b at m) → false ≡ whole
+    again-ends w = sym (w ∙ rw none)

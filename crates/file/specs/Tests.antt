@@ -14,7 +14,7 @@ use Rattle.words.specs.Bytes.{word16}
 use Rattle.rules.specs.Limits.{maxSource, axesOk, stepsOk, within}
 use Rattle.rules.specs.Shapes.{shapeOk}
 use Rattle.simplex.specs.Cell.{sameRow}
-use Rattle.complex.specs.Layout.{listSize, cellWords}
+use Rattle.records.specs.Layout.{listSize, cellWords}
 use Rattle.points.specs.Step.{inRange}
 use Rattle.file.specs.File.{mark, version, headerSize, dimensionOf, axesOf, vertexCountOf, cellCountOf, stepsOf, kindOf, amountOf, filePoints, fileCells}
 

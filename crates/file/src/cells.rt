@@ -9,9 +9,9 @@ ghost use mathlib.Core.List.{_∷_};
 ghost use Prim.Native.Nat.{_+_, _*_, _<_, _≤_};
 ghost use lib.Dec.{eqb, leb};
 ghost use lib.ListN.{length, getD};
-ghost use lib.Seq.{sets};
 ghost use Rattle.words.specs.Records.{anyOf};
 ghost use Rattle.words.specs.Bytes.{wordsFrom};
+ghost use Rattle.words.specs.Placed.{placed};
 ghost use Rattle.rules.specs.Calls.{written};
 ghost use Rattle.simplex.specs.SignWords.{signWord};
 ghost use Rattle.complex.specs.Accept.{vertexBeyond, vertexTwice, repeats};
@@ -31,10 +31,7 @@ fn cell_at(b: &[u8], p: usize) -> usize
 fn no_sign(x: u8) -> bool
     ensures { λ r. ⌜ r ≡ not (eqb x 43 || eqb x 45) ⌝ }
 {
-    if x == 43 {
-        return false;
-    }
-    x != 45
+    !((x == 43) | (x == 45))
 }
 
 // Row 6: a sign byte that is neither plus nor minus.
@@ -156,7 +153,7 @@ pub fn words(b: &[u8]) -> usize
 // Writes the sign word and the m vertices of the cell at `at` to the places from `to`.
 fn write_cell(b: &[u8], at: usize, m: usize, out: &mut [u16], to: usize)
     requires { ⌜ (at + 1 + m * 2 ≤ length (now b)) × (to + 1 + m ≤ length (now out)) ⌝ }
-    ensures { λ _. ⌜ now (out .exit) ≡ sets (now (out .entry)) to (signWord (eqb (getD (now (b .entry)) at 0) 43) ∷ wordsFrom (now (b .entry)) (at + 1) m) ⌝ }
+    ensures { λ _. ⌜ now (out .exit) ≡ placed to (signWord (eqb (getD (now (b .entry)) at 0) 43) ∷ wordsFrom (now (b .entry)) (at + 1) m) (now (out .entry)) ⌝ }
 {
     out[to] = sign_word(b[at] == 43);
     copy::copy16(b, at + 1, m, out, to + 1);

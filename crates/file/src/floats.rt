@@ -16,7 +16,7 @@ ghost use Rattle.file.specs.Tests.{floatsOk};
 
 // Whether the float at a place is finite, and of magnitude below 1,048,576. An exponent field of 2047 is an infinity's
 // or a NaN's.
-pub fn in_range(b: &[u8], at: usize) -> bool
+fn in_range(b: &[u8], at: usize) -> bool
     requires { ⌜ at + 8 ≤ length (now b) ⌝ }
     ensures { λ r. ⌜ r ≡ inRange (float64 (now (b .entry)) at) ⌝ }
 {
@@ -29,7 +29,7 @@ pub fn in_range(b: &[u8], at: usize) -> bool
 }
 
 // The float at a place, one in range.
-pub fn float_at(b: &[u8], at: usize) -> f64
+pub(crate) fn float_at(b: &[u8], at: usize) -> f64
     requires { ⌜ (at + 8 ≤ length (now b)) × (inRange (float64 (now b) at) ≡ true) ⌝ }
     ensures { λ r. ⌜ r ≡ float64 (now (b .entry)) at ⌝ }
 {
@@ -40,12 +40,7 @@ fn amounts_in_range(b: &[u8]) -> bool
     requires { ⌜ headerSize ≤ length (now b) ⌝ }
     ensures { λ r. ⌜ r ≡ allOf inRange (tabulate 3 (amountOf (now (b .entry)))) ⌝ }
 {
-    if in_range(b, 16) {
-        if in_range(b, 24) {
-            return in_range(b, 32);
-        }
-    }
-    false
+    in_range(b, 16) & (in_range(b, 24) & in_range(b, 32))
 }
 
 fn points_in_range(b: &[u8]) -> bool
@@ -69,10 +64,7 @@ pub fn out_of_range(b: &[u8]) -> bool
     requires { ⌜ length (now b) ≡ fileLength (now b) ⌝ }
     ensures { λ r. ⌜ r ≡ not (floatsOk (now (b .entry))) ⌝ }
 {
-    if amounts_in_range(b) {
-        return !points_in_range(b);
-    }
-    true
+    !(amounts_in_range(b) & points_in_range(b))
 }
 
 // Writes the points from the start of `out`.

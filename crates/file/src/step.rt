@@ -42,21 +42,13 @@ fn unused_set(b: &[u8]) -> bool
 {
     let kind = numbers::byte_at(b, 13);
     if kind == 1 {
-        if numbers::byte_at(b, 15) != 0 {
-            return true;
-        }
-        if little::word64(b, 24) != 0 {
-            return true;
-        }
-        return little::word64(b, 32) != 0;
+        return (numbers::byte_at(b, 15) != 0)
+            | ((little::word64(b, 24) != 0) | (little::word64(b, 32) != 0));
     }
     if kind == 2 {
         return little::word64(b, 32) != 0;
     }
-    if numbers::byte_at(b, 14) != 0 {
-        return true;
-    }
-    numbers::byte_at(b, 15) != 0
+    (numbers::byte_at(b, 14) != 0) | (numbers::byte_at(b, 15) != 0)
 }
 
 // Row 5: a step that does not fit its space, or an unused part that is not zero.
@@ -65,8 +57,5 @@ pub fn step_unfit(b: &[u8]) -> bool
     ensures { λ r. ⌜ r ≡ (not (stepFits (axesOf (now (b .entry))) (stepOf (now (b .entry)))) || unusedSet (now (b .entry))) ⌝ }
 {
     let n = numbers::axes(b);
-    if step(b).fits(n) {
-        return unused_set(b);
-    }
-    true
+    !step(b).fits(n) | unused_set(b)
 }

@@ -21,7 +21,7 @@ use Rattle.rules.specs.Calls.{Outcome, refused}
 use Rattle.rules.specs.Limits.{maxDimension, axesOk}
 use Rattle.rules.specs.Shapes.{shapeOk}
 use Rattle.rules.proofs.Tests.{and-parts}
-use Rattle.complex.specs.Layout.{tableLength}
+use Rattle.records.specs.Layout.{tableLength}
 use Rattle.points.specs.Step.{inRange}
 use Rattle.list.specs.Listing.{listInput, listRules, listOutcome, listBuffer}
 use Rattle.list.proofs.ListCases.{list-limits}

@@ -10,7 +10,7 @@ use Rattle.words.specs.Bytes.{words16}
 use Rattle.rules.specs.Limits.{maxDimension, axesOk}
 use Rattle.rules.specs.Shapes.{shapeOk}
 use Rattle.rules.specs.Calls.{Outcome, refused, after}
-use Rattle.complex.specs.Layout.{tableLength}
+use Rattle.records.specs.Layout.{tableLength}
 use Rattle.list.specs.Listing.{ListInput, listInput, listText, listOutcome}
 use Rattle.hosting.specs.Floats.{floats64}
 

@@ -4,14 +4,13 @@ ghost use mathlib.Core.Bool.{true};
 ghost use Prim.Native.Nat.{_+_, _*_, _/_, _≤_};
 ghost use lib.Ieee.{binary64, ofBits, toBits};
 ghost use lib.ListN.{length};
-ghost use lib.Seq.{sets};
 ghost use Rattle.words.specs.Records.{allOf};
+ghost use Rattle.words.specs.Placed.{placed};
 ghost use Rattle.rules.specs.Calls.{written};
 ghost use Rattle.points.specs.Step.{inRange};
 ghost use Rattle.hosting.specs.Floats.{floats64, lowBytes, floatBytes};
-use file::floats::float_at;
-use file::floats::in_range;
 use points::range;
+use words::little;
 
 // Whether all floats of the bytes are in range.
 pub fn all_in_range(b: &[u8]) -> bool
@@ -20,7 +19,7 @@ pub fn all_in_range(b: &[u8]) -> bool
     let count = b.len() / 8;
     let mut k: usize = 0;
     while k < count {
-        if in_range(b, k * 8) {
+        if bits_in_range(little::word64(b, k * 8)) {
             k += 1;
         } else {
             return false;
@@ -37,7 +36,7 @@ pub fn decode(b: &[u8], out: &mut [f64])
     let count = b.len() / 8;
     let mut k: usize = 0;
     while k < count {
-        out[k] = float_at(b, k * 8);
+        out[k] = float_of(little::word64(b, k * 8));
         k += 1;
     }
 }
@@ -64,7 +63,7 @@ pub fn float_of(bits: u64) -> f64
 // Writes the 8 bytes of a float from `at`, the lowest first.
 fn put_float(x: f64, out: &mut [u8], at: usize)
     requires { ⌜ (inRange x ≡ true) × (at + 8 ≤ length (now out)) ⌝ }
-    ensures { λ _. ⌜ now (out .exit) ≡ sets (now (out .entry)) at (lowBytes 8 (toBits binary64 x)) ⌝ }
+    ensures { λ _. ⌜ now (out .exit) ≡ placed at (lowBytes 8 (toBits binary64 x)) (now (out .entry)) ⌝ }
 {
     let mut bits = f64::to_bits(x);
     let mut to = at;

@@ -5,18 +5,27 @@ ghost use Prim.Native.Nat.{_*_, _≤_};
 ghost use lib.Dec.{eqb};
 ghost use lib.ListN.{length};
 ghost use Rattle.words.specs.Records.{allOf};
+ghost use Rattle.rules.specs.Limits.{maxDimension, axesOk};
+ghost use Rattle.rules.specs.Shapes.{shapeOk};
 ghost use Rattle.rules.specs.Numbers.{outcomeOf};
-ghost use Rattle.complex.specs.Layout.{tableLength};
+ghost use Rattle.records.specs.Layout.{tableLength};
 ghost use Rattle.points.specs.Step.{inRange};
 ghost use Rattle.list.specs.Listing.{listOutcome, listBuffer};
 ghost use Rattle.hosting.specs.Floats.{floats64};
 ghost use Rattle.hosting.specs.Lists.{hostListInput, hostListOutcome, hostListBuffer};
 use crate::floats;
 use list::list;
-use list::numbers_fit;
+use rules::limits::Shape;
 use rules::refusal::Answer;
 use rules::refusal::Refusal;
 use words::copy;
+
+// Row 2.
+fn numbers_fit(d: usize, n: usize, v: usize, s: usize) -> bool
+    ensures { λ r. ⌜ r ≡ (shapeOk maxDimension d v s && axesOk n) ⌝ }
+{
+    Shape::within(Shape::MAX_DIMENSION, d, v, s) & ((1 <= n) & (n <= Shape::MAX_AXES))
+}
 
 // Row 3: two bytes for each word of the table, eight for each float of the points.
 fn lengths_fit(d: usize, n: usize, v: usize, s: usize, table: usize, points: usize) -> bool

@@ -19,8 +19,8 @@ use crate::step_bits::step_in_range;
 use crate::step_bits::step_of;
 use crate::step_bits::step_unfit;
 use motion::move_points;
-use motion::numbers_ok;
 use points::step::Step;
+use rules::limits::Shape;
 use rules::refusal::Answer;
 use rules::refusal::Refusal;
 
@@ -28,13 +28,9 @@ use rules::refusal::Refusal;
 fn numbers_fit(n: usize, v: usize, h: usize, kind: usize) -> bool
     ensures { λ r. ⌜ r ≡ ((axesOk n && (verticesOk v && stepsOk h)) && within 1 3 kind) ⌝ }
 {
-    if !numbers_ok(n, v, h) {
-        return false;
-    }
-    if kind < 1 {
-        return false;
-    }
-    kind <= 3
+    ((1 <= n) & (n <= Shape::MAX_AXES))
+        & (((1 <= v) & (v <= Shape::MAX_VERTICES)) & ((1 <= h) & (h <= Shape::MAX_STEPS)))
+        & ((1 <= kind) & (kind <= 3))
 }
 
 // Row 3.

@@ -23,7 +23,8 @@ use Rattle.read.specs.declared.Header.{Header}
 use Rattle.read.specs.Read.{readOutcome}
 use Rattle.printing.specs.Decimal.{digit, digits, digitsUpTo}
 use Rattle.list.specs.Listing.{listText, listOutcome}
-use Rattle.marking.specs.Key.{inputLimit, byteRoom, thenCall, readIn, wingIn, sweepIn, moveIn, listIn, callsOn, keyOutcome, spoken, printed, textOutcome, textBuffer}
+use Rattle.marking.specs.Key.{inputLimit, byteRoom, thenCall, readIn, wingIn, sweepIn, moveIn, listIn, callsOn, keyOutcome, spoken, printed}
+use Rattle.marking.specs.Key.{textOutcome, textBuffer}
 use Rattle.marking.proofs.Staged.{list-long}
 
 digits-short : (k n : ℕ) → length (digitsUpTo k n) ≤ suc k
@@ -81,7 +82,8 @@ module _ (b : List ℕ) where
     unfolding textOutcome
     taken = rw enough refl
 
-    pub text-written : (new : List ℕ) (n : ℕ) → accepted n ≡ textOutcome b (length out) → new ≡ textBuffer b out → (n ≤ length new) × (take n new ≡ printed b)
+    pub text-written : (new : List ℕ) (n : ℕ) → accepted n ≡ textOutcome b (length out) →
+        new ≡ textBuffer b out → (n ≤ length new) × (take n new ≡ printed b)
     unfolding textBuffer
     text-written new n a e =
         let count : n ≡ length (printed b) = let q = a ∙ taken in cc in

@@ -17,11 +17,12 @@ use Rattle.rules.specs.Limits.{axesOk, verticesOk, within, maxCells}
 use Rattle.rules.specs.Shapes.{shapeOk}
 use Rattle.rules.specs.Calls.{Outcome, accepted, refused, after}
 use Rattle.rules.proofs.Tests.{and-parts}
-use Rattle.complex.specs.Layout.{tableLength}
+use Rattle.records.specs.Layout.{tableLength}
 use Rattle.complex.specs.Table.{sound}
 use Rattle.points.specs.Step.{inRange}
-use Rattle.printing.specs.Put.{Put}
-use Rattle.listing.specs.Parts.{Points, Table}
+use Rattle.words.specs.Placed.{Put}
+use Rattle.records.specs.Inside.{Table}
+use Rattle.listing.specs.Parts.{Points}
 use Rattle.list.specs.Listing.{ListInput, listText, listRules, listOutcome, listBuffer}
 
 pub record ListLimits (d n v s : ℕ) : Type 0 where
@@ -64,7 +65,7 @@ module _ (i : ListInput) where
   told a b c =
       let limits = list-limits (i .d) (i .n) (i .v) (i .s) a in
       let long = and-parts (eqb (length (i .table)) (tableLength (i .d) (i .s))) (eqb (length (i .points)) (i .v * i .n)) b in (
-        record { most = limits .dimension; cells = limits .cells; long = eqb-true _ _ (long .0) },
+        record { dimension = limits .dimension; cells = limits .cells; long = eqb-true _ _ (long .0) },
         record { axes = limits .axes; vertices = limits .vertices; long = eqb-true _ _ (long .1); ranged = c },
       )
 
@@ -99,6 +100,6 @@ module _ (i : ListInput) where
   pub written-text : (out : List ℕ) (next : ℕ) (new : List ℕ) → listOutcome i ≡ accepted (length (listText i)) → Put 0 (listText i) out next new → new ≡ listBuffer i out
   unfolding listBuffer
   written-text out next new e p =
-      p .bytes
+      p .content
       ∙ placed-first (listText i) out
       ∙ sym (ap (λ (o : Outcome ℕ). after o (listText i) out) e)

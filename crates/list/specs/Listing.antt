@@ -12,7 +12,7 @@ use Rattle.words.specs.Records.{allOf}
 use Rattle.rules.specs.Limits.{maxDimension, axesOk}
 use Rattle.rules.specs.Shapes.{shapeOk}
 use Rattle.rules.specs.Calls.{Rule, refuse, Outcome, decide, after}
-use Rattle.complex.specs.Layout.{entriesOf, tableLength}
+use Rattle.records.specs.Layout.{entriesOf, tableLength}
 use Rattle.complex.specs.Table.{sound}
 use Rattle.boundary.specs.Boundary.{boundaryOf}
 use Rattle.points.specs.Step.{inRange}

@@ -14,11 +14,11 @@ ghost use lib.ListN.{length};
 ghost use Rattle.rules.specs.Limits.{maxDimension, axesOk};
 ghost use Rattle.rules.specs.Shapes.{shapeOk};
 ghost use Rattle.rules.specs.Numbers.{outcomeOf};
-ghost use Rattle.complex.specs.Layout.{tableLength};
+ghost use Rattle.records.specs.Layout.{tableLength};
 ghost use Rattle.list.specs.Listing.{listInput, listOutcome, listBuffer};
 
 // Row 2.
-pub fn numbers_fit(d: usize, n: usize, v: usize, s: usize) -> bool
+fn numbers_fit(d: usize, n: usize, v: usize, s: usize) -> bool
     ensures { λ r. ⌜ r ≡ (shapeOk maxDimension d v s && axesOk n) ⌝ }
 {
     if !Shape::within(Shape::MAX_DIMENSION, d, v, s) {

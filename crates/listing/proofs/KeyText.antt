@@ -15,8 +15,8 @@ use lib.ListN.{length}
 use Rattle.simplex.specs.Cell.{Cell}
 use Rattle.printing.specs.Decimal.{digits}
 use Rattle.printing.specs.Fields.{line}
-use Rattle.printing.specs.Put.{Put}
-use Rattle.printing.proofs.Placing.{Left, left-start, left-fits, left-step, left-last}
+use Rattle.words.specs.Placed.{Put}
+use Rattle.words.proofs.Writing.{Left, left-starts, left-fits, left-goes, left-last}
 use Rattle.listing.specs.Lines.{keyWord, firstLine, vertexLines, faceLines, keyText}
 
 abbrev pub countsText : ℕ → ℕ → ℕ → ℕ → List ℕ
@@ -36,18 +36,18 @@ module _ (d n v : ℕ) (ps : List Float) (fs : List Cell) (f : ℕ) (e : f ≡ l
 
   module _ (buf : List ℕ) (room : length (keyText d n v ps fs) ≤ length buf) where
     start : Left 0 pieces buf 0 pieces buf
-    start = left-start 0 pieces buf (omega (arith, room, ap length key-pieces))
+    start = left-starts 0 pieces buf (omega (arith, room, ap length key-pieces))
 
     pub first-fits : 0 + length (countsText d n v f) ≤ length buf
     first-fits = left-fits (countsText d n v f) lines start
 
     module _ {cur : ℕ} {one : List ℕ} (first : Put 0 (countsText d n v f) buf cur one) where
       pub vertices-left : Left 0 pieces buf cur lines one
-      vertices-left = left-step (countsText d n v f) lines cur one start first
+      vertices-left = left-goes (countsText d n v f) lines cur one start first
 
       module _ {next : ℕ} {two : List ℕ} (vertices : Put cur (vertexLines n v ps) one next two) where
         pub faces-left : Left 0 pieces buf next (faceLines fs) two
-        faces-left = left-step (vertexLines n v ps) (faceLines fs) next two vertices-left vertices
+        faces-left = left-goes (vertexLines n v ps) (faceLines fs) next two vertices-left vertices
 
         pub key-put : {last : ℕ} {new : List ℕ} → Put next (faceLines fs) two last new → Put 0 (keyText d n v ps fs) buf last new
         key-put {last} {new} faces = subst (λ text. Put 0 text buf last new) (sym key-pieces) (left-last (faceLines fs) last new faces-left faces)

@@ -2,7 +2,5 @@
 pub mod Bounds
 pub mod Runs
 pub mod FaceText
-pub mod TableFaces
-pub mod FaceCount
 pub mod KeyText
 pub mod Examples

@@ -1,17 +1,19 @@
-// The lines of the boundary faces: their count and lengths, and written. `base` is the word at which a table's record
-// begins: sign word, d + 1 vertices, d + 1 wings.
+// The lines of the boundary faces: their count and lengths, and written. A face's vertices go to a small array.
+use boundary::face::face_sign;
+use boundary::face::face_vertex;
+use boundary::walk::next_face;
 use printing::fields::fields_len;
-use printing::lines::face_line;
+use printing::lines::first_line;
 ghost use mathlib.Core.Path.{_≡_};
 ghost use mathlib.Core.List.{[], _∷_};
 ghost use Prim.Native.Nat.{_+_, _≤_};
-ghost use lib.ListN.{length};
-ghost use Rattle.simplex.specs.Cell.{times, alternating};
-ghost use Rattle.simplex.specs.Faces.{face};
+ghost use lib.ListN.{length, take};
 ghost use Rattle.simplex.specs.SignWords.{signOf};
-ghost use Rattle.printing.specs.Put.{Put};
+ghost use Rattle.records.specs.Inside.{Table, Inside};
+ghost use Rattle.boundary.specs.Walk.{faceAt, tableFaces};
+ghost use Rattle.words.specs.Placed.{Put};
 ghost use Rattle.listing.specs.Lines.{signText, faceLine, faceLines};
-ghost use Rattle.listing.specs.Parts.{recordAt, boundaryFaces, RecordOf, FaceOf, SizeOf, Table, facesOf};
+ghost use Rattle.listing.specs.Parts.{SizeOf};
 
 // How many faces, and how many bytes their lines have.
 pub struct Size {
@@ -19,116 +21,81 @@ pub struct Size {
     pub bytes: usize,
 }
 
-// The sign of face i of a cell with this sign word.
-fn sign_byte(word: u16, i: usize) -> u8
-    ensures { λ r. ⌜ r ∷ [] ≡ signText (times (alternating i) (signOf word)) ⌝ }
+fn sign_byte(word: u16) -> u8
+    ensures { λ r. ⌜ r ∷ [] ≡ signText (signOf word) ⌝ }
 {
-    if i % 2 == 0 {
-        if word == 0 {
-            return b'+';
-        }
-        return b'-';
-    }
     if word == 0 {
-        return b'-';
+        return b'+';
     }
-    b'+'
+    b'-'
 }
 
-fn face_len(d: usize, base: usize, i: usize, table: &[u16]) -> usize
-    requires { ⌜ FaceOf d base i (now table) ⌝ }
-    ensures { λ r. ⌜ r ≡ length (faceLine (face i (recordAt d base (now (table .entry)) .cell))) ⌝ }
+// The vertices of face a of cell p go to the start of the row.
+fn fill_row(d: usize, s: usize, table: &[u16], p: usize, a: usize, row: &mut [u16])
+    requires { ⌜ Inside d s p (now table) × (a ≤ d) × (d ≤ length (now row)) ⌝ }
+    ensures { λ _. ⌜ take d (now (row .exit)) ≡ faceAt d (now (table .entry)) p a .row ⌝ }
 {
-    let first = base + 1;
-    let skip = first + i;
-    let next = skip + 1;
-    let last = first + d + 1;
-    2 + fields_len(&table[first..skip]) + fields_len(&table[next..last])
-}
-
-fn put_face(d: usize, base: usize, i: usize, table: &[u16], buf: &mut [u8], at: usize) -> usize
-    requires { ⌜ FaceOf d base i (now table) × (at + length (faceLine (face i (recordAt d base (now table) .cell))) ≤ length (now buf)) ⌝ }
-    ensures { λ r. ⌜ Put at (faceLine (face i (recordAt d base (now (table .entry)) .cell))) (now (buf .entry)) r (now (buf .exit)) ⌝ }
-{
-    let sign = [sign_byte(table[base], i)];
-    let first = base + 1;
-    let skip = first + i;
-    let next = skip + 1;
-    let last = first + d + 1;
-    face_line(buf, at, &sign, &table[first..skip], &table[next..last])
-}
-
-// The boundary faces of one record, by position.
-fn cell_size(d: usize, base: usize, table: &[u16]) -> Size
-    requires { ⌜ RecordOf d base (now table) ⌝ }
-    ensures { λ r. ⌜ SizeOf (boundaryFaces (recordAt d base (now (table .entry)))) (r .count) (r .bytes) ⌝ }
-    ensures { λ r. ⌜ (r .count ≤ 8) × (r .bytes ≤ 2048) ⌝ }
-{
-    let wings = base + d + 2;
-    let mut count: usize = 0;
-    let mut bytes: usize = 0;
-    let mut i: usize = 0;
-    while i <= d {
-        if table[wings + i] == 65535 {
-            count += 1;
-            bytes += face_len(d, base, i, table);
-        }
-        i += 1;
+    let mut k: usize = 0;
+    while k < d {
+        row[k] = face_vertex(d, s, table, p, a, k);
+        k += 1;
     }
-    Size { count, bytes }
 }
 
-fn put_cell(d: usize, base: usize, table: &[u16], buf: &mut [u8], at: usize) -> usize
-    requires { ⌜ RecordOf d base (now table) × (at + length (faceLines (boundaryFaces (recordAt d base (now table)))) ≤ length (now buf)) ⌝ }
-    ensures { λ r. ⌜ Put at (faceLines (boundaryFaces (recordAt d base (now (table .entry))))) (now (buf .entry)) r (now (buf .exit)) ⌝ }
+fn face_len(d: usize, s: usize, table: &[u16], p: usize, a: usize) -> usize
+    requires { ⌜ Inside d s p (now table) × (a ≤ d) ⌝ }
+    ensures { λ r. ⌜ r ≡ length (faceLine (faceAt d (now (table .entry)) p a)) ⌝ }
+    ensures { λ r. ⌜ r ≤ 256 ⌝ }
 {
-    let wings = base + d + 2;
-    let mut cur = at;
-    let mut i: usize = 0;
-    while i <= d {
-        if table[wings + i] == 65535 {
-            cur = put_face(d, base, i, table, buf, cur);
-        }
-        i += 1;
-    }
-    cur
+    let mut row = [0u16; 8];
+    fill_row(d, s, table, p, a, &mut row);
+    2 + fields_len(&row[..d])
 }
 
-// The boundary faces of a table. There are none in dimension 0.
+fn put_face(
+    d: usize,
+    s: usize,
+    table: &[u16],
+    p: usize,
+    a: usize,
+    buf: &mut [u8],
+    at: usize,
+) -> usize
+    requires { ⌜ Inside d s p (now table) × (a ≤ d) × (at + length (faceLine (faceAt d (now table) p a)) ≤ length (now buf)) ⌝ }
+    ensures { λ r. ⌜ Put at (faceLine (faceAt d (now (table .entry)) p a)) (now (buf .entry)) r (now (buf .exit)) ⌝ }
+{
+    let sign = [sign_byte(face_sign(d, s, table, p, a))];
+    let mut row = [0u16; 8];
+    fill_row(d, s, table, p, a, &mut row);
+    first_line(buf, at, &sign, &row[..d])
+}
+
+// The boundary faces of a table.
 pub(crate) fn faces_size(d: usize, s: usize, table: &[u16]) -> Size
     requires { ⌜ Table d s (now table) ⌝ }
-    ensures { λ r. ⌜ SizeOf (facesOf d s (now (table .entry))) (r .count) (r .bytes) ⌝ }
+    ensures { λ r. ⌜ SizeOf (tableFaces d s (now (table .entry))) (r .count) (r .bytes) ⌝ }
     ensures { λ r. ⌜ (r .count ≤ 32768) × (r .bytes ≤ 8388608) ⌝ }
 {
     let mut count: usize = 0;
     let mut bytes: usize = 0;
-    if d == 0 {
-        return Size { count, bytes };
-    }
-    let size = d + d + 3;
-    let mut p: usize = 0;
-    while p < s {
-        let cell = cell_size(d, p * size, table);
-        count += cell.count;
-        bytes += cell.bytes;
-        p += 1;
+    let mut at = next_face(d, s, table, 0, 0);
+    while at.cell < s {
+        count += 1;
+        bytes += face_len(d, s, table, at.cell, at.position);
+        at = next_face(d, s, table, at.cell, at.position + 1);
     }
     Size { count, bytes }
 }
 
 pub(crate) fn put_faces(d: usize, s: usize, table: &[u16], buf: &mut [u8], at: usize) -> usize
-    requires { ⌜ Table d s (now table) × (at + length (faceLines (facesOf d s (now table))) ≤ length (now buf)) ⌝ }
-    ensures { λ r. ⌜ Put at (faceLines (facesOf d s (now (table .entry)))) (now (buf .entry)) r (now (buf .exit)) ⌝ }
+    requires { ⌜ Table d s (now table) × (at + length (faceLines (tableFaces d s (now table))) ≤ length (now buf)) ⌝ }
+    ensures { λ r. ⌜ Put at (faceLines (tableFaces d s (now (table .entry)))) (now (buf .entry)) r (now (buf .exit)) ⌝ }
 {
-    if d == 0 {
-        return at;
-    }
-    let size = d + d + 3;
     let mut cur = at;
-    let mut p: usize = 0;
-    while p < s {
-        cur = put_cell(d, p * size, table, buf, cur);
-        p += 1;
+    let mut place = next_face(d, s, table, 0, 0);
+    while place.cell < s {
+        cur = put_face(d, s, table, place.cell, place.position, buf, cur);
+        place = next_face(d, s, table, place.cell, place.position + 1);
     }
     cur
 }

@@ -9,9 +9,11 @@ use printing::lines::first_line;
 ghost use mathlib.Core.Path.{_≡_};
 ghost use Prim.Native.Nat.{_≤_};
 ghost use lib.ListN.{length};
-ghost use Rattle.printing.specs.Put.{Put};
+ghost use Rattle.records.specs.Inside.{Table};
+ghost use Rattle.boundary.specs.Walk.{tableFaces};
+ghost use Rattle.words.specs.Placed.{Put};
 ghost use Rattle.listing.specs.Lines.{firstLine, keyText};
-ghost use Rattle.listing.specs.Parts.{Points, Table, facesOf, KeySize};
+ghost use Rattle.listing.specs.Parts.{Points, KeySize};
 
 fn first_len(d: usize, n: usize, v: usize, faces: usize) -> usize
     ensures { λ r. ⌜ r ≡ length (firstLine d n v faces) ⌝ }
@@ -27,7 +29,7 @@ fn first_len(d: usize, n: usize, v: usize, faces: usize) -> usize
 // How many faces the key has, and how many bytes.
 pub fn key_size(d: usize, n: usize, v: usize, s: usize, table: &[u16], points: &[f64]) -> Size
     requires { ⌜ Table d s (now table) × Points n v (now points) ⌝ }
-    ensures { λ r. ⌜ KeySize d n v (now (points .entry)) (facesOf d s (now (table .entry))) (r .count) (r .bytes) ⌝ }
+    ensures { λ r. ⌜ KeySize d n v (now (points .entry)) (tableFaces d s (now (table .entry))) (r .count) (r .bytes) ⌝ }
 {
     let faces = faces_size(d, s, table);
     let count = faces.count;
@@ -46,9 +48,9 @@ pub fn put_key(
     points: &[f64],
     buf: &mut [u8],
 ) -> usize
-    requires { ⌜ Table d s (now table) × Points n v (now points) × (faces ≡ length (facesOf d s (now table)))
-        × (length (keyText d n v (now points) (facesOf d s (now table))) ≤ length (now buf)) ⌝ }
-    ensures { λ r. ⌜ Put 0 (keyText d n v (now (points .entry)) (facesOf d s (now (table .entry)))) (now (buf .entry)) r (now (buf .exit)) ⌝ }
+    requires { ⌜ Table d s (now table) × Points n v (now points) × (faces ≡ length (tableFaces d s (now table)))
+        × (length (keyText d n v (now points) (tableFaces d s (now table))) ≤ length (now buf)) ⌝ }
+    ensures { λ r. ⌜ Put 0 (keyText d n v (now (points .entry)) (tableFaces d s (now (table .entry)))) (now (buf .entry)) r (now (buf .exit)) ⌝ }
 {
     let counts = [d as u16, n as u16, v as u16, faces as u16];
     let first = first_line(buf, 0, b"key", &counts);

@@ -5,7 +5,7 @@ use printing::lines::vertex_line;
 ghost use mathlib.Core.Path.{_≡_};
 ghost use Prim.Native.Nat.{_+_, _≤_};
 ghost use lib.ListN.{length};
-ghost use Rattle.printing.specs.Put.{Put};
+ghost use Rattle.words.specs.Placed.{Put};
 ghost use Rattle.listing.specs.Lines.{vertexLine, vertexLines};
 ghost use Rattle.listing.specs.Parts.{VertexOf, Points};
 

@@ -29,8 +29,7 @@ use Rattle.read.specs.Read.{headerOf, readOutcome, readCells, readPoints, readR
 use Rattle.read.proofs.Outcomes.{right-length, rooms-parts}
 use Rattle.file.proofs.Parts.{points-length}
 use Rattle.file.proofs.Stores.{words-count}
-use Rattle.words.specs.Placed.{placed}
-use Rattle.printing.specs.Put.{Put}
+use Rattle.words.specs.Placed.{placed, Put}
 use Rattle.marking.specs.Key.{inputLimit, byteRoom, wordRoom, floatRoom, readIn, keyOutcome, spoken, printed, textOutcome, textBuffer}
 use Rattle.marking.specs.Stages.{counted, left, listKey, movedKey, sweptKey, wingedKey}
 
@@ -112,11 +111,11 @@ module _ (b : List ℕ) where
   text-fits out new r h p =
       let place : r ≡ length (printed b) = omega (arith, p .place) in
       let skip : 0 + length (printed b) ≡ length (printed b) = omega arith in
-      rw (le-ltb (length out) (length (printed b)) h) (ap accepted place, p .bytes ∙ ap (λ k. printed b ++ drop k out) skip)
+      rw (le-ltb (length out) (length (printed b)) h) (ap accepted place, p .content ∙ ap (λ k. printed b ++ drop k out) skip)
 
 pub put-front : (text old new : List ℕ) (r : ℕ) → Put 0 text old r new → (r ≡ length text) × ((r ≤ length new) × (take r new ≡ text))
 unfolding placed
 put-front text old new r p =
     let rest = drop (0 + length text) old in
     let place : r ≡ length text = omega (arith, p .place) in
-    (place, (omega (arith, ap length (p .bytes), length-append text rest), ap (take r) (p .bytes) ∙ take-at text rest r (sym place)))
+    (place, (omega (arith, ap length (p .content), length-append text rest), ap (take r) (p .content) ∙ take-at text rest r (sym place)))

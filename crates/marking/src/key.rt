@@ -4,7 +4,7 @@ ghost use Prim.Native.Nat.{_≤_};
 ghost use lib.ListN.{length, take};
 ghost use Rattle.rules.specs.Calls.{refused};
 ghost use Rattle.rules.specs.Numbers.{outcomeOf};
-ghost use Rattle.printing.specs.Put.{Put};
+ghost use Rattle.words.specs.Placed.{Put};
 ghost use Rattle.marking.specs.Key.{byteRoom, spoken, printed, textOutcome, textBuffer};
 use crate::stages::page_key;
 use printing::writing::put_byte;

@@ -45,7 +45,8 @@ pub last-bounds : (q : ℕ → Bool) (m i : ℕ) → i < m → q i ≡ true → 
 last-bounds q zero i h p = absurd (not-suc-le-zero h)
 last-bounds q (suc m) i h p = go (last-bounds q m i) (q m) refl
   where
-    go : (i < m → q i ≡ true → (lastBelow q m < m) × (i ≤ lastBelow q m)) → (t : Bool) → q m ≡ t → (cond t m (lastBelow q m) < suc m) × (i ≤ cond t m (lastBelow q m))
+    go : (i < m → q i ≡ true → (lastBelow q m < m) × (i ≤ lastBelow q m)) → (t : Bool) →
+        q m ≡ t → (cond t m (lastBelow q m) < suc m) × (i ≤ cond t m (lastBelow q m))
     go ih true e = omega arith
     go ih false e =
         ⊎-elim
@@ -121,14 +122,16 @@ module _ (key : ℕ → Row) (g : ℕ) where
 -- what `earlier` says of keys
 module _ (rows : List ℕ) (k w first g : ℕ) where
   -- there is none, or it is an earlier key with the same row
-  pub earlier-same : (earlier rows k w first g ≡ 65535) ⊎ ((earlier rows k w first g < g) × (keyRow rows k w first (earlier rows k w first g) ≡ keyRow rows k w first g))
+  pub earlier-same : (earlier rows k w first g ≡ 65535)
+      ⊎ ((earlier rows k w first g < g) × (keyRow rows k w first (earlier rows k w first g) ≡ keyRow rows k w first g))
   unfolding earlier
   earlier-same =
       ⊎-elim (λ h. inl h) (λ h. inr (h .0, sameRow-true _ _ (h .1)))
       (last-passes (λ f. sameRow (keyRow rows k w first f) (keyRow rows k w first g)) g)
 
   -- an earlier key with the same row is at most that one
-  pub earlier-last : (f : ℕ) → f < g → keyRow rows k w first f ≡ keyRow rows k w first g → (earlier rows k w first g < g) × (f ≤ earlier rows k w first g)
+  pub earlier-last : (f : ℕ) → f < g → keyRow rows k w first f ≡ keyRow rows k w first g →
+      (earlier rows k w first g < g) × (f ≤ earlier rows k w first g)
   unfolding earlier
   earlier-last f h e =
       last-bounds (λ f. sameRow (keyRow rows k w first f) (keyRow rows k w first g)) g f h

@@ -20,14 +20,16 @@ use Rattle.matching.proofs.KeptRows.{take-past}
 use Rattle.matching.proofs.Quotients.{cell-of-key, place-of-key}
 
 -- what is stored at m, and what stood below it
-one-more : (P : ℕ → ℕ) (l : List ℕ) (m x : ℕ) → m < length l → x ≡ P m → ((f : ℕ) → f < m → getD l f 0 ≡ P f) → (f : ℕ) → f < m + 1 → getD (set l m x) f 0 ≡ P f
+one-more : (P : ℕ → ℕ) (l : List ℕ) (m x : ℕ) → m < length l → x ≡ P m →
+    ((f : ℕ) → f < m → getD l f 0 ≡ P f) → (f : ℕ) → f < m + 1 → getD (set l m x) f 0 ≡ P f
 one-more P l m x h e all f b =
     ⊎-elim
     (λ q. subst⁻¹ (λ (i : ℕ). getD (set l m x) i 0 ≡ P i) q (getD-set-same l m x 0 h ∙ e))
     (λ less. getD-set-other l m f x 0 (ne-of-lt less) ∙ all f less)
     (eq-or-lt-of-le (le-of-suc-le-suc (subst (λ (i : ℕ). f < i) (add-one m) b)))
 
-module _ (key : ℕ → Row) (head prev : List ℕ) (m b : ℕ) (h : m < 32768) (e : b ≡ bucketOf (key m)) (hb : b < 32768) (k : Linking key head prev m) where
+module _ (key : ℕ → Row) (head prev : List ℕ) (m b : ℕ) (h : m < 32768)
+    (e : b ≡ bucketOf (key m)) (hb : b < 32768) (k : Linking key head prev m) where
   heads-more : Heads key (set head b m) (m + 1)
   unfolding lastIn
   heads-more c l =
@@ -63,7 +65,8 @@ pub behind-set : (n : ℕ) (l old : List ℕ) (m x : ℕ) → m < n → Behind n
 behind-set n l old m x h b g t = getD-set-other l m g x 0 (ne-of-gt (omega arith)) ∙ b g t
 
 -- the keys below g are linked and those from g on answered; one more is answered
-pub answered-more : (P : ℕ → ℕ) (l : List ℕ) (n g x : ℕ) → g < length l → x ≡ P g → ((f : ℕ) → g + 1 ≤ f → f < n → getD l f 0 ≡ P f) → (f : ℕ) → g ≤ f → f < n → getD (set l g x) f 0 ≡ P f
+pub answered-more : (P : ℕ → ℕ) (l : List ℕ) (n g x : ℕ) → g < length l → x ≡ P g →
+    ((f : ℕ) → g + 1 ≤ f → f < n → getD l f 0 ≡ P f) → (f : ℕ) → g ≤ f → f < n → getD (set l g x) f 0 ≡ P f
 answered-more P l n g x h e all f b t =
     ⊎-elim
     (λ q. subst (λ (i : ℕ). getD (set l g x) i 0 ≡ P i) q (getD-set-same l g x 0 h ∙ e))
@@ -79,7 +82,8 @@ module _ (p i w : ℕ) (h : i < w) where
   key-is rows k first = λ t. without (first + place-of-key p i w h t) (cellRow rows k (cell-of-key p i w h t))
 
   -- so its bucket is that of the cell less a position
-  pub bucket-is : (rows : List ℕ) (k first b : ℕ) → b ≡ bucketOf (without (first + i) (cellRow rows k p)) → b ≡ bucketOf (keyRow rows k w first (p * w + i))
+  pub bucket-is : (rows : List ℕ) (k first b : ℕ) → b ≡ bucketOf (without (first + i) (cellRow rows k p)) →
+      b ≡ bucketOf (keyRow rows k w first (p * w + i))
   bucket-is rows k first b e = e ∙ ap bucketOf (sym (key-is rows k first))
 
   pub key-below : p < 4096 → p * w + i < 4096 * w
@@ -94,5 +98,6 @@ whole-key rows k p = take-past k (k + p % 1) (part 8 (p / 1) rows) (omega arith)
 
 -- keys compared by their cells and positions
 module _ (rows : List ℕ) (k w first f x u g y v : ℕ) (ex : x ≡ f / w) (eu : u ≡ f % w) (ey : y ≡ g / w) (ev : v ≡ g % w) where
-  pub compared : (t : Bool) → t ≡ sameRow (without (first + u) (cellRow rows k x)) (without (first + v) (cellRow rows k y)) → t ≡ sameRow (keyRow rows k w first f) (keyRow rows k w first g)
+  pub compared : (t : Bool) → t ≡ sameRow (without (first + u) (cellRow rows k x)) (without (first + v) (cellRow rows k y)) →
+      t ≡ sameRow (keyRow rows k w first f) (keyRow rows k w first g)
   compared t e = e ∙ (λ i. sameRow (without (first + eu i) (cellRow rows k (ex i))) (without (first + ev i) (cellRow rows k (ey i))))

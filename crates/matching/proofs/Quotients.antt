@@ -1,7 +1,9 @@
 -- Keys counted by cell, and the cell of a key by a product.
 use mathlib.Core.Path.{_≡_, ap, subst, _∙_}
 use Prim.Native.Nat.{ℕ, _+_, _*_, _/_, _%_, _^_, _≤_, _<_}
-use native.Mathlib.Nat.{mul-add, add-mul, mul-assoc, mul-comm, suc-mul, one-mul, mul-one, add-zero, lt-of-le-of-lt, mul-le-mul, mul-le-mul-left, mul-le-mul-right, le-of-lt, mod-lt, mod-eq-of-lt, div-eq-of-lt, div-add-mod', div-le-self, div-eq-of-lt-le, mul-add-div-right, mul-add-mod-self-right}
+use native.Mathlib.Nat.{mul-add, add-mul, mul-assoc, mul-comm, suc-mul, one-mul, mul-one, add-zero, lt-of-le-of-lt, mul-le-mul, mul-le-mul-left}
+use native.Mathlib.Nat.{mul-le-mul-right, le-of-lt, mod-lt, mod-eq-of-lt, div-eq-of-lt, div-add-mod', div-le-self, div-eq-of-lt-le, mul-add-div-right}
+use native.Mathlib.Nat.{mul-add-mod-self-right}
 use native.Mathlib.Omega.{arith}
 use lib.Dec.{lit<}
 

@@ -42,7 +42,8 @@ weight-without (suc a) (x ∷ w) = omega (arith, weight-without a w)
 
 module _ (rows : List ℕ) (p : ℕ) where
   -- the sum of the first j + 1 terms
-  pub sum-more : (j sum t : ℕ) → j < 8 → sum ≡ weight (take j (part 8 p rows)) → t ≡ term (getD rows (p * 8 + j) 0) → sum + t ≡ weight (take (j + 1) (part 8 p rows))
+  pub sum-more : (j sum t : ℕ) → j < 8 → sum ≡ weight (take j (part 8 p rows)) →
+      t ≡ term (getD rows (p * 8 + j) 0) → sum + t ≡ weight (take (j + 1) (part 8 p rows))
   sum-more j sum t l e f =
       subst⁻¹ (λ (m : ℕ). sum + t ≡ weight (take m (part 8 p rows))) (add-one j)
       (omega (arith, weight-take j (part 8 p rows), ap term (part-at rows p j l)))

@@ -11,7 +11,7 @@ use mathlib.Core.Path.{_≡_}
 use Prim.Native.Nat.{ℕ, zero, suc, _+_, _/_, _%_, _<_, _≤_}
 use lib.ListN.{length, take, getD}
 use Rattle.words.specs.Records.{part}
-use Rattle.rules.specs.Limits.{empty}
+use Rattle.records.specs.Layout.{empty}
 use Rattle.simplex.specs.Cell.{Row, sameRow}
 use Rattle.simplex.specs.Faces.{without}
 

@@ -10,7 +10,7 @@ ghost use Rattle.rules.specs.Limits.{axesOk, verticesOk, stepsOk};
 ghost use Rattle.rules.specs.Numbers.{outcomeOf};
 ghost use Rattle.motion.specs.Move.{moveInput, moveOutcome, moveBuffer};
 
-pub fn numbers_ok(n: usize, v: usize, h: usize) -> bool
+fn numbers_ok(n: usize, v: usize, h: usize) -> bool
     ensures { λ r. ⌜ r ≡ (axesOk n && (verticesOk v && stepsOk h)) ⌝ }
 {
     if n < 1 {

@@ -1,7 +1,7 @@
 -- Whether a test passes at every element.
---   allOf-true, allOf-false               told by the elements at each index
+--   allOf-true                            told by the elements at each index
 --   allOf-append, allOf-concat            of joined lists
---   allOf-tabulate, allOf-tabulate-false, allOf-tabulate-at   of a tabulated list
+--   allOf-tabulate, allOf-tabulate-at     of a tabulated list
 --   and-one                               true is no further condition
 --   same-test                             two tests are equal if each is true where the other is
 -- Assumes nothing.
@@ -27,11 +27,7 @@ and-one false = refl
 and-true : (a b : Bool) → a ≡ true → b ≡ true → (a && b) ≡ true
 and-true a b p q = rw (p, q)
 
-and-false : (a b : Bool) → b ≡ false → (a && b) ≡ false
-and-false true b q = q
-and-false false b q = refl
-
-and-assoc : (a b c : Bool) → ((a && b) && c) ≡ (a && (b && c))
+pub and-assoc : (a b c : Bool) → ((a && b) && c) ≡ (a && (b && c))
 and-assoc true b c = refl
 and-assoc false b c = refl
 
@@ -39,11 +35,6 @@ module _ {ℓ} {A : Type ℓ} (q : A → Bool) where
   pub allOf-true : (z : A) (xs : List A) → ((k : ℕ) → k < length xs → q (getD xs k z) ≡ true) → allOf q xs ≡ true
   allOf-true z [] h = refl
   allOf-true z (x ∷ xs) h = and-true (q x) (allOf q xs) (h 0 (omega arith)) (allOf-true z xs (λ k l. h (suc k) (omega arith)))
-
-  pub allOf-false : (z : A) (xs : List A) (k : ℕ) → k < length xs → q (getD xs k z) ≡ false → allOf q xs ≡ false
-  allOf-false z [] k l e = absurd (not-suc-le-zero l)
-  allOf-false z (x ∷ xs) zero l e = rw e
-  allOf-false z (x ∷ xs) (suc k) l e = and-false (q x) (allOf q xs) (allOf-false z xs k (le-of-suc-le-suc l) e)
 
   pub allOf-append : (xs ys : List A) → allOf q (xs ++ ys) ≡ (allOf q xs && allOf q ys)
   allOf-append [] ys = refl
@@ -57,12 +48,6 @@ module _ {ℓ} {A : Type ℓ} (q : A → Bool) where
   allOf-tabulate zero f h = refl
   allOf-tabulate (suc n) f h =
       and-true (q (f 0)) (allOf q (tabulate n (λ i. f (suc i)))) (h 0 (omega arith)) (allOf-tabulate n (λ i. f (suc i)) (λ k l. h (suc k) (omega arith)))
-
-  pub allOf-tabulate-false : (n : ℕ) (f : ℕ → A) (k : ℕ) → k < n → q (f k) ≡ false → allOf q (tabulate n f) ≡ false
-  allOf-tabulate-false zero f k l e = absurd (not-suc-le-zero l)
-  allOf-tabulate-false (suc n) f zero l e = rw e
-  allOf-tabulate-false (suc n) f (suc k) l e =
-      and-false (q (f 0)) (allOf q (tabulate n (λ i. f (suc i)))) (allOf-tabulate-false n (λ i. f (suc i)) k (le-of-suc-le-suc l) e)
 
   pub allOf-tabulate-at : (n : ℕ) (f : ℕ → A) → allOf q (tabulate n f) ≡ true → (k : ℕ) → k < n → q (f k) ≡ true
   allOf-tabulate-at zero f e k l = absurd (not-suc-le-zero l)

@@ -4,7 +4,7 @@ ghost use mathlib.Core.Path.{_≡_};
 ghost use mathlib.Core.Bool.{true};
 ghost use Prim.Native.Nat.{_+_, _*_, _≤_};
 ghost use lib.ListN.{length, take, drop};
-ghost use lib.Seq.{paste};
+ghost use Rattle.words.specs.Placed.{placed};
 ghost use Rattle.rules.specs.Limits.{sweptVertices};
 ghost use Rattle.rules.specs.Calls.{written};
 ghost use Rattle.points.specs.Step.{stepFits};
@@ -49,7 +49,7 @@ pub fn all_stay(step: Step, n: usize, v: usize, h: usize, points: &[f64]) -> boo
 // Copies w floats from one place of out to a later one.
 fn copy_up(w: usize, from: usize, to: usize, out: &mut [f64])
     requires { ⌜ (from + w ≤ to) × (to + w ≤ length (now out)) ⌝ }
-    ensures { λ _. ⌜ now (out .exit) ≡ paste (now (out .entry)) to (take w (drop from (now (out .entry)))) w ⌝ }
+    ensures { λ _. ⌜ now (out .exit) ≡ placed to (take w (drop from (now (out .entry)))) (now (out .entry)) ⌝ }
 {
     let mut j: usize = 0;
     while j < w {
@@ -62,7 +62,7 @@ fn copy_up(w: usize, from: usize, to: usize, out: &mut [f64])
 fn move_level(step: Step, n: usize, v: usize, at: usize, out: &mut [f64])
     requires { ⌜ stepFits n step ≡ true ⌝ }
     requires { ⌜ at + v * n ≤ length (now out) ⌝ }
-    ensures { λ _. ⌜ now (out .exit) ≡ paste (now (out .entry)) at (movedAll step n v (take (v * n) (drop at (now (out .entry))))) (v * n) ⌝ }
+    ensures { λ _. ⌜ now (out .exit) ≡ placed at (movedAll step n v (take (v * n) (drop at (now (out .entry))))) (now (out .entry)) ⌝ }
 {
     let mut k: usize = 0;
     while k < v {
@@ -76,7 +76,7 @@ fn move_level(step: Step, n: usize, v: usize, at: usize, out: &mut [f64])
 fn write_level(step: Step, n: usize, v: usize, from: usize, to: usize, out: &mut [f64])
     requires { ⌜ stepFits n step ≡ true ⌝ }
     requires { ⌜ (from + v * n ≤ to) × (to + v * n ≤ length (now out)) ⌝ }
-    ensures { λ _. ⌜ now (out .exit) ≡ paste (now (out .entry)) to (movedAll step n v (take (v * n) (drop from (now (out .entry))))) (v * n) ⌝ }
+    ensures { λ _. ⌜ now (out .exit) ≡ placed to (movedAll step n v (take (v * n) (drop from (now (out .entry))))) (now (out .entry)) ⌝ }
 {
     let w = v * n;
     copy_up(w, from, to, out);

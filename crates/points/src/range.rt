@@ -8,10 +8,7 @@ ghost use Rattle.points.specs.Step.{inRange, stepFloats};
 pub fn in_range(x: f64) -> bool
     ensures { λ r. ⌜ r ≡ inRange x ⌝ }
 {
-    if -1048576.0 < x {
-        return x < 1048576.0;
-    }
-    false
+    (-1048576.0 < x) & (x < 1048576.0)
 }
 
 pub fn all_in_range(xs: &[f64]) -> bool
@@ -33,29 +30,13 @@ fn step_in_range(step: Step) -> bool
 {
     match step {
         Step::Slide(_, x) => in_range(x),
-        Step::Slant(_, x, _, y) => {
-            if !in_range(x) {
-                return false;
-            }
-            in_range(y)
-        }
-        Step::Turn(t) => {
-            if !in_range(t.c) {
-                return false;
-            }
-            if !in_range(t.s) {
-                return false;
-            }
-            in_range(t.rise)
-        }
+        Step::Slant(_, x, _, y) => in_range(x) & in_range(y),
+        Step::Turn(t) => in_range(t.c) & (in_range(t.s) & in_range(t.rise)),
     }
 }
 
 pub fn floats_in_range(step: Step, points: &[f64]) -> bool
     ensures { λ r. ⌜ r ≡ (allOf inRange (stepFloats step) && allOf inRange (now (points .entry))) ⌝ }
 {
-    if !step_in_range(step) {
-        return false;
-    }
-    all_in_range(points)
+    step_in_range(step) & all_in_range(points)
 }

@@ -36,21 +36,8 @@ impl Step {
     {
         match self {
             Step::Slide(a, _) => a < n,
-            Step::Slant(a, _, b, _) => {
-                if a == b {
-                    return false;
-                }
-                if n <= a {
-                    return false;
-                }
-                b < n
-            }
-            Step::Turn(t) => {
-                if n < 3 {
-                    return false;
-                }
-                t.on_circle()
-            }
+            Step::Slant(a, _, b, _) => (a != b) & ((a < n) & (b < n)),
+            Step::Turn(t) => (3 <= n) & t.on_circle(),
         }
     }
 }

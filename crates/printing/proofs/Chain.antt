@@ -36,9 +36,9 @@ use Rattle.words.specs.Records.{allOf}
 use Rattle.points.specs.Step.{inRange}
 use Rattle.printing.specs.Fields.{fields, pointFields}
 use Rattle.printing.specs.declared.line_writer.LineWriter.{LineWriter}
-use Rattle.printing.specs.Put.{Put}
+use Rattle.words.specs.Placed.{Put}
 use Rattle.printing.specs.Advanced.{writerAt, advanced}
-use Rattle.printing.proofs.Placing.{Left, left-step, left-fits}
+use Rattle.words.proofs.Writing.{Left, left-goes, left-fits}
 use Rattle.printing.proofs.Held.{writer, typed}
 use Rattle.printing.proofs.Locals.{nothings, nothings-had}
 use Rattle.printing.proofs.Lending.{valueOf, bytesOwn, sliceOwn, tokens, Asks, asks}
@@ -53,7 +53,7 @@ module _ (n : ℕ) (line ys : List ℕ) where
   left-of h text rest l = left-fits text rest l
 
   pub left-next : (h : LineWriter) (text rest : List ℕ) → LeftAt h (text ++ rest) → LeftAt (advanced h text) rest
-  left-next h text rest l = left-step text rest _ _ l (record { place = refl; bytes = refl })
+  left-next h text rest l = left-goes text rest _ _ l (record { place = refl; content = refl })
 
 -- a local that holds a writer
 abbrev pub Typed : Val → Type 0

@@ -30,7 +30,7 @@ use denote.Slice.{sliceVal, MutSlice, ShrSlice, Room, finally}
 use denote.Steps.{only, owned, facts, heard, nothing}
 use denote.Triple.Call.{calls-from}
 use denote.Triple.Walked.{says}
-use Rattle.printing.specs.Put.{Put}
+use Rattle.words.specs.Placed.{Put}
 use Rattle.printing.proofs.Again.{LentAgain, lends-again, comes-back}
 
 -- a slice's machine value

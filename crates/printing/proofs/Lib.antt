@@ -5,7 +5,6 @@ pub mod Coordinate
 pub mod Fractions
 pub mod Bounds
 pub mod FieldText
-pub mod Placing
 pub mod Again
 pub mod Locals
 pub mod Held

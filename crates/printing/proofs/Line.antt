@@ -35,9 +35,9 @@ use denote.Triple.Spec.{Meets}
 use denote.Triple.Walked.{says, needs, Stays, stay-dropped, gave-slice, walkOf, goes-dropped, goes-gave-slice, ends-at, walked, walk-meets}
 use Rattle.printing.specs.declared.line_writer.LineWriter.{LineWriter}
 use Rattle.printing.specs.Fields.{fields}
-use Rattle.printing.specs.Put.{Put}
+use Rattle.words.specs.Placed.{Put}
 use Rattle.printing.specs.Advanced.{writerAt, advanced}
-use Rattle.printing.proofs.Placing.{Left, left-start, left-last}
+use Rattle.words.proofs.Writing.{Left, left-starts, left-last}
 use Rattle.printing.proofs.Lending.{valueOf}
 use Rattle.printing.proofs.Locals.{alloc3, cell, cells, free3}
 use Rattle.printing.proofs.Chain.{fieldsFit, LeftAt, left-of, left-next, Begins, Writes, Ends, begins, writes, ends, line-ended}
@@ -134,7 +134,7 @@ module _ (R : RattleType) (need : ℕ → List ℕ → List (R .Denot) → Type 
       left₀ : LeftAt n all (x .now) (writerAt x n) (word .now ++ (fields (ws .now) ++ (text (xs .now) ++ 10 ∷ [])))
       left₀ =
           subst (λ l. Left n all (x .now) n l (x .now)) (pieces (word .now) (ws .now) (xs .now))
-          (left-start n all (x .now) (fits n (x .now) (word .now) (ws .now) (xs .now) p))
+          (left-starts n all (x .now) (fits n (x .now) (word .now) (ws .now) (xs .now) p))
 
       left₁ : LeftAt n all (x .now) h₁ (fields (ws .now) ++ (text (xs .now) ++ 10 ∷ []))
       left₁ = left-next n all (x .now) (writerAt x n) (word .now) _ left₀

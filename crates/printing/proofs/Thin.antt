@@ -35,7 +35,7 @@ use denote.Triple.Entry.{onEntry}
 use denote.Triple.Spec.{Meets}
 use denote.Triple.Walked.{says, needs, Stays, stay-dropped, walkOf, goes-dropped, ends-at, walked, walk-meets}
 use Rattle.printing.specs.declared.line_writer.LineWriter.{LineWriter}
-use Rattle.printing.specs.Put.{Put}
+use Rattle.words.specs.Placed.{Put}
 use Rattle.printing.specs.Advanced.{writerAt, advanced}
 use Rattle.printing.proofs.Held.{lifetime, writer, machine, handed, SpentS, writer-spent-goes}
 use Rattle.printing.proofs.Lending.{valueOf, bytesAt, bytesOwn, Puts, puts}
@@ -125,7 +125,7 @@ module _ (R : RattleType) (need : ℕ → List ℕ → List (R .Denot) → Type 
           qed W (‵ (bytesOwn κ (bytesAt b o γ zs) s) ∷ ‵ (flft κ q) ∷ ‵ (flft κ′ q′) ∷ []) ∵
           suffices ! _ (ends-at 𝓤 H A thinEnded stayed (thinClauses 𝓤) W bound (machine s r) (writerAt (bytesAt b o γ zs) r) ((tt, tt), (tt, tt))
           (tt, (tt, tt))) $
-          says ! (λ i. writerAt (bytesAt b o γ (e .bytes i)) (e .place i)) $ by ! (handed 𝓤 H A W κ κ′ q q′ (bytesAt b o γ zs) r r-fits s 2)
+          says ! (λ i. writerAt (bytesAt b o γ (e .content i)) (e .place i)) $ by ! (handed 𝓤 H A W κ κ′ q q′ (bytesAt b o γ zs) r r-fits s 2)
 
       walk : Is (writer κ) h (machine s n ∷ []) → n < 2 ^ 64 → Room u8 (length ys) → length (y .now) < 2 ^ 64 → need n ys (y .now)
           → ent 𝓤 (onEntry 𝓤 H A (thinEnded .signature) (κ, (κ′, tt)) (q, (q′, tt)) (h, (y, tt)) (machine s n ∷ [], (valueOf y ∷ [], tt)))

@@ -2,5 +2,4 @@
 pub mod Decimal
 pub mod Reading
 pub mod Fields
-pub mod Put
 pub mod Advanced

@@ -12,7 +12,7 @@ ghost use lib.ListN.{length};
 ghost use Rattle.words.specs.Records.{allOf};
 ghost use Rattle.points.specs.Step.{inRange};
 ghost use Rattle.printing.specs.Fields.{fields, pointFields};
-ghost use Rattle.printing.specs.Put.{Put};
+ghost use Rattle.words.specs.Placed.{Put};
 ghost use Rattle.printing.specs.Advanced.{writerAt, advanced};
 
 pub struct LineWriter<'a> {

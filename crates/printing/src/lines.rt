@@ -13,7 +13,7 @@ ghost use Rattle.words.specs.Records.{allOf};
 ghost use Rattle.points.specs.Step.{inRange};
 ghost use Rattle.printing.specs.Decimal.{digits, coordinate};
 ghost use Rattle.printing.specs.Fields.{line};
-ghost use Rattle.printing.specs.Put.{Put};
+ghost use Rattle.words.specs.Placed.{Put};
 
 // A word, a vertex's number and its coordinates.
 pub fn vertex_line<'a, 'b>(

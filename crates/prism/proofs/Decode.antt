@@ -60,9 +60,11 @@ fin i j a b l u p q r = rw (p, q, r, eq-eqb i i refl, sameRow-refl u, sameRow-re
 
 -- a row is at most one swept cell
 pub decode : (nv i : ℕ) (w l u : Row) → Below nv l → Below nv u → Filled l →
-    one (sameRow (raised (i * nv) l ++ raised (suc i * nv) u) w) ≤ cond (eqb (levelIn nv w) i) (hitsPair (lowers nv (levelIn nv w) w) (uppers nv (levelIn nv w) w) l u) 0
+    one (sameRow (raised (i * nv) l ++ raised (suc i * nv) u) w)
+    ≤ cond (eqb (levelIn nv w) i) (hitsPair (lowers nv (levelIn nv w) w) (uppers nv (levelIn nv w) w) l u) 0
 decode nv i w [] u bl bu n = absurd n
-decode nv i w (x ∷ l) u bl bu n = go (sameRow (raised (i * nv) (x ∷ l) ++ raised (suc i * nv) u) w) (sameRow-true (raised (i * nv) (x ∷ l) ++ raised (suc i * nv) u) w)
+decode nv i w (x ∷ l) u bl bu n =
+    go (sameRow (raised (i * nv) (x ∷ l) ++ raised (suc i * nv) u) w) (sameRow-true (raised (i * nv) (x ∷ l) ++ raised (suc i * nv) u) w)
   where
     go : (t : Bool) → (t ≡ true → raised (i * nv) (x ∷ l) ++ raised (suc i * nv) u ≡ w) →
         one t ≤ cond (eqb (levelIn nv w) i) (hitsPair (lowers nv (levelIn nv w) w) (uppers nv (levelIn nv w) w) (x ∷ l) u) 0

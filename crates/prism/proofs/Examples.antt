@@ -1,7 +1,7 @@
 -- Small sweeps, computed: side pairs, swept cells and their wings.
 use mathlib.Core.Path.{_≡_, refl}
 use mathlib.Core.Bool.{true, false}
-use mathlib.Core.List.{List, [], _∷_}
+use mathlib.Core.List.{[], _∷_}
 use Prim.Native.Nat.{ℕ}
 use lib.ListN.{getD}
 use Rattle.simplex.specs.Cell.{cell}

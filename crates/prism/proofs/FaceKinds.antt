@@ -17,10 +17,10 @@ use Rattle.simplex.proofs.Rows.{hits, sameRow-true}
 use Rattle.complex.proofs.Solid.{Solid}
 use Rattle.prism.specs.Cells.{sweepOf}
 use Rattle.prism.proofs.Decode.{levelIn}
-use Rattle.prism.proofs.FaceBounds.{acrossLevels, flatOn, innerOn, lowerIn, sideOn, sweep-bound, upperIn}
+use Rattle.prism.proofs.FaceBounds.{baseIn, acrossLevels, lowerIn, sweep-bound, upperIn}
 use Rattle.prism.proofs.PrismCounts.{doubled, rest}
 
-pub cond-same : (j h m : ℕ) → j ≡ h → cond (eqb j h) m 0 ≡ m
+cond-same : (j h m : ℕ) → j ≡ h → cond (eqb j h) m 0 ≡ m
 cond-same j h m e = rw (eq-eqb j h e) refl
 
 pub cond-other : (j h m : ℕ) → (j ≡ h → ⊥) → cond (eqb j h) m 0 ≡ 0
@@ -29,12 +29,24 @@ cond-other j h m e = rw (ne-eqb j h e) refl
 acrossLevels-before : (j m f h : ℕ) → h < j → acrossLevels j m f h ≡ 0
 acrossLevels-before j m f zero l = refl
 acrossLevels-before j m f (suc h) l =
-    omega (arith, acrossLevels-before j m f h (omega arith), cond-other j h m (λ e. omega arith), cond-other j h f (λ e. omega arith), cond-other j (suc h) f (λ e. omega arith))
+    omega (
+      arith,
+      acrossLevels-before j m f h (omega arith),
+      cond-other j h m (λ e. omega arith),
+      cond-other j h f (λ e. omega arith),
+      cond-other j (suc h) f (λ e. omega arith),
+    )
 
 acrossLevels-at : (j m f : ℕ) → acrossLevels j m f j ≤ f
 acrossLevels-at zero m f = omega arith
 acrossLevels-at (suc j) m f =
-    omega (arith, acrossLevels-before (suc j) m f j (omega arith), cond-other (suc j) j m (λ e. omega arith), cond-other (suc j) j f (λ e. omega arith), cond-same (suc j) (suc j) f refl)
+    omega (
+      arith,
+      acrossLevels-before (suc j) m f j (omega arith),
+      cond-other (suc j) j m (λ e. omega arith),
+      cond-other (suc j) j f (λ e. omega arith),
+      cond-same (suc j) (suc j) f refl,
+    )
 
 acrossLevels-after : (j m f h : ℕ) → j < h → acrossLevels j m f h ≡ acrossLevels j m f j + m + f
 acrossLevels-after j m f zero l = absurd (omega arith)
@@ -52,12 +64,9 @@ acrossLevels-le j m f h = go (decLt j h) (decLt h j)
     go (no n) (yes l) = omega (arith, acrossLevels-before j m f h l)
     go (no n) (no k) = let e : h ≡ j = omega arith in omega (arith, ap (acrossLevels j m f) e, acrossLevels-at j m f)
 
-pub acrossLevels-zero : (m f h : ℕ) → acrossLevels 0 m f h ≤ m + f
+acrossLevels-zero : (m f h : ℕ) → acrossLevels 0 m f h ≤ m + f
 acrossLevels-zero m f zero = omega arith
 acrossLevels-zero m f (suc h) = omega (arith, acrossLevels-after 0 m f (suc h) (omega arith))
-
-pub acrossLevels-top : (m f h : ℕ) → acrossLevels h m f h ≤ f
-acrossLevels-top m f h = acrossLevels-at h m f
 
 no-dbl : (a b : Row) → doubled a b ≡ true → Asc (b ++ a) → ⊥
 no-dbl a [] d s = false≢true d
@@ -96,12 +105,34 @@ kindOf nv cs s a (y ∷ b) = go (doubled a (y ∷ b)) refl
         (rw e (sym (sumRows-allFaces (hits ((y ∷ b) ++ rest a)) cs) ∙ sym (total-keep filled ((y ∷ b) ++ rest a) (allFaces cs)))) (sumRows-zero cs)
     go false e = isInner e (s .distinct ((y ∷ b) ++ a)) (rw e (sumRows-countFaces-zero cs)) (sumRows-zero cs)
 
-module _ (nv : ℕ) (cs : List Cell) (s : Solid nv cs) where
+-- how many faces of swept cells stand on the row w: in all, where its level is the lowest, and where it is the highest
+module _ (nv : ℕ) (cs : List Cell) (s : Solid nv cs) (h : ℕ) (w : Row) where
+  abbrev inner : ℕ
+  inner = innerCount cs (lowerIn nv w) (upperIn nv w)
+
+  abbrev side : ℕ
+  side = sideCount cs (lowerIn nv w) (upperIn nv w)
+
+  abbrev flat : ℕ
+  flat = flatCount cs (lowerIn nv w) (upperIn nv w)
+
+  at-level : (j : ℕ) → levelIn nv w ≡ j → total w (allFaces (sweepOf nv h cs)) ≤ acrossLevels j (inner + inner + side) flat h
+  at-level j e = omega (arith, sweep-bound nv h w cs (s .rows), ap (λ j. acrossLevels j (inner + inner + side) flat h) e)
+
+  pub on-any : total w (allFaces (sweepOf nv h cs)) ≤ inner + inner + side + flat + flat
+  on-any = omega (arith, at-level _ refl, acrossLevels-le (levelIn nv w) (inner + inner + side) flat h)
+
+  pub on-bottom : levelIn nv w ≡ 0 → total w (allFaces (sweepOf nv h cs)) ≤ inner + inner + side + flat
+  on-bottom e = omega (arith, at-level 0 e, acrossLevels-zero (inner + inner + side) flat h)
+
+  pub on-top : levelIn nv w ≡ h → total w (allFaces (sweepOf nv h cs)) ≤ flat
+  on-top e = omega (arith, at-level h e, acrossLevels-at h (inner + inner + side) flat)
+
   -- no row is a face of more than two swept cells
-  pub swept-meet : (h : ℕ) (w : Row) → total w (allFaces (sweepOf nv h cs)) ≤ 2
-  swept-meet h w = go (kindOf nv cs s (lowerIn nv w) (upperIn nv w))
+  pub swept-meet : total w (allFaces (sweepOf nv h cs)) ≤ 2
+  swept-meet = go (kindOf nv cs s (lowerIn nv w) (upperIn nv w))
     where
       go : Kind cs (lowerIn nv w) (upperIn nv w) → total w (allFaces (sweepOf nv h cs)) ≤ 2
-      go (isFlat e i k f) = omega (arith, sweep-bound nv h w cs (s .rows), acrossLevels-le (levelIn nv w) (sumRows (innerOn nv w) cs + sumRows (innerOn nv w) cs + sumRows (countFaces (sideOn nv w)) cs) (sumRows (flatOn nv w) cs) h)
-      go (isSide e i k f) = omega (arith, sweep-bound nv h w cs (s .rows), acrossLevels-le (levelIn nv w) (sumRows (innerOn nv w) cs + sumRows (innerOn nv w) cs + sumRows (countFaces (sideOn nv w)) cs) (sumRows (flatOn nv w) cs) h, s .meet (upperIn nv w ++ rest (lowerIn nv w)))
-      go (isInner e i k f) = omega (arith, sweep-bound nv h w cs (s .rows), acrossLevels-le (levelIn nv w) (sumRows (innerOn nv w) cs + sumRows (innerOn nv w) cs + sumRows (countFaces (sideOn nv w)) cs) (sumRows (flatOn nv w) cs) h)
+      go (isFlat e i k f) = omega (arith, on-any)
+      go (isSide e i k f) = omega (arith, on-any, s .meet (baseIn nv w))
+      go (isInner e i k f) = omega (arith, on-any)

@@ -17,7 +17,8 @@ use Rattle.prism.proofs.Prism.{OnPairs, prism-identity, prismFaces, pri
 abbrev pub raised : ℕ → Row → Row
 raised m = map (λ n. n + m)
 
-sumFaces-append : (f : Functional) (b : Bool) (l r : Row) → sumFaces f b (l ++ r) ≡ sumFaces (λ c y. f c (y ++ r)) b l + sumFaces (λ c y. f c (l ++ y)) (times (alternating (length l)) b) r
+sumFaces-append : (f : Functional) (b : Bool) (l r : Row) →
+    sumFaces f b (l ++ r) ≡ sumFaces (λ c y. f c (y ++ r)) b l + sumFaces (λ c y. f c (l ++ y)) (times (alternating (length l)) b) r
 sumFaces-append f b [] r = omega arith
 sumFaces-append f b (x ∷ l) r = rw (← times-flip (alternating (length l)) b) (omega (arith, sumFaces-append (λ c y. f c (x ∷ y)) (not b) l r))
 
@@ -29,31 +30,42 @@ sumPrism-plus : (f g : OnPairs) (e b : Bool) (v : Row) → sumPrism (λ c l u. f
 sumPrism-plus f g e b [] = refl
 sumPrism-plus f g e b (x ∷ w) = omega (arith, sumPrism-plus (λ c l u. f c l (x ∷ u)) (λ c l u. g c l (x ∷ u)) e (times e b) w)
 
-sumPrism-par : (g : OnPairs) (e b : Bool) (v : Row) → sumPrism (λ c l t. g (times (alternating (length l)) c) l t) e b v ≡ sumPrism g (not e) (times (alternating (length v)) b) v
+sumPrism-par : (g : OnPairs) (e b : Bool) (v : Row) →
+    sumPrism (λ c l t. g (times (alternating (length l)) c) l t) e b v ≡ sumPrism g (not e) (times (alternating (length v)) b) v
 sumPrism-par g e b [] = refl
 sumPrism-par g e b (x ∷ w) =
     ap (λ n. g (times (not (alternating (length w))) b) (x ∷ w) (x ∷ []) + n)
-    (sumPrism-par (λ c l t. g c l (x ∷ t)) e (times e b) w ∙ ap (λ c. sumPrism (λ c l t. g c l (x ∷ t)) (not e) c w) (times-swap (alternating (length w)) e b))
+    (sumPrism-par (λ c l t. g c l (x ∷ t)) e (times e b) w
+    ∙ ap (λ c. sumPrism (λ c l t. g c l (x ∷ t)) (not e) c w) (times-swap (alternating (length w)) e b))
 
 -- each face has one vertex less
-sumFaces-len : (F : Bool → Functional) (b : Bool) (v : Row) → sumFaces (λ c y. F (alternating (length y)) c y) b v ≡ sumFaces (λ c y. F (not (alternating (length v))) c y) b v
+sumFaces-len : (F : Bool → Functional) (b : Bool) (v : Row) →
+    sumFaces (λ c y. F (alternating (length y)) c y) b v ≡ sumFaces (λ c y. F (not (alternating (length v))) c y) b v
 sumFaces-len F b [] = refl
-sumFaces-len F b (x ∷ w) = rw not-not (ap (λ n. F (alternating (length w)) b w + n) (sumFaces-len (λ p c y. F (not p) c (x ∷ y)) (not b) w ∙ rw not-not refl))
+sumFaces-len F b (x ∷ w) =
+    rw not-not (ap (λ n. F (alternating (length w)) b w + n) (sumFaces-len (λ p c y. F (not p) c (x ∷ y)) (not b) w ∙ rw not-not refl))
 
 abbrev pub raisedPair : Functional → ℕ → ℕ → OnPairs
 raisedPair f lo hi c l t = f c (raised lo l ++ raised hi t)
 
-sumFaces-cell : (f : Functional) (lo hi : ℕ) (c : Bool) (l t : Row) → sumFaces f c (raised lo l ++ raised hi t) ≡ sumLower (raisedPair f lo hi) c l t + sumUpper (raisedPair f lo hi) (times (alternating (length l)) c) l t
+sumFaces-cell : (f : Functional) (lo hi : ℕ) (c : Bool) (l t : Row) → sumFaces f c (raised lo l ++ raised hi t)
+    ≡ sumLower (raisedPair f lo hi) c l t + sumUpper (raisedPair f lo hi) (times (alternating (length l)) c) l t
 sumFaces-cell f lo hi c l t =
     sumFaces-append f c (raised lo l) (raised hi t)
     ∙ rw (length-map, sumFaces-map (λ c y. f c (y ++ raised hi t)) (λ n. n + lo), sumFaces-map (λ c y. f c (raised lo l ++ y)) (λ n. n + hi)) refl
 
 sumPrism-cell : (f : Functional) (lo hi : ℕ) (b : Bool) (v : Row) →
-    sumPrism (λ c l t. sumFaces f c (raised lo l ++ raised hi t)) (not (alternating (length v))) b v ≡ prismFaces (raisedPair f lo hi) (not (alternating (length v))) b v
+    sumPrism (λ c l t. sumFaces f c (raised lo l ++ raised hi t)) (not (alternating (length v))) b v
+    ≡ prismFaces (raisedPair f lo hi) (not (alternating (length v))) b v
 sumPrism-cell f lo hi b v =
     ap (λ (g : OnPairs). sumPrism g (not (alternating (length v))) b v) (fun-ext (λ c. fun-ext (λ l. fun-ext (λ t. sumFaces-cell f lo hi c l t))))
-    ∙ sumPrism-plus (sumLower (raisedPair f lo hi)) (λ c l t. sumUpper (raisedPair f lo hi) (times (alternating (length l)) c) l t) (not (alternating (length v))) b v
-    ∙ rw (sumPrism-par (sumUpper (raisedPair f lo hi)) (not (alternating (length v))) b v, times-flip (not (alternating (length v))) b, not-not (alternating (length v))) refl
+    ∙ sumPrism-plus (sumLower (raisedPair f lo hi))
+    (λ c l t. sumUpper (raisedPair f lo hi) (times (alternating (length l)) c) l t) (not (alternating (length v))) b v
+    ∙ rw (
+      sumPrism-par (sumUpper (raisedPair f lo hi)) (not (alternating (length v))) b v,
+      times-flip (not (alternating (length v))) b,
+      not-not (alternating (length v)),
+    ) refl
 
 top-true : (v : Row) (b : Bool) → top true v b ≡ b
 top-true [] b = refl
@@ -86,12 +98,27 @@ append-nil′ : (v : Row) → v ++ [] ≡ v
 append-nil′ [] = refl
 append-nil′ (x ∷ w) = ap (λ t. x ∷ t) (append-nil′ w)
 
-prismParts-is : (f : Functional) (lo hi : ℕ) (b : Bool) (v : Row) → prismParts (raisedPair f lo hi) (dimensionSign v) b v ≡ atHeight f hi b v + atHeight f lo (not b) v + sumFaces (overPrism f lo hi) b v
+prismParts-is : (f : Functional) (lo hi : ℕ) (b : Bool) (v : Row) →
+    prismParts (raisedPair f lo hi) (dimensionSign v) b v ≡ atHeight f hi b v + atHeight f lo (not b) v + sumFaces (overPrism f lo hi) b v
 prismParts-is f lo hi b v =
     rw (top-is v b, append-nil′ (raised lo v), sumFaces-len (λ p c y. sumPrism (raisedPair f lo hi) (not p) c y) b v) refl
 
 pub cell-id : (f : Functional) (lo hi : ℕ) (b : Bool) (v : Row) →
     overPrism (sumFaces f) lo hi b v + (atHeight f hi (not b) v + atHeight f lo b v + sumFaces (overPrism f lo hi) (not b) v)
     ≡ (atHeight f hi b v + atHeight f lo (not b) v + sumFaces (overPrism f lo hi) b v) + overPrism (sumFaces f) lo hi (not b) v
-cell-id f lo hi true v = omega (arith, prism-identity (raisedPair f lo hi) (dimensionSign v) v, sumPrism-cell f lo hi true v, sumPrism-cell f lo hi false v, prismParts-is f lo hi true v, prismParts-is f lo hi false v)
-cell-id f lo hi false v = omega (arith, prism-identity (raisedPair f lo hi) (dimensionSign v) v, sumPrism-cell f lo hi true v, sumPrism-cell f lo hi false v, prismParts-is f lo hi true v, prismParts-is f lo hi false v)
+cell-id f lo hi true v = omega (
+  arith,
+  prism-identity (raisedPair f lo hi) (dimensionSign v) v,
+  sumPrism-cell f lo hi true v,
+  sumPrism-cell f lo hi false v,
+  prismParts-is f lo hi true v,
+  prismParts-is f lo hi false v,
+)
+cell-id f lo hi false v = omega (
+  arith,
+  prism-identity (raisedPair f lo hi) (dimensionSign v) v,
+  sumPrism-cell f lo hi true v,
+  sumPrism-cell f lo hi false v,
+  prismParts-is f lo hi true v,
+  prismParts-is f lo hi false v,
+)

@@ -49,16 +49,31 @@ prismFaces f e b v = sumPrism (sumLower f) e b v + sumPrism (sumUpper f) (not e)
 abbrev pub prismParts : OnPairs → Bool → Bool → Row → ℕ
 prismParts f e b v = f (top e v b) [] v + f (times e (not b)) v [] + sumFaces (λ c y. sumPrism f (not e) c y) b v
 
-pub prism-identity : (f : OnPairs) (e : Bool) (v : Row) → prismFaces f e true v + prismParts f e false v ≡ prismParts f e true v + prismFaces f e false v
+pub prism-identity : (f : OnPairs) (e : Bool) (v : Row) →
+    prismFaces f e true v + prismParts f e false v ≡ prismParts f e true v + prismFaces f e false v
 prism-identity f true [] = omega arith
 prism-identity f false [] = omega arith
 prism-identity f true (x ∷ w) =
     let fx : OnPairs = λ c l u. f c l (x ∷ u) in
     let h : Functional = λ c y. f c (x ∷ y) (x ∷ []) in
     let k : Functional = λ c y. sumPrism fx false c y in
-    omega (arith, prism-identity fx true w, sumPrism-add f (sumUpper fx) false true w, sumPrism-add f (sumUpper fx) false false w, sumFaces-add h k false true w, sumFaces-add h k false false w)
+    omega (
+      arith,
+      prism-identity fx true w,
+      sumPrism-add f (sumUpper fx) false true w,
+      sumPrism-add f (sumUpper fx) false false w,
+      sumFaces-add h k false true w,
+      sumFaces-add h k false false w,
+    )
 prism-identity f false (x ∷ w) =
     let fx : OnPairs = λ c l u. f c l (x ∷ u) in
     let h : Functional = λ c y. f c (x ∷ y) (x ∷ []) in
     let k : Functional = λ c y. sumPrism fx true c y in
-    omega (arith, prism-identity fx false w, sumPrism-add f (sumUpper fx) true true w, sumPrism-add f (sumUpper fx) true false w, sumFaces-add h k true true w, sumFaces-add h k true false w)
+    omega (
+      arith,
+      prism-identity fx false w,
+      sumPrism-add f (sumUpper fx) true true w,
+      sumPrism-add f (sumUpper fx) true false w,
+      sumFaces-add h k true true w,
+      sumFaces-add h k true false w,
+    )

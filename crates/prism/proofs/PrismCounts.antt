@@ -26,7 +26,8 @@ countPrism-add f g (x ∷ w) = omega (arith, countPrism-add (λ l u. f l (x ∷ 
 
 -- the faces of the prism cells: inner ones twice, bottom, top, and the prisms of the faces
 pub count-id : (g : Row → Row → ℕ) (v : Row) →
-    countPrism (λ l u. countFaces (λ y. g y u) l) v + countPrism (λ l u. countFaces (λ y. g l y) u) v + g [] v ≡ 2 * countFirst g v + g v [] + countFaces (countPrism g) v
+    countPrism (λ l u. countFaces (λ y. g y u) l) v + countPrism (λ l u. countFaces (λ y. g l y) u) v + g [] v
+    ≡ 2 * countFirst g v + g v [] + countFaces (countPrism g) v
 count-id g [] = omega arith
 count-id g (x ∷ w) =
     let gx : Row → Row → ℕ = λ l u. g l (x ∷ u) in
@@ -82,13 +83,15 @@ countPrism-one a b [] = omega arith
 countPrism-one a [] (x ∷ w) = omega (arith, countPrism-zero w)
 countPrism-one a (y ∷ []) (x ∷ w) = go (eqb x y) refl
   where
-    go : (t : Bool) → eqb x y ≡ t → one ((t && true) && sameRow (x ∷ w) a) + countPrism (λ l u. one ((t && sameRow u []) && sameRow l a)) w ≤ one (startsWith y a && (t && sameRow w (rest a)))
+    go : (t : Bool) → eqb x y ≡ t → one ((t && true) && sameRow (x ∷ w) a) + countPrism (λ l u. one ((t && sameRow u []) && sameRow l a)) w
+        ≤ one (startsWith y a && (t && sameRow w (rest a)))
     go true e = omega (arith, countPrism-last a x y w (eqb-true x y e), countPrism-nil a w)
     go false e = omega (arith, countPrism-zero w)
 countPrism-one a (y ∷ z ∷ b) (x ∷ w) = go (eqb x y) (countPrism-one a (z ∷ b) w)
   where
     go : (t : Bool) → countPrism (hitsPair a (z ∷ b)) w ≤ one (doubled a (z ∷ b) && sameRow w ((z ∷ b) ++ rest a)) →
-        one ((t && false) && sameRow (x ∷ w) a) + countPrism (λ l u. one ((t && sameRow u (z ∷ b)) && sameRow l a)) w ≤ one (doubled a (z ∷ b) && (t && sameRow w ((z ∷ b) ++ rest a)))
+        one ((t && false) && sameRow (x ∷ w) a) + countPrism (λ l u. one ((t && sameRow u (z ∷ b)) && sameRow l a)) w
+        ≤ one (doubled a (z ∷ b) && (t && sameRow w ((z ∷ b) ++ rest a)))
     go true h = omega arith
     go false h = omega (arith, countPrism-zero w)
 

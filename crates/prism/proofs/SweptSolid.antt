@@ -1,51 +1,45 @@
 -- The sweep of a solid is a solid.
 use mathlib.Core.Path.{_≡_, refl, sym, subst}
-use mathlib.Core.Bool.{Bool, true, false, cond, _&&_}
+use mathlib.Core.Bool.{true, cond}
 use mathlib.Core.List.{List, [], _∷_, _++_}
 use Prim.Native.Nat.{ℕ, zero, suc, _*_, _≤_, _<_}
 use native.Mathlib.Omega.{arith}
 use native.Mathlib.Nat.{suc-mul, mul-le-mul-right}
 use lib.Dec.{eqb}
 use lib.ListN.{length, take, drop}
-use Rattle.words.specs.Records.{tabulate}
-use Rattle.simplex.specs.Cell.{Cell, Row, one, sameRow}
+use Rattle.simplex.specs.Cell.{Cell, Row, sameRow}
 use Rattle.simplex.specs.Chain.{sumRows, total}
 use Rattle.simplex.specs.Faces.{allFaces, facets}
 use Rattle.simplex.specs.Sort.{Asc}
 use Rattle.simplex.proofs.Cancel.{Paired}
-use Rattle.simplex.proofs.Counts.{All, All-append, sumChain-le, sumChain-sumRows, sumRows-append, sumRows-cond, sumRows-le}
-use Rattle.simplex.proofs.FaceCounts.{facets-le, facets-same}
+use Rattle.simplex.proofs.Counts.{All, All-append, one-and, sumChain-le, sumChain-sumRows, sumRows-append, sumRows-cond, sumRows-le}
+use Rattle.simplex.proofs.FaceCounts.{All-both, facets-le, facets-same}
 use Rattle.simplex.proofs.Rows.{Below, Filled, Good, Long, hits}
-use Rattle.complex.proofs.Solid.{Solid}
+use Rattle.complex.proofs.Solid.{Solid, all-tabulated}
 use Rattle.prism.specs.Cells.{level, prism, prismCell, sweepOf}
 use Rattle.prism.proofs.Decode.{levelIn}
-use Rattle.prism.proofs.FaceBounds.{acrossLevels, countPrism-bound, lowerIn, raisedRow, sideOn, upperIn}
+use Rattle.prism.proofs.FaceBounds.{baseIn, acrossLevels, countPrism-bound, lowerIn, raisedRow, sideOn, upperIn}
 use Rattle.prism.proofs.FaceKinds.{acrossLevels-le, swept-meet}
 use Rattle.prism.proofs.Level.{dimensionSign, overPrism, raised}
-use Rattle.prism.proofs.Meeting.{below-drop, below-take, drop-non, len-cell}
 use Rattle.prism.proofs.Pairs.{swept-paired}
-use Rattle.prism.proofs.PrismCounts.{doubled, rest, sumPrism-countPrism}
-use Rattle.prism.proofs.SweptRows.{prismRow}
+use Rattle.prism.proofs.PrismCounts.{doubled, sumPrism-countPrism}
+use Rattle.prism.proofs.SweptRows.{below-drop, below-take, drop-non, len-cell, prismRow}
 use Rattle.prism.proofs.SweptSums.{sumChain-level}
 
 -- what holds of each prism cell holds of each swept cell
-all-tabulate : (R : Row → Type 0) (n : ℕ) (f : ℕ → Cell) → ((k : ℕ) → k < n → R (f k .row)) → All R (tabulate n f)
-all-tabulate R zero f h = tt
-all-tabulate R (suc n) f h = (h 0 (omega arith), all-tabulate R n (λ k. f (suc k)) (λ k l. h (suc k) (omega arith)))
-
-all-level : (R Q : Row → Type 0) (nv i : ℕ) (cs : List Cell) → All Q cs → ((v : Row) → Q v → (k : ℕ) → k < length v → R (prismRow (i * nv) (suc i * nv) k v)) → All R (level nv i cs)
+all-level : (R Q : Row → Type 0) (nv i : ℕ) (cs : List Cell) → All Q cs →
+    ((v : Row) → Q v → (k : ℕ) → k < length v → R (prismRow (i * nv) (suc i * nv) k v)) → All R (level nv i cs)
 all-level R Q nv i [] a h = tt
 all-level R Q nv i (c ∷ cs) a h =
-    All-append R (prism nv i c) (level nv i cs) (all-tabulate R (length (c .row)) (λ k. prismCell nv i k c) (h (c .row) (a .0))) (all-level R Q nv i cs (a .1) h)
+    All-append R (prism nv i c) (level nv i cs)
+    (all-tabulated R (length (c .row)) (λ k. prismCell nv i k c) (h (c .row) (a .0))) (all-level R Q nv i cs (a .1) h)
 
-all-sweep : (R Q : Row → Type 0) (nv h : ℕ) (cs : List Cell) → All Q cs → ((i : ℕ) (v : Row) → i < h → Q v → (k : ℕ) → k < length v → R (prismRow (i * nv) (suc i * nv) k v)) → All R (sweepOf nv h cs)
+all-sweep : (R Q : Row → Type 0) (nv h : ℕ) (cs : List Cell) → All Q cs →
+    ((i : ℕ) (v : Row) → i < h → Q v → (k : ℕ) → k < length v → R (prismRow (i * nv) (suc i * nv) k v)) → All R (sweepOf nv h cs)
 all-sweep R Q nv zero cs a r = tt
 all-sweep R Q nv (suc h) cs a r =
-    All-append R (sweepOf nv h cs) (level nv h cs) (all-sweep R Q nv h cs a (λ i v l. r i v (omega arith))) (all-level R Q nv h cs a (λ v. r h v (omega arith)))
-
-both : (Q H : Row → Type 0) (cs : List Cell) → All Q cs → All H cs → All (λ v. Q v × H v) cs
-both Q H [] a b = tt
-both Q H (c ∷ cs) a b = ((a .0, b .0), both Q H cs (a .1) (b .1))
+    All-append R (sweepOf nv h cs) (level nv h cs) (all-sweep R Q nv h cs a (λ i v l. r i v (omega arith)))
+    (all-level R Q nv h cs a (λ v. r h v (omega arith)))
 
 -- bounds
 below-append : (n : ℕ) (l r : Row) → Below n l → Below n r → Below n (l ++ r)
@@ -91,7 +85,8 @@ asc-append n (x ∷ y ∷ l) r sl sr bl fr = (sl .0, asc-append n (y ∷ l) r (s
 
 asc-cell : (nv i k : ℕ) (v : Row) → Below nv v → Asc v → Asc (prismRow (i * nv) (suc i * nv) k v)
 asc-cell nv i k v b s =
-    asc-append (suc i * nv) (raised (i * nv) (drop k v)) (raised (suc i * nv) (take (suc k) v)) (asc-up (i * nv) (drop k v) (asc-drop k v s)) (asc-up (suc i * nv) (take (suc k) v) (asc-take (suc k) v s))
+    asc-append (suc i * nv) (raised (i * nv) (drop k v)) (raised (suc i * nv) (take (suc k) v))
+    (asc-up (i * nv) (drop k v) (asc-drop k v s)) (asc-up (suc i * nv) (take (suc k) v) (asc-take (suc k) v s))
     (below-up nv i (suc i) (drop k v) (below-drop nv k v b) (omega arith)) (from-up (suc i * nv) (take (suc k) v))
 
 non-cell : (lo hi k : ℕ) (v : Row) → k < length v → Filled (prismRow lo hi k v)
@@ -104,32 +99,34 @@ non-cell lo hi k v h = go (drop k v) (drop-non k v h)
 good-cell : (nv h i k : ℕ) (v : Row) → i < h → Below nv v → k < length v → Good (suc h * nv) (prismRow (i * nv) (suc i * nv) k v)
 good-cell nv h i k v l b hk = (
   non-cell (i * nv) (suc i * nv) k v hk,
-  below-append (suc h * nv) (raised (i * nv) (drop k v)) (raised (suc i * nv) (take (suc k) v)) (below-up nv i (suc h) (drop k v) (below-drop nv k v b) (omega arith))
+  below-append (suc h * nv) (raised (i * nv) (drop k v)) (raised (suc i * nv) (take (suc k) v))
+      (below-up nv i (suc h) (drop k v) (below-drop nv k v b) (omega arith))
       (below-up nv (suc i) (suc h) (take (suc k) v) (below-take nv (suc k) v b) (omega arith)),
 )
 
 -- no two swept cells are on one row
-level-once : (nv i : ℕ) (w : Row) (cs : List Cell) → All (Good nv) cs → total w (level nv i cs) ≤ cond (eqb (levelIn nv w) i) (sumRows (sideOn nv w) cs) 0
+level-once : (nv i : ℕ) (w : Row) (cs : List Cell) → All (Good nv) cs →
+    total w (level nv i cs) ≤ cond (eqb (levelIn nv w) i) (sumRows (sideOn nv w) cs) 0
 level-once nv i w cs a =
     omega (
       arith,
       sumChain-sumRows (hits w) true (level nv i cs),
       sumChain-level (λ c y. hits w y) nv i true cs,
       sumChain-le (Good nv) (overPrism (λ c y. hits w y) (i * nv) (suc i * nv)) (λ v. cond (eqb (levelIn nv w) i) (sideOn nv w v) 0) true cs a
-          (λ c v g. omega (arith, sumPrism-countPrism (raisedRow (hits w) (i * nv) (suc i * nv)) (dimensionSign v) c v, countPrism-bound nv i w v (g .1))),
+          (λ c v g.
+          omega (arith, sumPrism-countPrism (raisedRow (hits w) (i * nv) (suc i * nv)) (dimensionSign v) c v, countPrism-bound nv i w v (g .1))),
       sumRows-cond (eqb (levelIn nv w) i) (sideOn nv w) cs,
     )
 
-sweep-once : (nv h : ℕ) (w : Row) (cs : List Cell) → All (Good nv) cs → total w (sweepOf nv h cs) ≤ acrossLevels (levelIn nv w) (sumRows (sideOn nv w) cs) 0 h
+sweep-once : (nv h : ℕ) (w : Row) (cs : List Cell) → All (Good nv) cs →
+    total w (sweepOf nv h cs) ≤ acrossLevels (levelIn nv w) (sumRows (sideOn nv w) cs) 0 h
 sweep-once nv zero w cs a = omega arith
-sweep-once nv (suc h) w cs a = omega (arith, sumRows-append (hits w) (sweepOf nv h cs) (level nv h cs), sweep-once nv h w cs a, level-once nv h w cs a)
-
-one-and : (s t : Bool) → one (s && t) ≤ one t
-one-and true t = omega arith
-one-and false t = omega arith
+sweep-once nv (suc h) w cs a =
+    omega (arith, sumRows-append (hits w) (sweepOf nv h cs) (level nv h cs), sweep-once nv h w cs a, level-once nv h w cs a)
 
 pub swept-two : (nv h : ℕ) (cs : List Cell) → All (Good nv) cs → All (λ v. 2 ≤ length v) (sweepOf nv h cs)
-swept-two nv h cs a = all-sweep (λ v. 2 ≤ length v) (Good nv) nv h cs a (λ i v l g k hk. omega (arith, len-cell (i * nv) (suc i * nv) k (length v) v refl hk))
+swept-two nv h cs a =
+    all-sweep (λ v. 2 ≤ length v) (Good nv) nv h cs a (λ i v l g k hk. omega (arith, len-cell (i * nv) (suc i * nv) k (length v) v refl hk))
 
 pub swept-facets : (nv h : ℕ) (cs : List Cell) → Solid nv cs → facets (sweepOf nv h cs) ≡ allFaces (sweepOf nv h cs)
 swept-facets nv h cs s = facets-same (sweepOf nv h cs) (swept-two nv h cs (s .rows))
@@ -137,13 +134,15 @@ swept-facets nv h cs s = facets-same (sweepOf nv h cs) (swept-two nv h cs (s .ro
 pub swept-solid : (nv h : ℕ) (cs : List Cell) → Solid nv cs → Solid (suc h * nv) (sweepOf nv h cs)
 swept-solid nv h cs s = record {
   rows = all-sweep (Good (suc h * nv)) (Good nv) nv h cs (s .rows) (λ i v l g k hk. good-cell nv h i k v l (g .1) hk);
-  asc = all-sweep Asc (λ v. Good nv v × Asc v) nv h cs (both (Good nv) Asc cs (s .rows) (s .asc)) (λ i v l g k hk. asc-cell nv i k v (g .0 .1) (g .1));
+  asc =
+      all-sweep Asc (λ v. Good nv v × Asc v) nv h cs (All-both (Good nv) Asc cs (s .rows) (s .asc)) (λ i v l g k hk. asc-cell nv i k v (g .0 .1) (g .1));
   distinct = λ w. omega (
     arith,
     sweep-once nv h w cs (s .rows),
     acrossLevels-le (levelIn nv w) (sumRows (sideOn nv w) cs) 0 h,
-    sumRows-le Asc (sideOn nv w) (hits (upperIn nv w ++ rest (lowerIn nv w))) cs (s .asc) (λ y _. one-and (doubled (lowerIn nv w) (upperIn nv w)) (sameRow y (upperIn nv w ++ rest (lowerIn nv w)))),
-    s .distinct (upperIn nv w ++ rest (lowerIn nv w)),
+    sumRows-le Asc (sideOn nv w) (hits (baseIn nv w)) cs (s .asc)
+        (λ y _. one-and (doubled (lowerIn nv w) (upperIn nv w)) (sameRow y (baseIn nv w))),
+    s .distinct (baseIn nv w),
   );
   meet = λ w. omega (arith, swept-meet nv cs s h w, facets-le w (sweepOf nv h cs));
   paired = subst Paired (sym (swept-facets nv h cs s)) (swept-paired nv cs s h);

@@ -28,15 +28,18 @@ alternating-add zero n = rw (zero-add n) refl
 alternating-add (suc m) n = rw (suc-add m n) (ap not (alternating-add m n) ∙ sym (times-not (alternating m) (alternating n)))
 
 prisms-are : (d : ℕ) (s : Sign) (lo hi : ℕ) (u w : Row) →
-    prisms (alternating d) s lo hi u w ≡ tabulate (length w) (λ k. cell (times (alternating (k * d)) s) (raised lo (drop k w) ++ (u ++ raised hi (take (suc k) w))))
+    prisms (alternating d) s lo hi u w
+    ≡ tabulate (length w) (λ k. cell (times (alternating (k * d)) s) (raised lo (drop k w) ++ (u ++ raised hi (take (suc k) w))))
 prisms-are d s lo hi u [] = refl
 prisms-are d s lo hi u (x ∷ w) =
     ap₂ {C = List Cell} (λ c cs. c ∷ cs) (rw (zero-mul d) refl)
     (prisms-are d (times (alternating d) s) lo hi (u ++ (x + hi) ∷ []) w
-    ∙ tabulate-ext (length w) _ _ (λ k h. ap₂ cell (sign k) (ap (λ r. raised lo (drop k w) ++ r) (append-snoc u (x + hi) (raised hi (take (suc k) w))))))
+    ∙ tabulate-ext (length w) _ _
+    (λ k h. ap₂ cell (sign k) (ap (λ r. raised lo (drop k w) ++ r) (append-snoc u (x + hi) (raised hi (take (suc k) w))))))
   where
     sign : (k : ℕ) → times (alternating (k * d)) (times (alternating d) s) ≡ times (alternating (suc k * d)) s
-    sign k = sym (times-times (alternating (k * d)) (alternating d) s) ∙ ap (λ t. times t s) (sym (alternating-add (k * d) d) ∙ ap alternating (sym (suc-mul k d)))
+    sign k = sym (times-times (alternating (k * d)) (alternating d) s)
+        ∙ ap (λ t. times t s) (sym (alternating-add (k * d) d) ∙ ap alternating (sym (suc-mul k d)))
 
 -- the prism of a cell, one cell after the other
 pub prism-is : (nv i : ℕ) (c : Cell) → prism nv i c ≡ prisms (dimensionSign (c .row)) (c .sign) (i * nv) (suc i * nv) [] (c .row)
@@ -44,12 +47,14 @@ prism-is nv i c = go (c .sign) (c .row)
   where
     go : (s : Sign) (w : Row) → prism nv i (cell s w) ≡ prisms (dimensionSign w) s (i * nv) (suc i * nv) [] w
     go s [] = refl
-    go s (x ∷ w) = sym (ap (λ e. prisms e s (i * nv) (suc i * nv) [] (x ∷ w)) sign ∙ prisms-are (suc (length w) - 1) s (i * nv) (suc i * nv) [] (x ∷ w))
+    go s (x ∷ w) =
+        sym (ap (λ e. prisms e s (i * nv) (suc i * nv) [] (x ∷ w)) sign ∙ prisms-are (suc (length w) - 1) s (i * nv) (suc i * nv) [] (x ∷ w))
       where
         sign : dimensionSign (x ∷ w) ≡ alternating (suc (length w) - 1)
         sign = let e : length w ≡ suc (length w) - 1 = omega arith in not-not (alternating (length w)) ∙ ap alternating e
 
-pub sumChain-prisms : (f : Functional) (e s b : Bool) (lo hi : ℕ) (u v : Row) → sumChain f b (prisms e s lo hi u v) ≡ sumPrism (λ c l t. f c (raised lo l ++ (u ++ raised hi t))) e (times s b) v
+pub sumChain-prisms : (f : Functional) (e s b : Bool) (lo hi : ℕ) (u v : Row) →
+    sumChain f b (prisms e s lo hi u v) ≡ sumPrism (λ c l t. f c (raised lo l ++ (u ++ raised hi t))) e (times s b) v
 sumChain-prisms f e s b lo hi u [] = refl
 sumChain-prisms f e s b lo hi u (x ∷ w) =
     ap (λ n. f (times s b) (raised lo (x ∷ w) ++ (u ++ (x + hi) ∷ [])) + n)
@@ -61,16 +66,24 @@ sumChain-eq : (F levelParts : Functional) → ((b : Bool) (v : Row) → F b v + 
 sumChain-eq F levelParts h b [] = refl
 sumChain-eq F levelParts h b (c ∷ cs) = rw (times-not-r (c .sign) b) (omega (arith, sumChain-eq F levelParts h b cs, h (times (c .sign) b) (c .row)))
 
-pub sumChain-level : (f : Functional) (nv i : ℕ) (b : Bool) (cs : List Cell) → sumChain f b (level nv i cs) ≡ sumChain (overPrism f (i * nv) (suc i * nv)) b cs
+pub sumChain-level : (f : Functional) (nv i : ℕ) (b : Bool) (cs : List Cell) →
+    sumChain f b (level nv i cs) ≡ sumChain (overPrism f (i * nv) (suc i * nv)) b cs
 sumChain-level f nv i b [] = refl
 sumChain-level f nv i b (c ∷ cs) =
-    omega (arith, sumChain-append f b (prism nv i c) (level nv i cs), ap (sumChain f b) (prism-is nv i c), sumChain-prisms f (dimensionSign (c .row)) (c .sign) b (i * nv) (suc i * nv) [] (c .row), sumChain-level f nv i b cs)
+    omega (
+      arith,
+      sumChain-append f b (prism nv i c) (level nv i cs),
+      ap (sumChain f b) (prism-is nv i c),
+      sumChain-prisms f (dimensionSign (c .row)) (c .sign) b (i * nv) (suc i * nv) [] (c .row),
+      sumChain-level f nv i b cs,
+    )
 
 abbrev levelParts : Functional → ℕ → ℕ → Functional
 levelParts f lo hi c y = atHeight f hi c y + atHeight f lo (not c) y + sumFaces (overPrism f lo hi) c y
 
 levelParts-sum : (f : Functional) (nv i : ℕ) (b : Bool) (cs : List Cell) →
-    sumChain (levelParts f (i * nv) (suc i * nv)) b cs ≡ sumChain (atHeight f (suc i * nv)) b cs + sumChain (atHeight f (i * nv)) (not b) cs + sumChain f b (level nv i (allFaces cs))
+    sumChain (levelParts f (i * nv) (suc i * nv)) b cs
+    ≡ sumChain (atHeight f (suc i * nv)) b cs + sumChain (atHeight f (i * nv)) (not b) cs + sumChain f b (level nv i (allFaces cs))
 levelParts-sum f nv i b cs =
     let lo = i * nv in let hi = suc i * nv in
     omega (
@@ -83,9 +96,15 @@ levelParts-sum f nv i b cs =
     )
 
 level-id : (f : Functional) (nv i : ℕ) (b : Bool) (cs : List Cell) →
-    sumChain (sumFaces f) b (level nv i cs) + sumChain (levelParts f (i * nv) (suc i * nv)) (not b) cs ≡ sumChain (levelParts f (i * nv) (suc i * nv)) b cs + sumChain (sumFaces f) (not b) (level nv i cs)
+    sumChain (sumFaces f) b (level nv i cs) + sumChain (levelParts f (i * nv) (suc i * nv)) (not b) cs
+    ≡ sumChain (levelParts f (i * nv) (suc i * nv)) b cs + sumChain (sumFaces f) (not b) (level nv i cs)
 level-id f nv i b cs =
-    omega (arith, sumChain-eq (overPrism (sumFaces f) (i * nv) (suc i * nv)) (levelParts f (i * nv) (suc i * nv)) go b cs, sumChain-level (sumFaces f) nv i b cs, sumChain-level (sumFaces f) nv i (not b) cs)
+    omega (
+      arith,
+      sumChain-eq (overPrism (sumFaces f) (i * nv) (suc i * nv)) (levelParts f (i * nv) (suc i * nv)) go b cs,
+      sumChain-level (sumFaces f) nv i b cs,
+      sumChain-level (sumFaces f) nv i (not b) cs,
+    )
   where
     go : (b : Bool) (v : Row) → overPrism (sumFaces f) (i * nv) (suc i * nv) b v + levelParts f (i * nv) (suc i * nv) (not b) v
         ≡ levelParts f (i * nv) (suc i * nv) b v + overPrism (sumFaces f) (i * nv) (suc i * nv) (not b) v
@@ -93,10 +112,12 @@ level-id f nv i b cs =
     go false v = cell-id f (i * nv) (suc i * nv) false v
 
 abbrev pub sweptParts : Functional → ℕ → ℕ → Bool → List Cell → ℕ
-sweptParts f nv h b cs = sumChain (atHeight f (h * nv)) b cs + sumChain (atHeight f (zero * nv)) (not b) cs + sumChain f b (sweepOf nv h (allFaces cs))
+sweptParts f nv h b cs =
+    sumChain (atHeight f (h * nv)) b cs + sumChain (atHeight f (zero * nv)) (not b) cs + sumChain f b (sweepOf nv h (allFaces cs))
 
 pub sweep-id : (f : Functional) (nv h : ℕ) (cs : List Cell) →
-    sumChain (sumFaces f) true (sweepOf nv h cs) + sweptParts f nv h false cs ≡ sweptParts f nv h true cs + sumChain (sumFaces f) false (sweepOf nv h cs)
+    sumChain (sumFaces f) true (sweepOf nv h cs) + sweptParts f nv h false cs
+    ≡ sweptParts f nv h true cs + sumChain (sumFaces f) false (sweepOf nv h cs)
 sweep-id f nv zero cs = omega arith
 sweep-id f nv (suc h) cs =
     omega (

@@ -3,18 +3,18 @@ use mathlib.Core.Path.{_≡_, ap, ap₂, fun-ext, subst, sym, _∙_}
 use Prim.Native.Nat.{_%_, _*_, _+_, _/_, _<_, suc, zero, ℕ, _≤_}
 use mathlib.Core.List.{_++_, List, [], _∷_}
 use lib.ListN.{List·getD-append, getD, length}
-use native.Mathlib.Nat.{add-mul, div-add-mod', div-lt-iff-lt-mul, le-of-suc-le-suc, mod-lt, mul-assoc, mul-le-mul-right, mul-zero, not-suc-le-zero, suc-mul, zero-mul}
+use native.Mathlib.Nat.{add-mul, div-add-mod', div-lt-iff-lt-mul, le-of-suc-le-suc, mod-lt, mul-assoc, mul-le-mul-right, mul-zero, not-suc-le-zero}
+use native.Mathlib.Nat.{suc-mul, zero-mul}
 use native.Mathlib.Omega.{arith}
 use lib.Seq.{ext-getD, getD-append-add}
 use mathlib.Core.Bool.{true}
 use Rattle.words.specs.Records.{concat, tabulate}
 use Rattle.words.proofs.Records.{EachLong, concat-length, tabulate-at, tabulate-ext, tabulate-length}
-use Rattle.rules.specs.Limits.{empty}
 use Rattle.simplex.specs.Cell.{Cell, cell}
 use Rattle.simplex.specs.Faces.{without}
 use Rattle.simplex.proofs.Counts.{All}
 use Rattle.simplex.proofs.Rows.{Long}
-use Rattle.complex.specs.Layout.{Entry}
+use Rattle.records.specs.Layout.{empty, Entry}
 use Rattle.complex.specs.Table.{entryAt, tableOf, wingAt}
 use Rattle.complex.specs.Wings.{neighbour, wingsOf}
 use Rattle.complex.proofs.Solid.{Solid, all-at, rowAt}
@@ -28,7 +28,8 @@ use Rattle.prism.proofs.SweptSolid.{swept-long}
 use Rattle.prism.proofs.SweptWings.{wings-are}
 
 -- element r of list i of lists of one length, one after the other
-concat-at : {A : Type 0} (m : ℕ) (z : A) (xss : List (List A)) (i r : ℕ) → EachLong m xss → i < length xss → r < m → getD (concat xss) (r + i * m) z ≡ getD (getD xss i []) r z
+concat-at : {A : Type 0} (m : ℕ) (z : A) (xss : List (List A)) (i r : ℕ) → EachLong m xss →
+    i < length xss → r < m → getD (concat xss) (r + i * m) z ≡ getD (getD xss i []) r z
 concat-at m z [] i r a hi hr = absurd (not-suc-le-zero hi)
 concat-at m z (xs ∷ xss) zero r a hi hr =
     let e : r + 0 * m ≡ r = omega (arith, zero-mul m) in
@@ -54,20 +55,24 @@ module _ (d v s h : ℕ) (es : List Entry) where
 
   level-length : (i : ℕ) → length (levelEntries i) ≡ s * suc d
   level-length i =
-      concat-length (suc d) (tabulate s (prismEntries i)) (each-tabulated (suc d) s (prismEntries i) (λ p. tabulate-length (suc d) (sweptEntry d v s h es i p)))
+      concat-length (suc d) (tabulate s (prismEntries i))
+      (each-tabulated (suc d) s (prismEntries i) (λ p. tabulate-length (suc d) (sweptEntry d v s h es i p)))
       ∙ ap (λ n. n * suc d) (tabulate-length s (prismEntries i))
 
   pub swept-length : length (sweptTable d v s h es) ≡ h * (s * suc d)
   swept-length =
-      concat-length (s * suc d) (tabulate h levelEntries) (each-tabulated (s * suc d) h levelEntries level-length) ∙ ap (λ n. n * (s * suc d)) (tabulate-length h levelEntries)
+      concat-length (s * suc d) (tabulate h levelEntries) (each-tabulated (s * suc d) h levelEntries level-length)
+      ∙ ap (λ n. n * (s * suc d)) (tabulate-length h levelEntries)
 
   -- the entry with the number of cell k over cell p at level i
   pub swept-at : (i p k : ℕ) → i < h → p < s → k < suc d → entryAt (sweptTable d v s h es) (cellNumber d s i p k) ≡ sweptEntry d v s h es i p k
   swept-at i p k hi hp hk =
-      concat-at (s * suc d) none (tabulate h levelEntries) i (k + p * suc d) (each-tabulated (s * suc d) h levelEntries level-length) (rw (tabulate-length h levelEntries) hi)
+      concat-at (s * suc d) none (tabulate h levelEntries) i (k + p * suc d)
+      (each-tabulated (s * suc d) h levelEntries level-length) (rw (tabulate-length h levelEntries) hi)
       (omega (arith, suc-mul p (suc d), mul-le-mul-right {m = suc p} {n = s} (suc d) hp))
       ∙ ap (λ xs. getD xs (k + p * suc d) none) (tabulate-at h levelEntries i [] hi)
-      ∙ concat-at (suc d) none (tabulate s (prismEntries i)) p k (each-tabulated (suc d) s (prismEntries i) (λ p. tabulate-length (suc d) (sweptEntry d v s h es i p)))
+      ∙ concat-at (suc d) none (tabulate s (prismEntries i)) p k
+      (each-tabulated (suc d) s (prismEntries i) (λ p. tabulate-length (suc d) (sweptEntry d v s h es i p)))
       (rw (tabulate-length s (prismEntries i)) hp) hk
       ∙ ap (λ xs. getD xs k none) (tabulate-at s (prismEntries i) p [] hp)
       ∙ tabulate-at (suc d) (sweptEntry d v s h es i p) k none hk
@@ -82,11 +87,13 @@ module _ (nv d h : ℕ) (cs : List Cell) (solid : Solid nv cs) (long : All (Long
   abbrev S : ℕ
   S = length cs
 
-  wings-at : (i p k : ℕ) → i < h → p < S → k ≤ d → wingsOf T (cellNumber d S i p k) (cellAt T (cellNumber d S i p k)) ≡ tabulate (suc (suc d)) (sweptWing d S h (wingAt (tableOf cs)) i p k)
+  wings-at : (i p k : ℕ) → i < h → p < S → k ≤ d →
+      wingsOf T (cellNumber d S i p k) (cellAt T (cellNumber d S i p k)) ≡ tabulate (suc (suc d)) (sweptWing d S h (wingAt (tableOf cs)) i p k)
   wings-at i p k hi hp hk =
       wings-tabulated T c (cellAt T c)
       ∙ ap (λ n. tabulate n (λ j. neighbour c (without j (rowAt T c)) T))
-      (all-at (Long (suc (suc d))) T (swept-long nv h (suc d) cs long) c (omega (arith, len-sweep nv (suc d) h cs long, num-lt nv (suc d) h S i p k hi hp (omega arith))))
+      (all-at (Long (suc (suc d))) T (swept-long nv h (suc d) cs long) c
+      (omega (arith, len-sweep nv (suc d) h cs long, num-lt nv (suc d) h S i p k hi hp (omega arith))))
       ∙ tabulate-ext (suc (suc d)) (λ j. neighbour c (without j (rowAt T c)) T) (sweptWing d S h (wingAt (tableOf cs)) i p k)
       (λ j l. wings-are nv d h cs solid long small i p k j hi hp hk (omega arith)
       ∙ ap (λ (wing : ℕ → ℕ → ℕ). sweptWing d S h wing i p k j) (sym (fun-ext (λ q. fun-ext (λ a. table-wing (suc d) cs long q a)))))
@@ -94,7 +101,8 @@ module _ (nv d h : ℕ) (cs : List Cell) (solid : Solid nv cs) (long : All (Long
       c : ℕ
       c = cellNumber d S i p k
 
-  entry-at : (i p k : ℕ) → i < h → p < S → k ≤ d → entryAt (tableOf T) (cellNumber d S i p k) ≡ entryAt (sweptTable d nv S h (tableOf cs)) (cellNumber d S i p k)
+  entry-at : (i p k : ℕ) → i < h → p < S → k ≤ d →
+      entryAt (tableOf T) (cellNumber d S i p k) ≡ entryAt (sweptTable d nv S h (tableOf cs)) (cellNumber d S i p k)
   entry-at i p k hi hp hk =
       table-at T (cellNumber d S i p k) (omega (arith, len-sweep nv (suc d) h cs long, num-lt nv (suc d) h S i p k hi hp (omega arith)))
       ∙ ap₂ {C = Entry} (λ c ws. record { cell = c; wings = ws })
@@ -121,7 +129,13 @@ module _ (nv d h : ℕ) (cs : List Cell) (solid : Solid nv cs) (long : All (Long
       c-is : c ≡ cellNumber d S (c / suc d / S) (c / suc d % S) (c % suc d)
       c-is =
           let m = c / suc d in
-          omega (arith, div-add-mod' c (suc d), ap (λ x. x * suc d) (div-add-mod' m S), add-mul (m / S * S) (m % S) (suc d), mul-assoc (m / S) S (suc d))
+          omega (
+            arith,
+            div-add-mod' c (suc d),
+            ap (λ x. x * suc d) (div-add-mod' m S),
+            add-mul (m / S * S) (m % S) (suc d),
+            mul-assoc (m / S) S (suc d),
+          )
 
       hk : c % suc d ≤ d
       hk = omega (arith, mod-lt c {m = suc d} (omega arith))
@@ -134,7 +148,8 @@ module _ (nv d h : ℕ) (cs : List Cell) (solid : Solid nv cs) (long : All (Long
 
   pub swept-table : sweptTable d nv S h (tableOf cs) ≡ tableOf T
   swept-table =
-      sym (ext-getD (record { cell = cell true []; wings = [] }) (tableOf T) (sweptTable d nv S h (tableOf cs)) (lengths ∙ sym (swept-length d nv S h (tableOf cs)))
+      sym (ext-getD (record { cell = cell true []; wings = [] }) (tableOf T)
+      (sweptTable d nv S h (tableOf cs)) (lengths ∙ sym (swept-length d nv S h (tableOf cs)))
       (λ c l. at-number c (omega (arith, l, lengths))))
     where
       lengths : length (tableOf T) ≡ h * (S * suc d)

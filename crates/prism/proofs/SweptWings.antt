@@ -19,7 +19,8 @@ use Rattle.complex.proofs.Symmetric.{wings-symmetric}
 use Rattle.prism.specs.Cells.{sweepOf}
 use Rattle.prism.specs.Sides.{Side, sideFace, sidePair, sidePlace}
 use Rattle.prism.specs.Wings.{backFrom, backTo, cellNumber, sweptWing, wingAside}
-use Rattle.prism.proofs.Meeting.{bottom-none, inner-next, inner-prev, level-next, level-prev, side-meet, side-none, sideCell, sidePosition, top-none}
+use Rattle.prism.proofs.Meeting.{bottom-none, inner-next, inner-prev, level-next, level-prev, side-meet, side-none, top-none}
+use Rattle.prism.proofs.SweptRows.{sideCell, sidePosition}
 use Rattle.prism.proofs.SideLaws.{side-closed}
 
 pub back-is : (W : ℕ → ℕ → ℕ) (p q n b c : ℕ) → W q c ≡ p → b ≤ c → c < b + n → ((m : ℕ) → m < c → W q m ≡ p → ⊥) → backFrom W p q b n ≡ c
@@ -50,7 +51,8 @@ module _ (nv d h : ℕ) (cs : List Cell) (s : Solid nv cs) (ln : All (Long (suc 
   side-is : (i p a l : ℕ) → i < h → p < S → a ≤ d → l < d → tw i p (sideCell a l) (sidePosition d a l) ≡ wingAside d S h W i p a l
   side-is i p a l hi hp ha hl = go (eqb (W p a) 65535) refl
     where
-      go : (t : Bool) → eqb (W p a) 65535 ≡ t → tw i p (sideCell a l) (sidePosition d a l) ≡ cond t 65535 (nu i (W p a) (sidePair d (backTo W p (W p a) d) l .cell))
+      go : (t : Bool) → eqb (W p a) 65535 ≡ t →
+          tw i p (sideCell a l) (sidePosition d a l) ≡ cond t 65535 (nu i (W p a) (sidePair d (backTo W p (W p a) d) l .cell))
       go true e = side-none nv d h cs s ln i p a l hi hp ha hl small (eqb-true (W p a) 65535 e)
       go false e =
           let r = wings-symmetric nv d cs s ln small p a hp ha (eqb-false (W p a) 65535 e) in
@@ -83,7 +85,8 @@ module _ (nv d h : ℕ) (cs : List Cell) (s : Solid nv cs) (ln : All (Long (suc 
           let y : k ≡ suc (k - 1) = omega arith in
           ap (λ k. tw i p k (suc d)) y ∙ inner-prev nv d h cs s ln i p (k - 1) hi hp (omega arith)
 
-      goC : (t : Bool) → leb (k + j) d ≡ t → j ≢ 0 → j ≢ suc d → tw i p k j ≡ wingAside d S h W i p (cond t (k + j) (k + j - suc d)) (cond t k (k - 1))
+      goC : (t : Bool) → leb (k + j) d ≡ t → j ≢ 0 → j ≢ suc d →
+          tw i p k j ≡ wingAside d S h W i p (cond t (k + j) (k + j - suc d)) (cond t k (k - 1))
       goC true e n m =
           let z : k + j ≤ d = leb-true (k + j) d e in
           let x : ltb k (k + j) ≡ true = lt-ltb k (k + j) (omega arith) in

@@ -6,7 +6,7 @@
 use mathlib.Core.Bool.{cond}
 use Prim.Native.Nat.{ℕ, zero, suc, _+_, _*_, _-_}
 use lib.Dec.{eqb, ltb}
-use Rattle.rules.specs.Limits.{empty}
+use Rattle.records.specs.Layout.{empty}
 use Rattle.prism.specs.Sides.{sidePair, sideFace, sidePlace}
 
 abbrev pub cellNumber : ℕ → ℕ → ℕ → ℕ → ℕ → ℕ

@@ -20,11 +20,13 @@ use Rattle.simplex.proofs.Sums.{Functional, plusOn, sumChain, sumChain-
 abbrev pub restricted : (Row → Bool) → Functional → Functional
 restricted q f c y = cond (q y) (f c y) 0
 
-sumChain-cond : (t : Bool) (f : Functional) (b : Bool) (c : Cell) (r : List Cell) → sumChain f b (cond t (c ∷ r) r) ≡ cond t (f (times (c .sign) b) (c .row)) 0 + sumChain f b r
+sumChain-cond : (t : Bool) (f : Functional) (b : Bool) (c : Cell) (r : List Cell) →
+    sumChain f b (cond t (c ∷ r) r) ≡ cond t (f (times (c .sign) b) (c .row)) 0 + sumChain f b r
 sumChain-cond true f b c r = refl
 sumChain-cond false f b c r = omega arith
 
-pub sumChain-keep : (q : Row → Bool) (f : Functional) (b : Bool) (cs : List Cell) → sumChain f b (keep (λ c. q (c .row)) cs) ≡ sumChain (restricted q f) b cs
+pub sumChain-keep : (q : Row → Bool) (f : Functional) (b : Bool) (cs : List Cell) →
+    sumChain f b (keep (λ c. q (c .row)) cs) ≡ sumChain (restricted q f) b cs
 sumChain-keep q f b [] = refl
 sumChain-keep q f b (c ∷ cs) = omega (arith, sumChain-cond (q (c .row)) f b c (keep (λ c. q (c .row)) cs), sumChain-keep q f b cs)
 
@@ -37,7 +39,8 @@ on-one f v c y = go c (sameRow y v) (sameRow-true y v)
     go true false h = omega (arith, zero-mul (f true v), zero-mul (f false v))
     go false false h = omega (arith, zero-mul (f true v), zero-mul (f false v))
 
-on-sum : (f : Functional) (v : Row) (b : Bool) (cs : List Cell) → sumChain (restricted (λ y. sameRow y v) f) b cs ≡ sumChain (plusOn v) b cs * f true v + sumChain (plusOn v) (not b) cs * f false v
+on-sum : (f : Functional) (v : Row) (b : Bool) (cs : List Cell) →
+    sumChain (restricted (λ y. sameRow y v) f) b cs ≡ sumChain (plusOn v) b cs * f true v + sumChain (plusOn v) (not b) cs * f false v
 on-sum f v b [] = omega (arith, zero-mul (f true v), zero-mul (f false v))
 on-sum f v b (c ∷ cs) =
     rw (times-not-r (c .sign) b) (omega (
@@ -55,11 +58,13 @@ cond-split : (t : Bool) (n : ℕ) → n ≡ cond t n 0 + cond (not t) n 0
 cond-split true n = omega arith
 cond-split false n = omega arith
 
-pub sumChain-splits : (q : Row → Bool) (f : Functional) (b : Bool) (cs : List Cell) → sumChain f b cs ≡ sumChain (restricted q f) b cs + sumChain (restricted (λ y. not (q y)) f) b cs
+pub sumChain-splits : (q : Row → Bool) (f : Functional) (b : Bool) (cs : List Cell) →
+    sumChain f b cs ≡ sumChain (restricted q f) b cs + sumChain (restricted (λ y. not (q y)) f) b cs
 sumChain-splits q f b [] = refl
 sumChain-splits q f b (c ∷ cs) = omega (arith, sumChain-splits q f b cs, cond-split (q (c .row)) (f (times (c .sign) b) (c .row)))
 
-sumChain-split : (f : Functional) (v : Row) (b : Bool) (cs : List Cell) → sumChain f b cs ≡ sumChain (restricted (λ y. sameRow y v) f) b cs + sumChain (restricted (off v) f) b cs
+sumChain-split : (f : Functional) (v : Row) (b : Bool) (cs : List Cell) →
+    sumChain f b cs ≡ sumChain (restricted (λ y. sameRow y v) f) b cs + sumChain (restricted (off v) f) b cs
 sumChain-split f v b cs = sumChain-splits (λ y. sameRow y v) f b cs
 
 keep-length : (q : Cell → Bool) (cs : List Cell) → length (keep q cs) ≤ length cs
@@ -70,13 +75,18 @@ keep-length q (c ∷ cs) = go (q c) (keep-length q cs)
     go true h = omega arith
     go false h = omega arith
 
-pub on-bal : (f : Functional) (v : Row) (cs : List Cell) → sumChain (plusOn v) true cs ≡ sumChain (plusOn v) false cs →
+-- as many plus cells as minus cells on a row
+abbrev pub Balanced : Row → List Cell → Type 0
+Balanced w F = sumChain (plusOn w) true F ≡ sumChain (plusOn w) false F
+
+pub on-bal : (f : Functional) (v : Row) (cs : List Cell) → Balanced v cs →
     sumChain (restricted (λ y. sameRow y v) f) true cs ≡ sumChain (restricted (λ y. sameRow y v) f) false cs
 on-bal f v cs h = rw (on-sum f v true cs, on-sum f v false cs, h) refl
 
-rest : (n : ℕ) (f : Functional) (c : Cell) (cs : List Cell) → sumChain (plusOn (c .row)) true (c ∷ cs) ≡ sumChain (plusOn (c .row)) false (c ∷ cs) →
+rest : (n : ℕ) (f : Functional) (c : Cell) (cs : List Cell) → Balanced (c .row) (c ∷ cs) →
     keep (λ a. off (c .row) (a .row)) (c ∷ cs) ≡ keep (λ a. off (c .row) (a .row)) cs →
-    sumChain f true (c ∷ cs) + sumChain f false (keep (λ a. off (c .row) (a .row)) cs) ≡ sumChain f false (c ∷ cs) + sumChain f true (keep (λ a. off (c .row) (a .row)) cs)
+    sumChain f true (c ∷ cs) + sumChain f false (keep (λ a. off (c .row) (a .row)) cs)
+    ≡ sumChain f false (c ∷ cs) + sumChain f true (keep (λ a. off (c .row) (a .row)) cs)
 rest n f c cs h e =
     let v : Row = c .row in
     omega (
@@ -91,7 +101,7 @@ rest n f c cs h e =
     )
 
 -- where each row has as many plus cells as minus cells, every functional sums to nothing
-pub bal : (n : ℕ) (f : Functional) (cs : List Cell) → length cs ≤ n → ((w : Row) → sumChain (plusOn w) true cs ≡ sumChain (plusOn w) false cs) → sumChain f true cs ≡ sumChain f false cs
+pub bal : (n : ℕ) (f : Functional) (cs : List Cell) → length cs ≤ n → ((w : Row) → Balanced w cs) → sumChain f true cs ≡ sumChain f false cs
 bal zero f [] l h = refl
 bal zero f (c ∷ cs) l h = absurd (omega arith)
 bal (suc n) f [] l h = refl
@@ -99,14 +109,18 @@ bal (suc n) f (c ∷ cs) l h =
     let v : Row = c .row in
     let r : List Cell = keep (λ c. off v (c .row)) cs in
     let e : keep (λ c. off v (c .row)) (c ∷ cs) ≡ r = rw (sameRow-refl v) refl in
-    omega (arith, rest n f c cs (h v) e, bal n f r (omega (arith, keep-length (λ c. off v (c .row)) cs)) (λ w. omega (arith, h w, rest n (plusOn w) c cs (h v) e)))
+    omega (
+      arith,
+      rest n f c cs (h v) e,
+      bal n f r (omega (arith, keep-length (λ c. off v (c .row)) cs)) (λ w. omega (arith, h w, rest n (plusOn w) c cs (h v) e)),
+    )
 
 abbrev pub loneIn : List Cell → Row → Bool
 loneIn F w = eqb (total w F) 1
 
 -- each face that does not stand alone is met by its opposite
 abbrev pub Paired : List Cell → Type 0
-Paired F = (w : Row) → loneIn F w ≡ false → sumChain (plusOn w) true F ≡ sumChain (plusOn w) false F
+Paired F = (w : Row) → loneIn F w ≡ false → Balanced w F
 
 cond-zero : (t : Bool) → _≡_ {A = ℕ} (cond t 0 0) 0
 cond-zero true = refl
@@ -120,8 +134,10 @@ res-ind q w c y = go (sameRow y w) (sameRow-true y w)
     go false h = rw (and-false c) (cond-zero (q y) ∙ sym (cond-zero (q w)))
 
 -- the row's count in what a test of the row keeps
-pub count-keep : (q : Row → Bool) (w : Row) (b : Bool) (cs : List Cell) → sumChain (plusOn w) b (keep (λ c. q (c .row)) cs) ≡ cond (q w) (sumChain (plusOn w) b cs) 0
-count-keep q w b cs = sumChain-keep q (plusOn w) b cs ∙ ap (λ (f : Functional). sumChain f b cs) (fun-ext (λ c. fun-ext (λ y. res-ind q w c y))) ∙ go (q w)
+pub count-keep : (q : Row → Bool) (w : Row) (b : Bool) (cs : List Cell) →
+    sumChain (plusOn w) b (keep (λ c. q (c .row)) cs) ≡ cond (q w) (sumChain (plusOn w) b cs) 0
+count-keep q w b cs =
+    sumChain-keep q (plusOn w) b cs ∙ ap (λ (f : Functional). sumChain f b cs) (fun-ext (λ c. fun-ext (λ y. res-ind q w c y))) ∙ go (q w)
   where
     go : (t : Bool) → sumChain (λ c y. cond t (plusOn w c y) 0) b cs ≡ cond t (sumChain (plusOn w) b cs) 0
     go true = refl
@@ -156,7 +172,14 @@ plus-minus w (c ∷ cs) = omega (arith, plus-minus w cs, go (c .sign) (sameRow (
     go false t = omega arith
 
 pub total-keep : (q : Row → Bool) (w : Row) (cs : List Cell) → total w (keep (λ c. q (c .row)) cs) ≡ cond (q w) (total w cs) 0
-total-keep q w cs = omega (arith, plus-minus w (keep (λ c. q (c .row)) cs), plus-minus w cs, count-keep q w true cs, count-keep q w false cs, go (q w) (sumChain (plusOn w) true cs) (sumChain (plusOn w) false cs) (total w cs) (plus-minus w cs))
+total-keep q w cs = omega (
+  arith,
+  plus-minus w (keep (λ c. q (c .row)) cs),
+  plus-minus w cs,
+  count-keep q w true cs,
+  count-keep q w false cs,
+  go (q w) (sumChain (plusOn w) true cs) (sumChain (plusOn w) false cs) (total w cs) (plus-minus w cs),
+)
   where
     go : (t : Bool) (m n k : ℕ) → m + n ≡ k → cond t m 0 + cond t n 0 ≡ cond t k 0
     go true m n k e = e
@@ -164,7 +187,8 @@ total-keep q w cs = omega (arith, plus-minus w (keep (λ c. q (c .row)) cs), plu
 
 -- what is 0 on the empty row does not see the difference
 pub sumChain-facets : (f : Functional) (b : Bool) (cs : List Cell) → ((c : Bool) → f c [] ≡ 0) → sumChain f b (facets cs) ≡ sumChain f b (allFaces cs)
-sumChain-facets f b cs h = sumChain-keep filled f b (allFaces cs) ∙ ap (λ (f : Functional). sumChain f b (allFaces cs)) (fun-ext (λ c. fun-ext (λ y. go c y)))
+sumChain-facets f b cs h =
+    sumChain-keep filled f b (allFaces cs) ∙ ap (λ (f : Functional). sumChain f b (allFaces cs)) (fun-ext (λ c. fun-ext (λ y. go c y)))
   where
     go : (c : Bool) (y : Row) → restricted filled f c y ≡ f c y
     go c [] = sym (h c)

@@ -2,15 +2,27 @@
 --   countFaces g w        the sum of g over the faces of a row
 --   All P cs              each row of the list has the property
 use mathlib.Core.Path.{_≡_, refl, sym, ap, _∙_, fun-ext}
-use mathlib.Core.Bool.{Bool, true, false, not, cond}
+use mathlib.Core.Bool.{Bool, true, false, not, cond, _&&_}
 use mathlib.Core.List.{List, [], _∷_, _++_, map, append-assoc}
 use Prim.Native.Nat.{ℕ, _+_, _≤_}
 use native.Mathlib.Omega.{arith}
-use Rattle.simplex.specs.Cell.{Cell, Row, times}
+use Rattle.simplex.specs.Cell.{Cell, Row, one, times}
 use Rattle.simplex.specs.Chain.{sumRows}
 use Rattle.simplex.specs.Faces.{allFaces, faces}
 use Rattle.simplex.proofs.Rows.{Below}
 use Rattle.simplex.proofs.Sums.{Functional, sumChain, sumChain-allFaces, sumFaces}
+
+pub one-le : (t : Bool) → one t ≤ 1
+one-le true = omega arith
+one-le false = omega arith
+
+pub one-and : (s t : Bool) → one (s && t) ≤ one t
+one-and true t = omega arith
+one-and false t = omega arith
+
+pub cond-le : (t : Bool) (n : ℕ) → cond t n 0 ≤ n
+cond-le true n = omega arith
+cond-le false n = omega arith
 
 abbrev pub countFaces : (Row → ℕ) → Row → ℕ
 countFaces g [] = 0
@@ -34,7 +46,8 @@ countFaces-map g f (x ∷ w) = ap (λ n. g (map f w) + n) (countFaces-map (λ y.
 
 pub countFaces-le : (nv : ℕ) (f g : Row → ℕ) (v : Row) → Below nv v → ((y : Row) → Below nv y → f y ≤ g y) → countFaces f v ≤ countFaces g v
 countFaces-le nv f g [] bd h = omega arith
-countFaces-le nv f g (x ∷ w) bd h = omega (arith, h w (bd .1), countFaces-le nv (λ y. f (x ∷ y)) (λ y. g (x ∷ y)) w (bd .1) (λ y b. h (x ∷ y) (bd .0, b)))
+countFaces-le nv f g (x ∷ w) bd h =
+    omega (arith, h w (bd .1), countFaces-le nv (λ y. f (x ∷ y)) (λ y. g (x ∷ y)) w (bd .1) (λ y b. h (x ∷ y) (bd .0, b)))
 
 pub sumChain-sumRows : (g : Row → ℕ) (b : Bool) (cs : List Cell) → sumChain (λ c y. g y) b cs ≡ sumRows g cs
 sumChain-sumRows g b [] = refl
@@ -58,7 +71,8 @@ sumRows-le p f g (c ∷ cs) a h = omega (arith, h (c .row) (a .0), sumRows-le p 
 
 pub sumRows-allFaces : (g : Row → ℕ) (cs : List Cell) → sumRows g (allFaces cs) ≡ sumRows (countFaces g) cs
 sumRows-allFaces g cs =
-    sym (sumChain-sumRows g true (allFaces cs)) ∙ sumChain-allFaces (λ c y. g y) true cs ∙ ap (λ (f : Functional). sumChain f true cs) (fun-ext (λ c. fun-ext (λ y. sumFaces-countFaces g c y))) ∙ sumChain-sumRows (countFaces g) true cs
+    sym (sumChain-sumRows g true (allFaces cs)) ∙ sumChain-allFaces (λ c y. g y) true cs ∙ ap (λ (f : Functional). sumChain f true cs)
+    (fun-ext (λ c. fun-ext (λ y. sumFaces-countFaces g c y))) ∙ sumChain-sumRows (countFaces g) true cs
 
 pub sumRows-cond : (t : Bool) (f : Row → ℕ) (cs : List Cell) → sumRows (λ y. cond t (f y) 0) cs ≡ cond t (sumRows f cs) 0
 sumRows-cond true f cs = refl
@@ -70,7 +84,8 @@ countFaces-cond true f v = refl
 countFaces-cond false f [] = refl
 countFaces-cond false f (x ∷ v) = omega (arith, countFaces-cond false (λ y. f (x ∷ y)) v)
 
-pub sumChain-le : (p : Row → Type 0) (f : Functional) (g : Row → ℕ) (b : Bool) (cs : List Cell) → All p cs → ((c : Bool) (y : Row) → p y → f c y ≤ g y) → sumChain f b cs ≤ sumRows g cs
+pub sumChain-le : (p : Row → Type 0) (f : Functional) (g : Row → ℕ) (b : Bool) (cs : List Cell) →
+    All p cs → ((c : Bool) (y : Row) → p y → f c y ≤ g y) → sumChain f b cs ≤ sumRows g cs
 sumChain-le p f g b [] a h = omega arith
 sumChain-le p f g b (c ∷ cs) a h = omega (arith, h (times (c .sign) b) (c .row) (a .0), sumChain-le p f g b cs (a .1) h)
 

@@ -13,12 +13,13 @@ use Rattle.simplex.specs.Chain.{total}
 use Rattle.simplex.specs.Faces.{allFaces, faces, facets, keep, prefixed, without}
 use Rattle.simplex.specs.Sort.{Asc}
 use Rattle.simplex.proofs.Cancel.{total-keep}
-use Rattle.simplex.proofs.Counts.{All, All-append, countFaces, sumChain-sumRows, sumFaces-countFaces}
+use Rattle.simplex.proofs.Counts.{All, All-append, cond-le, one-le, countFaces, sumChain-sumRows, sumFaces-countFaces}
 use Rattle.simplex.proofs.Rows.{Long, hits, sameRow-refl}
 use Rattle.simplex.proofs.Sums.{sumChain-faces}
 
 pub total-faces : (w : Row) (s : Bool) (v : Row) → total w (faces s v) ≡ countFaces (hits w) v
-total-faces w s v = sym (sumChain-sumRows (hits w) true (faces s v)) ∙ sumChain-faces (λ c y. hits w y) s true v ∙ sumFaces-countFaces (hits w) (times s true) v
+total-faces w s v =
+    sym (sumChain-sumRows (hits w) true (faces s v)) ∙ sumChain-faces (λ c y. hits w y) s true v ∙ sumFaces-countFaces (hits w) (times s true) v
 
 pub countFaces-face : (g : Row → ℕ) (j : ℕ) (v : Row) → j < length v → g (without j v) ≤ countFaces g v
 countFaces-face g j [] h = absurd (not-suc-le-zero h)
@@ -36,7 +37,8 @@ pub countFaces-find : (q : Row → Bool) (v : Row) → 1 ≤ countFaces (λ y. o
 countFaces-find q [] h = absurd (not-suc-le-zero h)
 countFaces-find q (x ∷ v) h = go (q v) refl h (countFaces-find (λ y. q (x ∷ y)) v)
   where
-    go : (t : Bool) → q v ≡ t → 1 ≤ one t + countFaces (λ y. one (q (x ∷ y))) v → (1 ≤ countFaces (λ y. one (q (x ∷ y))) v → (b : ℕ) × (b < length v) × (q (x ∷ without b v) ≡ true)) →
+    go : (t : Bool) → q v ≡ t → 1 ≤ one t + countFaces (λ y. one (q (x ∷ y))) v →
+        (1 ≤ countFaces (λ y. one (q (x ∷ y))) v → (b : ℕ) × (b < length v) × (q (x ∷ without b v) ≡ true)) →
         (b : ℕ) × (b < suc (length v)) × (q (without b (x ∷ v)) ≡ true)
     go true e h k = (0, omega arith, e)
     go false e h k = let r = k (omega arith) in (suc (r .0), omega (arith, r .1), r .2)
@@ -49,29 +51,18 @@ countFaces-none q (x ∷ v) h = omega (arith, ap one (h v), countFaces-none (λ 
 pub countFaces-once : (w v : Row) → Asc v → countFaces (hits w) v ≤ 1
 countFaces-once w [] s = omega arith
 countFaces-once [] (x ∷ v) s = omega (arith, countFaces-none (λ y. false) v (λ y. refl), one-le (sameRow v []))
-  where
-    one-le : (t : Bool) → one t ≤ 1
-    one-le true = omega arith
-    one-le false = omega arith
 countFaces-once (y ∷ w) (x ∷ []) s = omega arith
 countFaces-once (y ∷ w) (x ∷ z ∷ v) s = go (eqb z y) refl (eqb x y) refl (countFaces-once w (z ∷ v) (s .1))
   where
-    one-le : (t : Bool) → one t ≤ 1
-    one-le true = omega arith
-    one-le false = omega arith
-
-    go : (a : Bool) → eqb z y ≡ a → (b : Bool) → eqb x y ≡ b → countFaces (hits w) (z ∷ v) ≤ 1 → one (a && sameRow v w) + countFaces (λ r. one (b && sameRow r w)) (z ∷ v) ≤ 1
+    go : (a : Bool) → eqb z y ≡ a → (b : Bool) → eqb x y ≡ b → countFaces (hits w) (z ∷ v) ≤ 1 →
+        one (a && sameRow v w) + countFaces (λ r. one (b && sameRow r w)) (z ∷ v) ≤ 1
     go true e true f k = absurd (omega (arith, eqb-true z y e, eqb-true x y f))
     go true e false f k = omega (arith, countFaces-none (λ r. false) (z ∷ v) (λ r. refl), one-le (sameRow v w))
     go false e true f k = omega arith
     go false e false f k = omega (arith, countFaces-none (λ r. false) (z ∷ v) (λ r. refl))
 
 pub facets-le : (w : Row) (cs : List Cell) → total w (facets cs) ≤ total w (allFaces cs)
-facets-le w cs = omega (arith, total-keep filled w (allFaces cs), go (filled w) (total w (allFaces cs)))
-  where
-    go : (t : Bool) (n : ℕ) → cond t n 0 ≤ n
-    go true n = omega arith
-    go false n = omega arith
+facets-le w cs = omega (arith, total-keep filled w (allFaces cs), cond-le (filled w) (total w (allFaces cs)))
 
 -- rows of two vertices or more: every face has a vertex
 pub keep-all : (q : Row → Bool) (L : List Cell) → All (λ w. q w ≡ true) L → keep (λ c. q (c .row)) L ≡ L
@@ -90,13 +81,10 @@ faces-filled s (x ∷ y ∷ v) l = (refl, front-filled x (faces (not s) (y ∷ v
 pub facets-same : (cs : List Cell) → All (λ v. 2 ≤ length v) cs → facets cs ≡ allFaces cs
 facets-same cs a = keep-all filled (allFaces cs) (go cs a)
   where
-    app : (xs ys : List Cell) → All (λ w. filled w ≡ true) xs → All (λ w. filled w ≡ true) ys → All (λ w. filled w ≡ true) (xs ++ ys)
-    app [] ys a b = b
-    app (c ∷ xs) ys a b = (a .0, app xs ys (a .1) b)
-
     go : (cs : List Cell) → All (λ v. 2 ≤ length v) cs → All (λ w. filled w ≡ true) (allFaces cs)
     go [] a = tt
-    go (c ∷ cs) a = app (faces (c .sign) (c .row)) (allFaces cs) (faces-filled (c .sign) (c .row) (a .0)) (go cs (a .1))
+    go (c ∷ cs) a =
+        All-append (λ w. filled w ≡ true) (faces (c .sign) (c .row)) (allFaces cs) (faces-filled (c .sign) (c .row) (a .0)) (go cs (a .1))
 
 pub keep-append : (q : Cell → Bool) (xs ys : List Cell) → keep q (xs ++ ys) ≡ keep q xs ++ keep q ys
 keep-append q [] ys = refl
@@ -106,7 +94,8 @@ keep-append q (c ∷ xs) ys = ap (λ r. cond (q c) (c ∷ r) r) (keep-append q x
     go true = refl
     go false = refl
 
-pub keep-ext : (R : Row → Type 0) (q r : Row → Bool) (L : List Cell) → All R L → ((w : Row) → R w → q w ≡ r w) → keep (λ c. q (c .row)) L ≡ keep (λ c. r (c .row)) L
+pub keep-ext : (R : Row → Type 0) (q r : Row → Bool) (L : List Cell) → All R L →
+    ((w : Row) → R w → q w ≡ r w) → keep (λ c. q (c .row)) L ≡ keep (λ c. r (c .row)) L
 keep-ext R q r [] a h = refl
 keep-ext R q r (c ∷ L) a h = ap₂ {C = List Cell} (λ t l. cond t (c ∷ l) l) (h (c .row) (a .0)) (keep-ext R q r L (a .1) h)
 
@@ -116,7 +105,8 @@ All-map R Q (c ∷ L) h a = (h (c .row) (a .0), All-map R Q L h (a .1))
 
 pub all-in : (L : List Cell) → All (λ w. 0 < total w L) L
 all-in [] = tt
-all-in (c ∷ L) = (omega (arith, ap one (sameRow-refl (c .row))), All-map (λ w. 0 < total w L) (λ w. 0 < total w (c ∷ L)) L (λ w h. omega arith) (all-in L))
+all-in (c ∷ L) =
+    (omega (arith, ap one (sameRow-refl (c .row))), All-map (λ w. 0 < total w L) (λ w. 0 < total w (c ∷ L)) L (λ w h. omega arith) (all-in L))
 
 pub All-both : (R Q : Row → Type 0) (L : List Cell) → All R L → All Q L → All (λ w. R w × Q w) L
 All-both R Q [] a b = tt
@@ -143,4 +133,5 @@ faces-long (suc n) s (x ∷ w) e = (omega arith, front-long n x (faces (not s) w
 
 pub allFaces-long : (n : ℕ) (cs : List Cell) → All (Long (suc n)) cs → All (Long n) (allFaces cs)
 allFaces-long n [] a = tt
-allFaces-long n (c ∷ cs) a = All-append (Long n) (faces (c .sign) (c .row)) (allFaces cs) (faces-long n (c .sign) (c .row) (a .0)) (allFaces-long n cs (a .1))
+allFaces-long n (c ∷ cs) a =
+    All-append (Long n) (faces (c .sign) (c .row)) (allFaces cs) (faces-long n (c .sign) (c .row) (a .0)) (allFaces-long n cs (a .1))

@@ -5,10 +5,9 @@
 --   Long n w          the row has n vertices
 --   hits w y          1 where y is the row w
 use mathlib.Core.Path.{_≡_, refl, ap₂}
-use mathlib.Core.Bool.{Bool, true, false, _&&_}
+use mathlib.Core.Bool.{Bool, true, false, _&&_, false≢true}
 use mathlib.Core.List.{[], _∷_}
 use Prim.Native.Nat.{ℕ, _<_}
-use native.Mathlib.Omega.{arith}
 use lib.Dec.{eqb}
 use lib.ListN.{length}
 use borrow.Author.Tests.{eqb-true, eq-eqb}
@@ -16,23 +15,20 @@ use Rattle.simplex.specs.Cell.{Row, one, sameRow}
 
 pub sameRow-true : (v w : Row) → sameRow v w ≡ true → v ≡ w
 sameRow-true [] [] e = refl
-sameRow-true [] (y ∷ w) e = absurd (no-ft e)
-  where
-    no-ft : false ≡ true → ⊥
-    no-ft e = let z : _≡_ {A = ℕ} 0 1 = cc in omega arith
-sameRow-true (x ∷ v) [] e = absurd (no-ft e)
-  where
-    no-ft : false ≡ true → ⊥
-    no-ft e = let z : _≡_ {A = ℕ} 0 1 = cc in omega arith
+sameRow-true [] (y ∷ w) e = absurd (false≢true e)
+sameRow-true (x ∷ v) [] e = absurd (false≢true e)
 sameRow-true (x ∷ v) (y ∷ w) e = go (eqb x y) refl (sameRow-true v w) e
   where
     go : (t : Bool) → eqb x y ≡ t → (sameRow v w ≡ true → v ≡ w) → (t && sameRow v w) ≡ true → _≡_ {A = Row} (x ∷ v) (y ∷ w)
     go true h ih e = ap₂ {C = Row} (λ a b. a ∷ b) (eqb-true x y h) (ih e)
-    go false h ih e = let z : _≡_ {A = ℕ} 0 1 = cc in absurd (omega arith)
+    go false h ih e = absurd (false≢true e)
 
 pub sameRow-refl : (v : Row) → sameRow v v ≡ true
 sameRow-refl [] = refl
 sameRow-refl (x ∷ v) = rw (eq-eqb x x refl) (sameRow-refl v)
+
+pub same-rows : (v w : Row) → v ≡ w → sameRow v w ≡ true
+same-rows v w e = rw e (sameRow-refl w)
 
 -- all vertices below nv
 abbrev pub Below : ℕ → Row → Type 0

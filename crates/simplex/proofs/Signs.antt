@@ -1,6 +1,6 @@
 -- Laws of signs.
 use mathlib.Core.Path.{_≡_, refl, sym, ap, _∙_}
-use mathlib.Core.Bool.{Bool, true, false, not}
+use mathlib.Core.Bool.{Bool, true, false, not, false≢true}
 use Prim.Native.Nat.{ℕ, zero, suc, _%_}
 use native.Mathlib.Omega.{arith}
 use lib.Dec.{eqb}
@@ -47,6 +47,15 @@ pub times-not-not : (s t : Bool) → times (not s) (not t) ≡ times s t
 times-not-not true true = refl
 times-not-not true false = refl
 times-not-not false t = refl
+
+pub times-self : (s : Bool) → times s s ≡ true
+times-self true = refl
+times-self false = refl
+
+pub times-same : (s t : Bool) → times s t ≡ true → s ≡ t
+times-same true t e = sym e
+times-same false true e = absurd (false≢true e)
+times-same false false e = refl
 
 -- (-1)^n by the rest of n
 pub alternating-rest : (n : ℕ) → alternating n ≡ eqb (n % 2) 0

@@ -61,21 +61,27 @@ without-inj (x ∷ v) b zero s l h e = not-suc-le-zero l
 without-inj (x ∷ v) zero (suc c) s l h e = omega (arith, asc-head x x v (without c v) s e)
 without-inj (x ∷ v) (suc b) (suc c) s l h e = without-inj v b c (asc-tail x v s) (le-of-suc-le-suc l) (le-of-suc-le-suc h) (tail-eq-of-cons-eq e)
 
-pub two-faces : (v u : Row) (b c a z : ℕ) → Asc v → Asc u → b < c → c < length v → a < length u → z < length u → without b v ≡ without a u → without c v ≡ without z u → v ≡ u
+pub two-faces : (v u : Row) (b c a z : ℕ) → Asc v → Asc u → b < c → c < length v →
+    a < length u → z < length u → without b v ≡ without a u → without c v ≡ without z u → v ≡ u
 two-faces [] u b c a z sv su l hc ha hz e f = absurd (not-suc-le-zero hc)
 two-faces (x ∷ v) [] b c a z sv su l hc ha hz e f = absurd (not-suc-le-zero ha)
 two-faces (x ∷ v) (y ∷ u) b zero a z sv su l hc ha hz e f = absurd (not-suc-le-zero l)
 two-faces (x ∷ v) (y ∷ u) zero (suc c) zero zero sv su l hc ha hz e f = absurd (omega (arith, asc-head x x v (without c v) sv (e ∙ sym f)))
 two-faces (x ∷ v) (y ∷ u) zero (suc c) zero (suc z) sv su l hc ha hz e f = ap₂ {C = Row} (λ a b. a ∷ b) (head-eq-of-cons-eq f) e
-two-faces (x ∷ v) (y ∷ u) zero (suc c) (suc a) zero sv su l hc ha hz e f = absurd (omega (arith, asc-head x y v (without a u) sv e, asc-head y x u (without c v) su (sym f)))
-two-faces (x ∷ v) (y ∷ u) zero (suc c) (suc a) (suc z) sv su l hc ha hz e f = absurd (omega (arith, asc-head x y v (without a u) sv e, head-eq-of-cons-eq f))
+two-faces (x ∷ v) (y ∷ u) zero (suc c) (suc a) zero sv su l hc ha hz e f =
+    absurd (omega (arith, asc-head x y v (without a u) sv e, asc-head y x u (without c v) su (sym f)))
+two-faces (x ∷ v) (y ∷ u) zero (suc c) (suc a) (suc z) sv su l hc ha hz e f =
+    absurd (omega (arith, asc-head x y v (without a u) sv e, head-eq-of-cons-eq f))
 two-faces (x ∷ v) (y ∷ u) (suc b) (suc c) zero zero sv su l hc ha hz e f =
     absurd (without-inj v b c (asc-tail x v sv) (le-of-suc-le-suc l) (le-of-suc-le-suc hc) (tail-eq-of-cons-eq (e ∙ sym f)))
-two-faces (x ∷ v) (y ∷ u) (suc b) (suc c) zero (suc z) sv su l hc ha hz e f = absurd (omega (arith, asc-head y x u (without b v) su (sym e), head-eq-of-cons-eq f))
-two-faces (x ∷ v) (y ∷ u) (suc b) (suc c) (suc a) zero sv su l hc ha hz e f = absurd (omega (arith, asc-head y x u (without c v) su (sym f), head-eq-of-cons-eq e))
+two-faces (x ∷ v) (y ∷ u) (suc b) (suc c) zero (suc z) sv su l hc ha hz e f =
+    absurd (omega (arith, asc-head y x u (without b v) su (sym e), head-eq-of-cons-eq f))
+two-faces (x ∷ v) (y ∷ u) (suc b) (suc c) (suc a) zero sv su l hc ha hz e f =
+    absurd (omega (arith, asc-head y x u (without c v) su (sym f), head-eq-of-cons-eq e))
 two-faces (x ∷ v) (y ∷ u) (suc b) (suc c) (suc a) (suc z) sv su l hc ha hz e f =
     ap₂ {C = Row} (λ a b. a ∷ b) (head-eq-of-cons-eq e)
-    (two-faces v u b c a z (asc-tail x v sv) (asc-tail y u su) (le-of-suc-le-suc l) (le-of-suc-le-suc hc) (le-of-suc-le-suc ha) (le-of-suc-le-suc hz) (tail-eq-of-cons-eq e) (tail-eq-of-cons-eq f))
+    (two-faces v u b c a z (asc-tail x v sv) (asc-tail y u su) (le-of-suc-le-suc l) (le-of-suc-le-suc hc)
+    (le-of-suc-le-suc ha) (le-of-suc-le-suc hz) (tail-eq-of-cons-eq e) (tail-eq-of-cons-eq f))
 
 pub without-length : (a : ℕ) (w : Row) → a < length w → suc (length (without a w)) ≡ length w
 without-length a [] h = absurd (not-suc-le-zero h)

@@ -4,7 +4,7 @@
 --   total w cs          how many have the row w
 --   Same xs ys          equal, list order aside: every signed cell stands in both equally often
 --   coefficient w cs    plus cells on the row less minus cells on it
-use mathlib.Core.Bool.{Bool, true, false, _&&_}
+use mathlib.Core.Bool.{true, false, _&&_}
 use mathlib.Core.List.{List, [], _∷_}
 use mathlib.Core.Path.{_≡_}
 use Prim.Native.Nat.{ℕ, _+_}

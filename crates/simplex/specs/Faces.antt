@@ -4,7 +4,7 @@
 --   faces s w         the faces of the cell with sign s and row w, by position
 --   allFaces cs       the faces of all cells of a list, by cell and then position
 --   facets cs         those that have a vertex: none in dimension 0
-use mathlib.Core.Bool.{Bool, true, false, not, cond}
+use mathlib.Core.Bool.{Bool, not, cond}
 use mathlib.Core.List.{List, [], _∷_, _++_, map}
 use Prim.Native.Nat.{ℕ, zero, suc}
 use Rattle.simplex.specs.Cell.{Row, Sign, Cell, cell, times, alternating, filled}

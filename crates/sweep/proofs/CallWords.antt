@@ -7,7 +7,7 @@ use lib.ListN.{length}
 use borrow.Author.Tests.{eqb-true, not-false}
 use Rattle.rules.specs.Calls.{accepted}
 use Rattle.rules.proofs.Accepting.{accepted-by}
-use Rattle.complex.specs.Layout.{tableLength}
+use Rattle.records.specs.Layout.{tableLength}
 use Rattle.sweep.specs.Sweep.{sweepInput, sweepOutcome, sweepRules, sweptWords, sweptLength}
 use Rattle.sweeping.specs.Written.{allWords}
 use Rattle.sweeping.proofs.SweptWords.{all-words, all-long}

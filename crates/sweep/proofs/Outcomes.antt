@@ -14,7 +14,7 @@ use borrow.Author.Tests.{ltb-false}
 use Rattle.rules.specs.Limits.{maxSource, maxVertices, maxCells, stepsOk, sweptVertices}
 use Rattle.rules.specs.Shapes.{shapeOk}
 use Rattle.rules.specs.Calls.{accepted, refused}
-use Rattle.complex.specs.Layout.{tableLength}
+use Rattle.records.specs.Layout.{tableLength}
 use Rattle.complex.specs.Table.{sound}
 use Rattle.complex.proofs.Tests.{or-false}
 use Rattle.prism.specs.Swept.{sweptCells}

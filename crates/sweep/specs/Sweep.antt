@@ -10,7 +10,7 @@ use lib.ListN.{length}
 use Rattle.rules.specs.Limits.{maxSource, maxVertices, maxCells, stepsOk, sweptVertices}
 use Rattle.rules.specs.Shapes.{shapeOk}
 use Rattle.rules.specs.Calls.{Rule, refuse, Outcome, decide, after}
-use Rattle.complex.specs.Layout.{entriesOf, tableWords, tableLength}
+use Rattle.records.specs.Layout.{entriesOf, tableWords, tableLength}
 use Rattle.complex.specs.Table.{sound}
 use Rattle.prism.specs.Swept.{sweptTable, sweptCells}
 

@@ -11,7 +11,7 @@ use native.Mathlib.Omega.{arith}
 use lib.Dec.{eqb}
 use lib.ListN.{getD}
 use borrow.Author.Tests.{eq-eqb, ne-eqb, le-ltb, lt-ltb, le-leb, lt-leb, eqb-true, eqb-false}
-use Rattle.rules.specs.Limits.{empty}
+use Rattle.records.specs.Layout.{empty}
 use Rattle.prism.specs.Sides.{sidePair, sideFace, sidePlace}
 use Rattle.sweeping.specs.SideTable.{sidePairOf}
 use Rattle.prism.specs.Wings.{cellNumber, backTo, wingAside, wingAbove, wingBelow, sweptWing}
@@ -32,7 +32,8 @@ cell-at d b l hd hb hl =
 cell-none : (d l : ℕ) → sideCell d (56 + l) ≡ empty
 cell-none d l = rw (le-ltb (56 + l) 56 (omega arith)) refl
 
-module _ (d v s h : ℕ) (ws : List ℕ) (ready : Ready d v s h ws) (i p : ℕ) (hi : i < h) (hp : p < s) (firsts rows cells : List ℕ) (ac : Across d s ws i p firsts rows cells) where
+module _ (d v s h : ℕ) (ws : List ℕ) (ready : Ready d v s h ws) (i p : ℕ) (hi : i < h)
+    (hp : p < s) (firsts rows cells : List ℕ) (ac : Across d s ws i p firsts rows cells) where
   abbrev wing : ℕ → ℕ → ℕ
   wing = solidWing d s ws
 
@@ -114,7 +115,8 @@ module _ (d s h : ℕ) (firsts rows cells : List ℕ) (i p k : ℕ) where
       rw (ne-eqb j 0 (λ q. omega arith), ne-eqb j (suc d) (λ q. omega arith), le-leb (k + j) d low)
       (ap (λ (n : ℕ). sideWord firsts rows cells n k) (sym e))
 
-  pub wing-high : (j a : ℕ) → 1 ≤ j → j ≤ d → d < k + j → a ≡ k + j - suc d → wingWord d s h firsts rows cells i p k j ≡ sideWord firsts rows cells a (k - 1)
+  pub wing-high : (j a : ℕ) → 1 ≤ j → j ≤ d → d < k + j → a ≡ k + j - suc d →
+      wingWord d s h firsts rows cells i p k j ≡ sideWord firsts rows cells a (k - 1)
   wing-high j a some hj high e =
       rw (ne-eqb j 0 (λ q. omega arith), ne-eqb j (suc d) (λ q. omega arith), lt-leb (k + j) d high)
       (ap (λ (n : ℕ). sideWord firsts rows cells n (k - 1)) (sym e))

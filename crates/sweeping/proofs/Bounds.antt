@@ -9,7 +9,7 @@ use Rattle.rules.specs.Limits.{sweptVertices}
 use Rattle.prism.specs.Cells.{atLevel}
 use Rattle.prism.specs.Swept.{sweptCells}
 use Rattle.prism.specs.Wings.{cellNumber}
-use Rattle.sweeping.proofs.TableWords.{inside}
+use Rattle.records.proofs.Parts.{inside}
 
 module _ (d s h i p k : ℕ) (hi : i < h) (hp : p < s) (hk : k ≤ d) where
   pub number-inside : cellNumber d s i p k < sweptCells d s h

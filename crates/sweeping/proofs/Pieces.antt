@@ -17,7 +17,8 @@ use Rattle.words.proofs.Records.{tabulate-at, tabulate-length}
 use Rattle.words.proofs.Placed.{placed-none, placed-then, placed-word}
 use Rattle.sweeping.specs.Across.{Holds}
 
-pub placed-start : (at x : ℕ) (xs buf : List ℕ) → 0 < length xs → at + length xs ≤ length buf → x ≡ getD xs 0 0 → set buf at x ≡ placed at (take 1 xs) buf
+pub placed-start : (at x : ℕ) (xs buf : List ℕ) → 0 < length xs → at + length xs ≤ length buf →
+    x ≡ getD xs 0 0 → set buf at x ≡ placed at (take 1 xs) buf
 placed-start at x xs buf some room e =
     ap (λ (n : ℕ). set buf n x) (sym (add-zero at)) ∙ placed-word at 0 x xs buf buf some room (sym (placed-none at buf)) e
 

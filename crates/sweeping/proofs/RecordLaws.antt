@@ -17,13 +17,14 @@ use Rattle.words.specs.Records.{part, tabulate}
 use Rattle.words.proofs.Records.{tabulate-at, tabulate-length}
 use Rattle.simplex.specs.Cell.{Cell, Row, times, alternating}
 use Rattle.simplex.specs.SignWords.{signOf, signWord}
-use Rattle.complex.specs.Layout.{Entry, recordSize, listSize, tableLength, cellWords}
+use Rattle.records.specs.Inside.{signIn}
+use Rattle.records.specs.Layout.{Entry, recordSize, listSize, tableLength, cellWords}
 use Rattle.complex.specs.Table.{entryAt}
 use Rattle.prism.specs.Cells.{atLevel, lifted, dimension, prismCell}
 use Rattle.prism.specs.Wings.{sweptWing}
 use Rattle.sweeping.specs.Written.{solidEntries, solidWing, solidVertex, recordWords}
 use Rattle.simplex.specs.SignWords.{turnedSign}
-use Rattle.sweeping.specs.RecordWords.{solidSign, sweptVertex, liftedFrom}
+use Rattle.sweeping.specs.RecordWords.{sweptVertex, liftedFrom}
 use Rattle.sweeping.proofs.TableWords.{solid-entry, solid-row-long}
 
 map-at : (f : ℕ → ℕ) (xs : List ℕ) (i : ℕ) → i < length xs → getD (map f xs) i 0 ≡ f (getD xs i 0)
@@ -64,12 +65,12 @@ module _ (d v s h : ℕ) (ws : List ℕ) (i p k : ℕ) (long : length ws ≡ tab
   record-long =
       omega (arith, length-append (low ++ high) wings, both-long, tabulate-length (suc (suc d)) (sweptWing d s h (solidWing d s ws) i p k))
 
-  sign-is : here .sign ≡ signOf (solidSign d ws p)
+  sign-is : here .sign ≡ signOf (signIn d ws p)
   sign-is =
       ap (λ (e : Entry). e .cell .sign) (solid-entry d s ws p hp)
       ∙ ap signOf (getD-take (listSize d) (part (recordSize d) p ws) 0 0 (omega arith))
 
-  pub word-sign : getD (recordWords d v s h ws i p k) 0 0 ≡ turnedSign (solidSign d ws p) (k * d)
+  pub word-sign : getD (recordWords d v s h ws i p k) 0 0 ≡ turnedSign (signIn d ws p) (k * d)
   unfolding recordWords
   word-sign =
       let dim : dimension here ≡ d = omega (arith, row-long) in

@@ -88,4 +88,5 @@ offsets-computed : allBelow (suc maxSource) offsetRight ≡ true
 offsets-computed = refl
 
 pub offset-read : (d : ℕ) → d ≤ maxSource → getD (tabulate 7 sideOffset) d 0 ≡ sideOffset d
-offset-read d h = eqb-true (getD (tabulate 7 sideOffset) d 0) (sideOffset d) (holds-below (suc maxSource) offsetRight offsets-computed d (omega arith))
+offset-read d h =
+    eqb-true (getD (tabulate 7 sideOffset) d 0) (sideOffset d) (holds-below (suc maxSource) offsetRight offsets-computed d (omega arith))

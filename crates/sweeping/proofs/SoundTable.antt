@@ -14,7 +14,7 @@ use lib.Seq.{length-take-le}
 use borrow.Author.Tests.{eqb-true, leb-true}
 use Rattle.words.specs.Records.{part}
 use Rattle.words.proofs.Records.{tabulate-length}
-use Rattle.rules.specs.Limits.{empty, maxSource, maxVertices, maxCells, maxDimension, within, sizesOk, verticesOk, sweptVertices}
+use Rattle.rules.specs.Limits.{maxSource, maxVertices, maxCells, maxDimension, within, sizesOk, verticesOk, sweptVertices}
 use Rattle.rules.specs.Shapes.{shapeOk}
 use Rattle.rules.proofs.Tests.{and-parts}
 use Rattle.simplex.specs.Cell.{Cell, Row, sameRow}
@@ -22,7 +22,7 @@ use Rattle.simplex.specs.Order.{ascending}
 use Rattle.simplex.proofs.Counts.{All}
 use Rattle.simplex.proofs.Rows.{Below, Good, Long, sameRow-true}
 use Rattle.complex.specs.Accept.{Listed, acceptable, solidOf, listedCells}
-use Rattle.complex.specs.Layout.{Entry, cellOf, entriesOf, listSize, ownList, recordSize, tableLength, tableWords}
+use Rattle.records.specs.Layout.{empty, Entry, cellOf, entriesOf, listSize, ownList, recordSize, tableLength, tableWords}
 use Rattle.complex.specs.Table.{entryAt, listed, ownTable, sound, tableOf, tableOfList, wingAt}
 use Rattle.complex.proofs.Accepted.{accepted-solid}
 use Rattle.complex.proofs.OwnTable.{entries-of-words}
@@ -34,7 +34,7 @@ use Rattle.prism.specs.Wings.{backTo}
 use Rattle.sweeping.specs.Written.{solidEntries, solidVertex, solidWing, Ready}
 use Rattle.words.proofs.Placed.{concat-tabulate-length}
 use Rattle.prism.proofs.SweptWings.{back-is}
-use Rattle.sweeping.proofs.TableWords.{part-long}
+use Rattle.records.proofs.Parts.{part-long}
 
 -- the entries ws are those of the table of the cells of a solid
 pub record TableOf (d v s : ℕ) (ws : List ℕ) (cs : List Cell) : Type 0 where
@@ -69,7 +69,8 @@ sound-solid d v s ws e =
     cs : List Cell
     cs = solidOf l
 
-    parts : (shapeOk maxDimension d v s ≡ true) × ((eqb (length ws) (tableLength d s) && (acceptable l && sameRow ws (tableWords (tableOf cs)))) ≡ true)
+    parts : (shapeOk maxDimension d v s ≡ true)
+        × ((eqb (length ws) (tableLength d s) && (acceptable l && sameRow ws (tableWords (tableOf cs)))) ≡ true)
     parts = and-parts (shapeOk maxDimension d v s) (eqb (length ws) (tableLength d s) && (acceptable l && sameRow ws (tableWords (tableOf cs)))) e
 
     rest : (eqb (length ws) (tableLength d s) ≡ true) × ((acceptable l && sameRow ws (tableWords (tableOf cs))) ≡ true)
@@ -116,12 +117,19 @@ module _ (d v s h : ℕ) (ws : List ℕ) (cs : List Cell) (t : TableOf d v s ws 
       let hp' : p < length cs = omega (arith, t .count) in
       let row = all-at (λ w. Long (suc d) w) cs (t .rows) p hp' in
       let e : solidVertex d s ws p k ≡ getD (entryAt (tableOf cs) p .cell .row) k 0 = ap (λ es. getD (entryAt es p .cell .row) k 0) entries-are in
-      omega (arith, e, ap (λ (x : Entry). getD (x .cell .row) k 0) (table-at cs p hp'), below-at v (rowAt cs p) k (all-at (Good v) cs (t .solid .rows) p hp' .1) (omega (arith, row)))
+      omega (
+        arith,
+        e,
+        ap (λ (x : Entry). getD (x .cell .row) k 0) (table-at cs p hp'),
+        below-at v (rowAt cs p) k (all-at (Good v) cs (t .solid .rows) p hp' .1) (omega (arith, row)),
+      )
 
   module _ (p a : ℕ) (hp : p < s) (ha : a ≤ d) (full : solidWing d s ws p a ≡ empty → ⊥) where
-    across : (b : ℕ) × (solidWing d s ws p a < s) × (b ≤ d) × (solidWing d s ws (solidWing d s ws p a) b ≡ p) × ((m : ℕ) → m < b → solidWing d s ws (solidWing d s ws p a) m ≡ p → ⊥)
+    across : (b : ℕ) × (solidWing d s ws p a < s) × (b ≤ d) × (solidWing d s ws (solidWing d s ws p a) b ≡ p)
+        × ((m : ℕ) → m < b → solidWing d s ws (solidWing d s ws p a) m ≡ p → ⊥)
     across =
-        let r = wings-symmetric v d cs (t .solid) (t .rows) (omega (arith, t .count, t .small)) p a (omega (arith, t .count)) ha (λ e. full (wing-is p a ∙ e)) in
+        let r = wings-symmetric v d cs (t .solid) (t .rows) (omega (arith, t .count, t .small))
+        p a (omega (arith, t .count)) ha (λ e. full (wing-is p a ∙ e)) in
         let q-is = wing-is p a in (
           r .0,
           omega (arith, q-is, r .1, t .count),
@@ -139,6 +147,7 @@ module _ (d v s h : ℕ) (ws : List ℕ) (cs : List Cell) (t : TableOf d v s ws 
   table-ready hd hv hc =
       record {
         dimension = hd;
+        count = t .small;
         vertices = hv;
         cells = hc;
         long = t .long;
@@ -147,5 +156,6 @@ module _ (d v s h : ℕ) (ws : List ℕ) (cs : List Cell) (t : TableOf d v s ws 
         back = back-small;
       }
 
-pub sound-ready : (d v s h : ℕ) (ws : List ℕ) → d ≤ maxSource → sweptVertices v h ≤ maxVertices → sweptCells d s h ≤ maxCells → sound d v s ws ≡ true → Ready d v s h ws
+pub sound-ready : (d v s h : ℕ) (ws : List ℕ) → d ≤ maxSource → sweptVertices v h ≤ maxVertices →
+    sweptCells d s h ≤ maxCells → sound d v s ws ≡ true → Ready d v s h ws
 sound-ready d v s h ws hd hv hc e = table-ready d v s h ws (cellsIn d v s ws) (sound-solid d v s ws e) hd hv hc

@@ -12,7 +12,7 @@ use native.Mathlib.Omega.{arith}
 use lib.ListN.{length}
 use Rattle.words.specs.Records.{tabulate, concat}
 use Rattle.words.proofs.Records.{tabulate-ext, tabulate-map}
-use Rattle.complex.specs.Layout.{entriesOf, entryWords, tableWords, tableLength, recordSize}
+use Rattle.records.specs.Layout.{entriesOf, entryWords, tableWords, tableLength, recordSize}
 use Rattle.prism.specs.Swept.{sweptEntry, sweptTable, sweptCells}
 use Rattle.sweeping.specs.Written.{solidEntries, recordWords, prismWords, levelWords, allWords}
 use Rattle.words.proofs.Placed.{concat-tabulate-length, words-concat}
@@ -35,7 +35,8 @@ module _ (d v s h : ℕ) (ws : List ℕ) where
   unfolding prismWords recordWords
   prism-words i p = ap concat (tabulate-map entryWords (suc d) (sweptEntry d v s h (solidEntries d s ws) i p))
 
-  level-words : (i : ℕ) → tableWords (concat (tabulate s (λ p. tabulate (suc d) (sweptEntry d v s h (solidEntries d s ws) i p)))) ≡ levelWords d v s h ws i
+  level-words : (i : ℕ) →
+      tableWords (concat (tabulate s (λ p. tabulate (suc d) (sweptEntry d v s h (solidEntries d s ws) i p)))) ≡ levelWords d v s h ws i
   level-words i =
       words-concat entryWords s (λ p. tabulate (suc d) (sweptEntry d v s h (solidEntries d s ws) i p))
       ∙ ap concat (tabulate-ext s _ (prismWords d v s h ws i) (λ p l. prism-words i p)) ∙ sym (level-is i)
@@ -60,7 +61,8 @@ module _ (d v s h : ℕ) (ws : List ℕ) where
         (λ k l. omega (arith, record-long d v s h ws i p k long hp (omega arith)))
 
     level-long : (i : ℕ) → length (levelWords d v s h ws i) ≡ s * ((d + 1) * recordSize (suc d))
-    level-long i = ap length (level-is i) ∙ concat-tabulate-length ((d + 1) * recordSize (suc d)) s (prismWords d v s h ws i) (λ p l. prism-long i p l)
+    level-long i =
+        ap length (level-is i) ∙ concat-tabulate-length ((d + 1) * recordSize (suc d)) s (prismWords d v s h ws i) (λ p l. prism-long i p l)
 
     pub all-long : length (allWords d v s h ws) ≡ tableLength (suc d) (sweptCells d s h)
     all-long =

@@ -11,7 +11,7 @@ use mathlib.Core.List.{List}
 use Prim.Native.Nat.{ℕ, suc, _+_, _*_, _/_, _%_, _≤_, _<_}
 use lib.Dec.{eqb, ltb}
 use lib.ListN.{getD}
-use Rattle.rules.specs.Limits.{empty}
+use Rattle.records.specs.Layout.{empty}
 use Rattle.prism.specs.Sides.{sideFace, sidePlace}
 use Rattle.sweeping.specs.SideTable.{sidePairOf}
 use Rattle.prism.specs.Wings.{cellNumber, backTo, wingAbove, wingBelow}

@@ -1,19 +1,12 @@
 -- The words of one swept record, by place.
---   solidSign d ws p          the sign word of cell p of the solid
 --   sweptVertex .. i p k j    vertex j of cell k over cell p at level i
 --   liftedFrom .. i p a j     vertex a + j of cell p, at level i
 use mathlib.Core.Bool.{cond}
 use mathlib.Core.List.{List}
 use Prim.Native.Nat.{ℕ, suc, _+_, _-_}
 use lib.Dec.{leb}
-use lib.ListN.{getD}
-use Rattle.words.specs.Records.{part}
-use Rattle.complex.specs.Layout.{recordSize}
 use Rattle.prism.specs.Cells.{atLevel}
 use Rattle.sweeping.specs.Written.{solidVertex}
-
-abbrev pub solidSign : ℕ → List ℕ → ℕ → ℕ
-solidSign d ws p = getD (part (recordSize d) p ws) 0 0
 
 abbrev pub sweptVertex : ℕ → ℕ → ℕ → List ℕ → ℕ → ℕ → ℕ → ℕ → ℕ
 sweptVertex d v s ws i p k j =

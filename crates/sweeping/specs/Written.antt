@@ -10,8 +10,8 @@ use mathlib.Core.List.{List}
 use Prim.Native.Nat.{ℕ, suc, _≤_, _<_}
 use lib.ListN.{length, getD}
 use Rattle.words.specs.Records.{tabulate, concat}
-use Rattle.rules.specs.Limits.{empty, maxSource, maxVertices, maxCells, sweptVertices}
-use Rattle.complex.specs.Layout.{Entry, entriesOf, entryWords, tableLength}
+use Rattle.rules.specs.Limits.{maxSource, maxVertices, maxCells, sweptVertices}
+use Rattle.records.specs.Layout.{empty, Entry, entriesOf, entryWords, tableLength}
 use Rattle.complex.specs.Table.{entryAt, wingAt}
 use Rattle.prism.specs.Wings.{backTo}
 use Rattle.prism.specs.Swept.{sweptEntry, sweptCells}
@@ -40,6 +40,7 @@ module _ (d v s h : ℕ) (ws : List ℕ) where
 
   pub record Ready : Type 0 where
     pub dimension : d ≤ maxSource
+    pub count : s ≤ maxCells
     pub vertices : sweptVertices v h ≤ maxVertices
     pub cells : sweptCells d s h ≤ maxCells
     pub long : length ws ≡ tableLength d s

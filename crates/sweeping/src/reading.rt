@@ -1,11 +1,9 @@
-// Words of a solid's table: d is its dimension, s its cell count.
+// Words of a solid's table, as the sweep names them: d is its dimension, s its cell count.
+use records::reading;
 ghost use mathlib.Core.Path.{_≡_};
-ghost use Prim.Native.Nat.{_+_, _<_, _≤_};
-ghost use lib.ListN.{length, getD};
-ghost use Rattle.words.specs.Records.{part};
-ghost use Rattle.complex.specs.Layout.{recordSize, tableLength};
+ghost use Prim.Native.Nat.{_≤_};
+ghost use Rattle.records.specs.Inside.{Inside, signIn};
 ghost use Rattle.sweeping.specs.Written.{solidWing, solidVertex};
-ghost use Rattle.sweeping.specs.RecordWords.{solidSign};
 
 pub fn wide(x: u16) -> usize
     ensures { λ r. ⌜ r ≡ x ⌝ }
@@ -13,34 +11,26 @@ pub fn wide(x: u16) -> usize
     x as usize
 }
 
-// Word j of record p.
-fn word(d: usize, s: usize, table: &[u16], p: usize, j: usize) -> u16
-    requires { ⌜ (length (now table) ≡ tableLength d s) × (p < s) × (j < recordSize d) ⌝ }
-    ensures { λ r. ⌜ r ≡ getD (part (recordSize d) p (now (table .entry))) j 0 ⌝ }
-{
-    table[p * (d + d + 3) + j]
-}
-
 // The sign word of cell p.
 pub fn sign(d: usize, s: usize, table: &[u16], p: usize) -> u16
-    requires { ⌜ (length (now table) ≡ tableLength d s) × (p < s) ⌝ }
-    ensures { λ r. ⌜ r ≡ solidSign d (now (table .entry)) p ⌝ }
+    requires { ⌜ Inside d s p (now table) ⌝ }
+    ensures { λ r. ⌜ r ≡ signIn d (now (table .entry)) p ⌝ }
 {
-    word(d, s, table, p, 0)
+    reading::sign(d, s, table, p)
 }
 
 // Vertex k of cell p.
 pub fn vertex(d: usize, s: usize, table: &[u16], p: usize, k: usize) -> u16
-    requires { ⌜ (length (now table) ≡ tableLength d s) × (p < s) × (k ≤ d) ⌝ }
+    requires { ⌜ Inside d s p (now table) × (k ≤ d) ⌝ }
     ensures { λ r. ⌜ r ≡ solidVertex d s (now (table .entry)) p k ⌝ }
 {
-    word(d, s, table, p, k + 1)
+    reading::vertex(d, s, table, p, k)
 }
 
 // Wing a of cell p.
 pub fn wing(d: usize, s: usize, table: &[u16], p: usize, a: usize) -> u16
-    requires { ⌜ (length (now table) ≡ tableLength d s) × (p < s) × (a ≤ d) ⌝ }
+    requires { ⌜ Inside d s p (now table) × (a ≤ d) ⌝ }
     ensures { λ r. ⌜ r ≡ solidWing d s (now (table .entry)) p a ⌝ }
 {
-    word(d, s, table, p, d + 2 + a)
+    reading::wing(d, s, table, p, a)
 }

@@ -98,7 +98,8 @@ fn write_sides(
     requires fit { ⌜ SidesFit d (now firsts) (now rows) (now cells) ⌝ }
     requires over { ⌜ (d ≤ 6) × (a + count ≤ d + 1) × (0 < count → l < d) ⌝ }
     requires room { ⌜ at + count ≤ length (now out) ⌝ }
-    ensures { λ _. ⌜ now (out .exit) ≡ placed at (tabulate count (λ j. sideWord (now (firsts .entry)) (now (rows .entry)) (now (cells .entry)) (a + j) l)) (now (out .entry)) ⌝ }
+    ensures { λ _. ⌜ now (out .exit)
+        ≡ placed at (tabulate count (λ j. sideWord (now (firsts .entry)) (now (rows .entry)) (now (cells .entry)) (a + j) l)) (now (out .entry)) ⌝ }
 {
     let mut j: usize = 0;
     while j < count {
@@ -134,7 +135,8 @@ fn write_wings(
     requires fit { ⌜ SidesFit d (now firsts) (now rows) (now cells) ⌝ }
     requires at { ⌜ (d ≤ 6) × (sweptCells d s h ≤ maxCells) × (i < h) × (p < s) × (k ≤ d) ⌝ }
     requires room { ⌜ at + (d + 2) ≤ length (now out) ⌝ }
-    ensures { λ _. ⌜ now (out .exit) ≡ placed at (tabulate (d + 2) (wingWord d s h (now (firsts .entry)) (now (rows .entry)) (now (cells .entry)) i p k)) (now (out .entry)) ⌝ }
+    ensures { λ _. ⌜ now (out .exit)
+        ≡ placed at (tabulate (d + 2) (wingWord d s h (now (firsts .entry)) (now (rows .entry)) (now (cells .entry)) i p k)) (now (out .entry)) ⌝ }
 {
     out[at] = wing_above(d, s, h, i, p, k);
     write_sides(d, k + 1, d - k, k, firsts, rows, cells, at + 1, out);

@@ -2,8 +2,8 @@
 ghost use mathlib.Core.Path.{_≡_};
 ghost use Prim.Native.Nat.{suc, _<_, _≤_};
 ghost use lib.ListN.{length};
+ghost use Rattle.records.specs.Inside.{Inside};
 ghost use Rattle.rules.specs.Limits.{maxCells};
-ghost use Rattle.complex.specs.Layout.{tableLength};
 ghost use Rattle.prism.specs.Swept.{sweptCells};
 ghost use Rattle.sweeping.specs.Across.{Holds, faceRow, faceFirst, sideCell};
 ghost use Rattle.prism.specs.Wings.{cellNumber, backTo, wingAbove, wingBelow};
@@ -11,9 +11,7 @@ ghost use Rattle.sweeping.specs.Written.{solidWing, Ready};
 use crate::reading::wide;
 use crate::reading::wing;
 use crate::sides::side_pair;
-
-// The wing word for no neighbour.
-const EMPTY: u16 = 65535;
+use records::sizes::EMPTY;
 
 fn cell_number(d: usize, s: usize, h: usize, i: usize, p: usize, k: usize) -> u16
     requires { ⌜ (sweptCells d s h ≤ maxCells) × (i < h) × (p < s) × (k ≤ d) ⌝ }
@@ -52,7 +50,7 @@ pub fn wing_below(d: usize, s: usize, h: usize, i: usize, p: usize, k: usize) ->
 
 // The first position at which the wing of q is p; d + 1 if there is none.
 fn back(d: usize, s: usize, table: &[u16], p: usize, q: usize) -> usize
-    requires { ⌜ (length (now table) ≡ tableLength d s) × (q < s) ⌝ }
+    requires { ⌜ Inside d s q (now table) ⌝ }
     ensures { λ r. ⌜ r ≡ backTo (solidWing d s (now (table .entry))) p q d ⌝ }
 {
     let mut b: usize = 0;

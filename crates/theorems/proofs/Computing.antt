@@ -14,9 +14,13 @@ use Rattle.read.specs.Read.{readRules, headerOf, readOutcome, readCells, readPo
 use Rattle.printing.specs.Decimal.{digits, thousandths, coordinate}
 use Rattle.listing.specs.Lines.{firstLine, vertexLine, faceLine, keyText}
 use Rattle.list.specs.Listing.{listText, listRules, listOutcome, listBuffer}
-use Rattle.winged.specs.Host.{hostWingOutcome, hostWing, hostWingBuffer, hostSweepOutcome, hostSweep, hostSweepBuffer, hostFacesOutcome, hostFaces, hostFacesBuffer}
+use Rattle.winged.specs.Host.{hostWingOutcome, hostWing, hostWingBuffer, hostSweepOutcome, hostSweep, hostSweepBuffer, hostFacesOutcome, hostFaces}
+use Rattle.winged.specs.Host.{hostFacesBuffer}
 use Rattle.marking.specs.Key.{keyOutcome, printed}
 
 unfoldable pub computing : Unit {0}
-unfolding eq solids-computing points-computing wingRules wingOutcome wingBuffer allSides sweepRules sweptWords sweepOutcome sweepBuffer boundaryCells facesRules facesOutcome facesBuffer movedLevels moveRules moveOutcome moveBuffer filePoints fileCells readRules headerOf fileWords readOutcome readCells readPoints digits thousandths coordinate firstLine vertexLine faceLine keyText listText listRules listOutcome listBuffer keyOutcome printed hostWingOutcome hostWing hostWingBuffer hostSweepOutcome hostSweep hostSweepBuffer hostFacesOutcome hostFaces hostFacesBuffer
+unfolding eq solids-computing points-computing wingRules wingOutcome wingBuffer allSides sweepRules sweptWords sweepOutcome sweepBuffer boundaryCells
+    facesRules facesOutcome facesBuffer movedLevels moveRules moveOutcome moveBuffer filePoints fileCells readRules headerOf fileWords readOutcome
+    readCells readPoints digits thousandths coordinate firstLine vertexLine faceLine keyText listText listRules listOutcome listBuffer keyOutcome
+    printed hostWingOutcome hostWing hostWingBuffer hostSweepOutcome hostSweep hostSweepBuffer hostFacesOutcome hostFaces hostFacesBuffer
 computing = tt

@@ -20,7 +20,7 @@ use Rattle.rules.specs.Calls.{Rule, firstRefusal, Outcome, accepted, refused, o
 use Rattle.rules.proofs.Accepting.{accepted-by}
 use Rattle.simplex.specs.Order.{ascending}
 use Rattle.complex.specs.Accept.{listedCells, solidOf, solidRules}
-use Rattle.complex.specs.Layout.{cellOf, listSize, tableLength, tableWords}
+use Rattle.records.specs.Layout.{cellOf, listSize, tableLength, tableWords}
 use Rattle.complex.specs.Table.{sound, tableOf, tableOfList}
 use Rattle.wing.specs.Wing.{WingInput, wingInput, wingOutcome, wingBuffer, wingRules}
 use Rattle.complex.proofs.Accepted.{accepted-solid}
@@ -61,7 +61,8 @@ module _ {I : Type 0} where
   blamed rs answer x n h e = first-blamed rs x n h (refused-by (firstRefusal rs x) n (answer x) e)
 
 -- a refusal of two calls is that of the first, or the first accepts and it is that of the second
-never-then : {A B : Type 0} (o : Outcome A) (next : A → Outcome B) (n : ℕ) → (o ≡ refused n → ⊥) → ((a : A) → o ≡ accepted a → next a ≡ refused n → ⊥) →
+never-then : {A B : Type 0} (o : Outcome A) (next : A → Outcome B) (n : ℕ) →
+    (o ≡ refused n → ⊥) → ((a : A) → o ≡ accepted a → next a ≡ refused n → ⊥) →
     thenCall o next ≡ refused n → ⊥
 never-then (accepted a) next n here later e = later a refl e
 never-then {A} (refused m) next n here later e = let same : m ≡ n = cc in here (ap {B = Outcome A} refused same)
@@ -94,7 +95,8 @@ wing-sound i n e =
     let l = i .list in
     let facts = winged-is i n e in
     let solid = accepted-solid l (facts .size) (facts .cells) in
-    let count : length (solidOf l) ≡ l .s = length-map (listedCells l) ascending ∙ tabulate-length (l .s) (λ p. cellOf (part (listSize (l .d)) p (l .words))) in
+    let count : length (solidOf l) ≡ l .s =
+    length-map (listedCells l) ascending ∙ tabulate-length (l .s) (λ p. cellOf (part (listSize (l .d)) p (l .words))) in
     ap (λ k. sound (l .d) (l .v) k (tableWords (tableOf (solidOf l)))) (sym count)
     ∙ table-sound (l .d) (l .v) (solidOf l) (solid .0) (solid .1) (ap (shapeOk maxDimension (l .d) (l .v)) count ∙ facts .shape)
 
@@ -147,7 +149,8 @@ calls-never b x =
     never-then (sweepOutcome (sweepIn b x)) _ 14 (sweep-never (sweepIn b x) (wing-sound (wingIn b x) n winged)) (λ k swept.
     never-then (moveOutcome (moveIn b x)) _ 14 (move-never (moveIn b x)) (λ m moved.
     never-then (listOutcome (listIn b x)) _ 14
-    (list-never (listIn b x) (sweep-sound (x .d) (x .v) (x .s) (x .h) (fileWords b) (replicate wordRoom 0) (length-replicate {A = ℕ} wordRoom 0) n k winged swept))
+    (list-never (listIn b x)
+    (sweep-sound (x .d) (x .v) (x .s) (x .h) (fileWords b) (replicate wordRoom 0) (length-replicate {A = ℕ} wordRoom 0) n k winged swept))
     (λ j listed e. let z : _≡_ {A = ℕ} 0 1 = cc in omega arith))))
 
 pub never-unsound : NeverUnsound

@@ -42,7 +42,8 @@ point-at v p x h =
 moved-same : (v : ℕ) (x a : Float) → movedAll (S.Slide 0 a) 1 v (replicate v x) ≡ replicate v (add binary64 x a)
 unfolding movedPoint addAt
 moved-same v x a =
-    ap concat (tabulate-ext v (λ p. movedPoint (S.Slide 0 a) 1 (part 1 p (replicate v x))) (λ p. add binary64 x a ∷ []) (λ p h. ap (movedPoint (S.Slide 0 a) 1) (point-at v p x h)))
+    ap concat (tabulate-ext v (λ p. movedPoint (S.Slide 0 a) 1 (part 1 p (replicate v x)))
+    (λ p. add binary64 x a ∷ []) (λ p h. ap (movedPoint (S.Slide 0 a) 1) (point-at v p x h)))
     ∙ concat-same v (add binary64 x a)
 
 module _ (v : ℕ) (x a : Float) (room : ℕ) where
@@ -69,9 +70,12 @@ module _ (v : ℕ) (x a : Float) (room : ℕ) where
 
   pub slid-accepted : verticesOk v ≡ true → ltb maxVertices (sweptVertices v 1) ≡ false → ltb room (movedLength slid) ≡ false →
       inRange x ≡ true → inRange a ≡ true → inRange (add binary64 x a) ≡ true → moveOutcome slid ≡ accepted (movedLength slid)
-  slid-accepted hv few fits hx ha hy = sym (accept slid [] (rw hv refl) many (rw (ha, same-range inRange v x hx) refl) step-fits few (levels-in hx hy) fits .0)
+  slid-accepted hv few fits hx ha hy =
+      sym (accept slid [] (rw hv refl) many (rw (ha, same-range inRange v x hx) refl) step-fits few (levels-in hx hy) fits .0)
 
-  pub slid-refused : (h : ℕ) → verticesOk v ≡ true → stepsOk h ≡ true → ltb maxVertices (sweptVertices v h) ≡ true → inRange x ≡ true → inRange a ≡ true →
+  pub slid-refused : (h : ℕ) → verticesOk v ≡ true → stepsOk h ≡ true →
+      ltb maxVertices (sweptVertices v h) ≡ true → inRange x ≡ true → inRange a ≡ true →
       moveOutcome (moveInput 1 v h (S.Slide 0 a) (replicate v x) room) ≡ refused 12
   slid-refused h hv hh large hx ha =
-      sym (refuse-12 (moveInput 1 v h (S.Slide 0 a) (replicate v x) room) [] (rw (hv, hh) refl) many (rw (ha, same-range inRange v x hx) refl) step-fits large .0)
+      sym (refuse-12 (moveInput 1 v h (S.Slide 0 a) (replicate v x) room) [] (rw (hv, hh) refl)
+      many (rw (ha, same-range inRange v x hx) refl) step-fits large .0)

@@ -6,9 +6,8 @@ use mathlib.Core.Path.{_≡_}
 use mathlib.Core.Bool.{true, false}
 use mathlib.Core.List.{List, [], _∷_}
 use Prim.Native.Nat.{ℕ}
-use Rattle.rules.specs.Limits.{empty}
 use Rattle.simplex.specs.Cell.{Row, cell}
-use Rattle.complex.specs.Layout.{Entry, entriesOf, tableWords}
+use Rattle.records.specs.Layout.{empty, Entry, entriesOf, tableWords}
 use Rattle.complex.specs.Accept.{Listed}
 use Rattle.sweep.specs.Sweep.{SweepInput, sweptWords}
 use Rattle.theorems.specs.Shorthand.{cellOf, listed, sweptEntries, ample}

@@ -56,31 +56,74 @@ k9Most = zerosSlid 2048 1
 abbrev pub k9Over : MoveInput
 k9Over = zerosSlid 1366 2
 
+abbrev pub K1 : Type 0
+K1 = printed k1File ≡ ascii "key 1 1 2 2\nv 0 0.500\nv 1 1.500\n+ 1\n- 0\n"
+
+abbrev pub K2-cells : Type 0
+K2-cells =
+    sweptEntries 1 k2Solid
+    ≡ entry "+0124" "1..." ∷ entry "+1245" "2.30" ∷ entry "+2456" ".4.1" ∷ entry "-1235" "4.1." ∷ entry "-2356" "52.3" ∷ entry "-3567" "...4" ∷ []
+
+abbrev pub K2-faces : Type 0
+K2-faces =
+    boundaryCells (facesOfSwept 1 k2Solid)
+    ≡ cellOf "-024" ∷ cellOf "+014" ∷ cellOf "-012" ∷ cellOf "-145" ∷ cellOf "+456" ∷ cellOf "+246" ∷ cellOf "+135" ∷ cellOf "+123"
+    ∷ cellOf "-236" ∷ cellOf "-567" ∷ cellOf "+367" ∷ cellOf "-357" ∷ []
+
+abbrev pub K2-calls : Type 0
+K2-calls =
+    (wingOutcome (toWing k2Solid) ≡ accepted 14) × (sweepOutcome (swept 1 k2Solid) ≡ accepted 54)
+    × (facesOutcome (facesOfSwept 1 k2Solid) ≡ accepted 12)
+
+abbrev pub K3-cells : Type 0
+K3-cells = sweptEntries 3 point ≡ entry "+01" "1." ∷ entry "+12" "20" ∷ entry "+23" ".1" ∷ []
+
+abbrev pub K3-faces : Type 0
+K3-faces = boundaryCells (facesOfSwept 3 point) ≡ cellOf "-0" ∷ cellOf "+3" ∷ []
+
+abbrev pub K4 : Type 0
+K4 = ascending (cellOf "+210") ≡ cellOf "-012"
+
+abbrev pub K5-cells : Type 0
+K5-cells = sweptEntries 1 segment ≡ entry "+012" "1.." ∷ entry "-123" "..0" ∷ []
+
+abbrev pub K5-faces : Type 0
+K5-faces = boundaryCells (facesOfSwept 1 segment) ≡ cellOf "-02" ∷ cellOf "+01" ∷ cellOf "-23" ∷ cellOf "+13" ∷ []
+
+-- 0.0625, -0.0625 and -0.0001 by their bits
+abbrev pub K6 : Type 0
+K6 =
+    (coordinate (ofBits binary64 0x3fb0000000000000) ≡ ascii "0.063")
+    × (coordinate (ofBits binary64 0xbfb0000000000000) ≡ ascii "-0.063")
+    × (coordinate (ofBits binary64 0xbf1a36e2eb1c432d) ≡ ascii "0.000")
+
+abbrev pub K7 : Type 0
+K7 = (sidePair 2 0 0 ≡ side 1 2) × (sidePair 2 0 1 ≡ side 2 1)
+
+abbrev pub K8 : Type 0
+K8 = (sweepOutcome (swept 3 k8Solid) ≡ accepted 390) × (wingAt (sweptEntries 3 k8Solid) 4 0 ≡ 10) × (wingAt (sweptEntries 3 k8Solid) 10 5 ≡ 4)
+
+abbrev pub K9 : Type 0
+K9 =
+    (sweepOutcome (swept 1 (pointAmong 2048)) ≡ accepted 5) × (sweepOutcome (swept 2 (pointAmong 1366)) ≡ refused 12)
+    × (moveOutcome k9Most ≡ accepted 4096) × (moveOutcome k9Over ≡ refused 12)
+
+abbrev pub K10 : Type 0
+K10 = wingOutcome (toWing (listed 2 4 (cellOf "+012" ∷ cellOf "+123" ∷ []))) ≡ refused 11
+
+-- all of them
 pub record MarkedKeys : Type 0 where
-  pub k1 : printed k1File ≡ ascii "key 1 1 2 2\nv 0 0.500\nv 1 1.500\n+ 1\n- 0\n"
-  pub k2-cells :
-      sweptEntries 1 k2Solid
-      ≡ entry "+0124" "1..." ∷ entry "+1245" "2.30" ∷ entry "+2456" ".4.1" ∷ entry "-1235" "4.1." ∷ entry "-2356" "52.3" ∷ entry "-3567" "...4" ∷ []
-  pub k2-faces :
-      boundaryCells (facesOfSwept 1 k2Solid)
-      ≡ cellOf "-024" ∷ cellOf "+014" ∷ cellOf "-012" ∷ cellOf "-145" ∷ cellOf "+456" ∷ cellOf "+246" ∷ cellOf "+135" ∷ cellOf "+123"
-      ∷ cellOf "-236" ∷ cellOf "-567" ∷ cellOf "+367" ∷ cellOf "-357" ∷ []
-  pub k2-calls :
-      (wingOutcome (toWing k2Solid) ≡ accepted 14) × (sweepOutcome (swept 1 k2Solid) ≡ accepted 54) × (facesOutcome (facesOfSwept 1 k2Solid) ≡ accepted 12)
-  pub k3-cells : sweptEntries 3 point ≡ entry "+01" "1." ∷ entry "+12" "20" ∷ entry "+23" ".1" ∷ []
-  pub k3-faces : boundaryCells (facesOfSwept 3 point) ≡ cellOf "-0" ∷ cellOf "+3" ∷ []
-  pub k4 : ascending (cellOf "+210") ≡ cellOf "-012"
-  pub k5-cells : sweptEntries 1 segment ≡ entry "+012" "1.." ∷ entry "-123" "..0" ∷ []
-  pub k5-faces : boundaryCells (facesOfSwept 1 segment) ≡ cellOf "-02" ∷ cellOf "+01" ∷ cellOf "-23" ∷ cellOf "+13" ∷ []
-  -- 0.0625, -0.0625 and -0.0001 by their bits
-  pub k6 :
-      (coordinate (ofBits binary64 0x3fb0000000000000) ≡ ascii "0.063")
-      × (coordinate (ofBits binary64 0xbfb0000000000000) ≡ ascii "-0.063")
-      × (coordinate (ofBits binary64 0xbf1a36e2eb1c432d) ≡ ascii "0.000")
-  pub k7 : (sidePair 2 0 0 ≡ side 1 2) × (sidePair 2 0 1 ≡ side 2 1)
-  pub k8 :
-      (sweepOutcome (swept 3 k8Solid) ≡ accepted 390) × (wingAt (sweptEntries 3 k8Solid) 4 0 ≡ 10) × (wingAt (sweptEntries 3 k8Solid) 10 5 ≡ 4)
-  pub k9 :
-      (sweepOutcome (swept 1 (pointAmong 2048)) ≡ accepted 5) × (sweepOutcome (swept 2 (pointAmong 1366)) ≡ refused 12)
-      × (moveOutcome k9Most ≡ accepted 4096) × (moveOutcome k9Over ≡ refused 12)
-  pub k10 : wingOutcome (toWing (listed 2 4 (cellOf "+012" ∷ cellOf "+123" ∷ []))) ≡ refused 11
+  pub k1 : K1
+  pub k2-cells : K2-cells
+  pub k2-faces : K2-faces
+  pub k2-calls : K2-calls
+  pub k3-cells : K3-cells
+  pub k3-faces : K3-faces
+  pub k4 : K4
+  pub k5-cells : K5-cells
+  pub k5-faces : K5-faces
+  pub k6 : K6
+  pub k7 : K7
+  pub k8 : K8
+  pub k9 : K9
+  pub k10 : K10

@@ -14,9 +14,9 @@ use lib.ListN.{length, drop, getD}
 use lib.Ieee.{Float, binary64, ofBits}
 use Rattle.words.specs.Records.{concat}
 use Rattle.words.specs.Text.{ascii}
-use Rattle.rules.specs.Limits.{empty, sweptVertices}
+use Rattle.rules.specs.Limits.{sweptVertices}
 use Rattle.simplex.specs.Cell.{Cell, Row, cell}
-use Rattle.complex.specs.Layout.{Entry, cellWords, entriesOf}
+use Rattle.records.specs.Layout.{empty, Entry, cellWords, entriesOf}
 use Rattle.complex.specs.Accept.{Listed}
 use Rattle.complex.specs.Table.{tableOfList}
 use Rattle.wing.specs.Wing.{WingInput}

@@ -11,11 +11,10 @@ use mathlib.Core.Bool.{Bool, true, false, cond, _&&_}
 use mathlib.Core.List.{List, [], _∷_, map}
 use Prim.Native.Nat.{ℕ, suc, _/_, _≤_}
 use lib.Dec.{eqb, ltb}
-use Rattle.rules.specs.Limits.{empty}
 use Rattle.rules.specs.Calls.{accepted, refused}
 use Rattle.simplex.specs.Cell.{Row}
 use Rattle.simplex.specs.Chain.{countOn, total, coefficient}
-use Rattle.complex.specs.Layout.{Entry, tableWords}
+use Rattle.records.specs.Layout.{empty, Entry, tableWords}
 use Rattle.boundary.specs.Boundary.{boundaryOf}
 use Rattle.boundary.specs.Faces.{FacesInput, facesOutcome}
 use Rattle.theorems.specs.Shorthand.{sweptEntries, ample}
@@ -60,7 +59,8 @@ pub record Stacked : Type 0 where
   -- the upper level without wings: so does the face within it
   pub inner-twice : (total between (boundaryOf first) ≡ 2) × (total inner (boundaryOf first) ≡ 2)
   -- the sums do not tell: each coefficient is 0, as in the true boundary
-  pub sums : (coefficient between (boundaryOf apart) ≡ coefficient between (boundaryOf glued)) × (coefficient inner (boundaryOf first) ≡ coefficient inner (boundaryOf glued))
+  pub sums : (coefficient between (boundaryOf apart) ≡ coefficient between (boundaryOf glued))
+      × (coefficient inner (boundaryOf first) ≡ coefficient inner (boundaryOf glued))
   -- `distinct` does
   pub not-distinct : (((w : Row) → total w (boundaryOf apart) ≤ 1) → ⊥) × (((w : Row) → total w (boundaryOf first) ≤ 1) → ⊥)
   -- and faces refuses both tables

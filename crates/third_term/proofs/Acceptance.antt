@@ -16,7 +16,7 @@ use Rattle.simplex.specs.Cell.{cell}
 use Rattle.simplex.specs.Faces.{facets}
 use Rattle.simplex.specs.Order.{vertex}
 use Rattle.complex.specs.Accept.{acceptable, badSign, cellTwice, crowdedFace, equalSigns, listedCells, solidOf, solidRules, vertexBeyond, vertexTwice}
-use Rattle.complex.specs.Layout.{listSize, tableLength}
+use Rattle.records.specs.Layout.{listSize, tableLength}
 use Rattle.wing.specs.Wing.{WingInput, wingOutcome, wingRules}
 use Rattle.complex.proofs.Accepted.{passes}
 use Rattle.complex.proofs.Tests.{or-false}

@@ -25,7 +25,13 @@ overSweep f nv (suc h) c y = overSweep f nv h c y + overPrism f (h * nv) (suc h 
 pub sumChain-sweep : (f : Functional) (nv h : ℕ) (b : Bool) (cs : List Cell) → sumChain f b (sweepOf nv h cs) ≡ sumChain (overSweep f nv h) b cs
 sumChain-sweep f nv zero b cs = sym (sumChain-zero b cs)
 sumChain-sweep f nv (suc h) b cs =
-    omega (arith, sumChain-append f b (sweepOf nv h cs) (level nv h cs), sumChain-sweep f nv h b cs, sumChain-level f nv h b cs, sumChain-add (overSweep f nv h) (overPrism f (h * nv) (suc h * nv)) b cs)
+    omega (
+      arith,
+      sumChain-append f b (sweepOf nv h cs) (level nv h cs),
+      sumChain-sweep f nv h b cs,
+      sumChain-level f nv h b cs,
+      sumChain-add (overSweep f nv h) (overPrism f (h * nv) (suc h * nv)) b cs,
+    )
 
 overSweep-nil : (f : Functional) (nv h : ℕ) (c : Bool) → overSweep f nv h c [] ≡ 0
 overSweep-nil f nv zero c = refl
@@ -38,13 +44,24 @@ module _ (nv : ℕ) (cs : List Cell) (s : Solid nv cs) where
   bd-eq : (h : ℕ) → sweptBoundary nv h cs ≡ keep (λ c. loneIn (allFaces (sweepOf nv h cs)) (c .row)) (allFaces (sweepOf nv h cs))
   bd-eq h = ap (λ F. keep (λ c. loneIn F (c .row)) F) (swept-facets nv h cs s)
 
-  pub bd-is : (h : ℕ) (f : Functional) → sumChain f true (sweptBoundary nv h cs) + sweptParts f nv h false cs ≡ sweptParts f nv h true cs + sumChain f false (sweptBoundary nv h cs)
+  pub bd-is : (h : ℕ) (f : Functional) →
+      sumChain f true (sweptBoundary nv h cs) + sweptParts f nv h false cs ≡ sweptParts f nv h true cs + sumChain f false (sweptBoundary nv h cs)
   bd-is h f =
-      omega (arith, sweep-id f nv h cs, sumChain-allFaces f true (sweepOf nv h cs), sumChain-allFaces f false (sweepOf nv h cs), lone-cancel (allFaces (sweepOf nv h cs)) (swept-paired nv cs s h) f, ap (sumChain f true) (bd-eq h), ap (sumChain f false) (bd-eq h))
+      omega (
+        arith,
+        sweep-id f nv h cs,
+        sumChain-allFaces f true (sweepOf nv h cs),
+        sumChain-allFaces f false (sweepOf nv h cs),
+        lone-cancel (allFaces (sweepOf nv h cs)) (swept-paired nv cs s h) f,
+        ap (sumChain f true) (bd-eq h),
+        ap (sumChain f false) (bd-eq h),
+      )
 
   pub boundary-sum : (h : ℕ) (f : Functional) →
-      sumChain f true (sweptBoundary nv h cs) + (sumChain (atHeight f (h * nv)) false cs + sumChain (atHeight f (zero * nv)) true cs + sumChain f false (sweepOf nv h (ownBoundary cs)))
-      ≡ (sumChain (atHeight f (h * nv)) true cs + sumChain (atHeight f (zero * nv)) false cs + sumChain f true (sweepOf nv h (ownBoundary cs))) + sumChain f false (sweptBoundary nv h cs)
+      sumChain f true (sweptBoundary nv h cs)
+      + (sumChain (atHeight f (h * nv)) false cs + sumChain (atHeight f (zero * nv)) true cs + sumChain f false (sweepOf nv h (ownBoundary cs)))
+      ≡ (sumChain (atHeight f (h * nv)) true cs + sumChain (atHeight f (zero * nv)) false cs + sumChain f true (sweepOf nv h (ownBoundary cs)))
+      + sumChain f false (sweptBoundary nv h cs)
   boundary-sum h f =
       omega (
         arith,

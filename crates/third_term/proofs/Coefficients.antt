@@ -49,14 +49,17 @@ diff-neg a b = negℤ-+ℤ (pos a) (negℤ (pos b)) ∙ +ℤ-comm (negℤ (pos a
 diff-add : (a b c d : ℕ) → (pos a -ℤ pos b) +ℤ (pos c -ℤ pos d) ≡ pos (a + c) -ℤ pos (b + d)
 diff-add a b c d =
     +ℤ-assoc (pos a) (negℤ (pos b)) (pos c -ℤ pos d)
-    ∙ ap (λ z. pos a +ℤ z) (sym (+ℤ-assoc (negℤ (pos b)) (pos c) (negℤ (pos d))) ∙ ap (λ z. z -ℤ pos d) (+ℤ-comm (negℤ (pos b)) (pos c)) ∙ +ℤ-assoc (pos c) (negℤ (pos b)) (negℤ (pos d)) ∙ ap (λ z. pos c +ℤ z) (sym (negℤ-+ℤ (pos b) (pos d))))
+    ∙ ap (λ z. pos a +ℤ z) (sym (+ℤ-assoc (negℤ (pos b)) (pos c) (negℤ (pos d))) ∙ ap (λ z. z -ℤ pos d) (+ℤ-comm (negℤ (pos b)) (pos c))
+    ∙ +ℤ-assoc (pos c) (negℤ (pos b)) (negℤ (pos d)) ∙ ap (λ z. pos c +ℤ z) (sym (negℤ-+ℤ (pos b) (pos d))))
     ∙ sym (+ℤ-assoc (pos a) (pos c) (negℤ (pos b +ℤ pos d))) ∙ ap₂ (λ y z. y -ℤ z) (pos-+ℤ-pos a c) (pos-+ℤ-pos b d)
 
 -- the copies of a solid of dimension d
-sumChain-copy : (f : Functional) (nv i d : ℕ) (b : Bool) (cs : List Cell) → All (Long (suc d)) cs → sumChain (atHeight f (i * nv)) b cs ≡ sumChain f (times (alternating d) b) (topCopy nv i cs)
+sumChain-copy : (f : Functional) (nv i d : ℕ) (b : Bool) (cs : List Cell) → All (Long (suc d)) cs →
+    sumChain (atHeight f (i * nv)) b cs ≡ sumChain f (times (alternating d) b) (topCopy nv i cs)
 sumChain-copy f nv i d b [] a = refl
 sumChain-copy f nv i d b (c ∷ cs) a =
-    ap₂ (λ m n. m + n) (ap (λ t. f t (raised (i * nv) (c .row))) (ap (λ n. times (not (alternating n)) (times (c .sign) b)) (a .0) ∙ ap (λ e. times e (times (c .sign) b)) (not-not (alternating d)) ∙ times-comm (alternating d) (c .sign) b))
+    ap₂ (λ m n. m + n) (ap (λ t. f t (raised (i * nv) (c .row))) (ap (λ n. times (not (alternating n)) (times (c .sign) b)) (a .0)
+    ∙ ap (λ e. times e (times (c .sign) b)) (not-not (alternating d)) ∙ times-comm (alternating d) (c .sign) b))
     (sumChain-copy f nv i d b cs (a .1))
 
 copy-zero : (nv : ℕ) (cs : List Cell) → topCopy nv 0 cs ≡ cs
@@ -65,7 +68,8 @@ copy-zero nv (c ∷ cs) = ap₂ {C = List Cell} (λ v r. cell (c .sign) v ∷ r)
 
 pub coefficients : (nv d h : ℕ) (cs : List Cell) → Solid nv cs → All (Long (suc d)) cs → (w : Row) →
     value w (sweptBoundary nv h cs) ≡ times-ℤ d (value w (topCopy nv h cs) -ℤ value w cs) +ℤ value w (sweepOf nv h (ownBoundary cs))
-coefficients nv d h cs s ln w = go (alternating d) (sumChain-copy (plusOn w) nv h d) (λ b. sumChain-copy (plusOn w) nv 0 d b cs ln ∙ ap (sumChain (plusOn w) (times (alternating d) b)) (copy-zero nv cs))
+coefficients nv d h cs s ln w = go (alternating d) (sumChain-copy (plusOn w) nv h d)
+    (λ b. sumChain-copy (plusOn w) nv 0 d b cs ln ∙ ap (sumChain (plusOn w) (times (alternating d) b)) (copy-zero nv cs))
   where
     B⁺ : ℕ
     B⁺ = sumChain (plusOn w) true (sweptBoundary nv h cs)
@@ -85,12 +89,19 @@ coefficients nv d h cs s ln w = go (alternating d) (sumChain-copy (plusOn w) nv 
     a : Bool → ℕ
     a b = sumChain (plusOn w) b cs
 
-    go : (e : Bool) → ((b : Bool) (xs : List Cell) → All (Long (suc d)) xs → sumChain (atHeight (plusOn w) (h * nv)) b xs ≡ sumChain (plusOn w) (times e b) (topCopy nv h xs)) →
+    go : (e : Bool) → ((b : Bool) (xs : List Cell) → All (Long (suc d)) xs →
+        sumChain (atHeight (plusOn w) (h * nv)) b xs ≡ sumChain (plusOn w) (times e b) (topCopy nv h xs)) →
         ((b : Bool) → sumChain (atHeight (plusOn w) (0 * nv)) b cs ≡ sumChain (plusOn w) (times e b) cs) →
-        pos B⁺ -ℤ pos B⁻ ≡ cond e ((pos (t true) -ℤ pos (t false)) -ℤ (pos (a true) -ℤ pos (a false))) (negℤ ((pos (t true) -ℤ pos (t false)) -ℤ (pos (a true) -ℤ pos (a false)))) +ℤ (pos R⁺ -ℤ pos R⁻)
+        pos B⁺ -ℤ pos B⁻ ≡ cond e ((pos (t true) -ℤ pos (t false)) -ℤ (pos (a true) -ℤ pos (a false)))
+        (negℤ ((pos (t true) -ℤ pos (t false)) -ℤ (pos (a true) -ℤ pos (a false)))) +ℤ (pos R⁺ -ℤ pos R⁻)
     go true top bot =
-        diff-eq B⁺ B⁻ (t true + a false + R⁺) (t false + a true + R⁻) (omega (arith, boundary-sum nv cs s h (plusOn w), top true cs ln, top false cs ln, bot true, bot false))
-        ∙ sym (ap (λ z. z +ℤ (pos R⁺ -ℤ pos R⁻)) (ap (λ z. (pos (t true) -ℤ pos (t false)) +ℤ z) (diff-neg (a true) (a false)) ∙ diff-add (t true) (t false) (a false) (a true)) ∙ diff-add (t true + a false) (t false + a true) R⁺ R⁻)
+        diff-eq B⁺ B⁻ (t true + a false + R⁺) (t false + a true + R⁻)
+        (omega (arith, boundary-sum nv cs s h (plusOn w), top true cs ln, top false cs ln, bot true, bot false))
+        ∙ sym (ap (λ z. z +ℤ (pos R⁺ -ℤ pos R⁻)) (ap (λ z. (pos (t true) -ℤ pos (t false)) +ℤ z) (diff-neg (a true) (a false))
+        ∙ diff-add (t true) (t false) (a false) (a true)) ∙ diff-add (t true + a false) (t false + a true) R⁺ R⁻)
     go false top bot =
-        diff-eq B⁺ B⁻ (t false + a true + R⁺) (t true + a false + R⁻) (omega (arith, boundary-sum nv cs s h (plusOn w), top true cs ln, top false cs ln, bot true, bot false))
-        ∙ sym (ap (λ z. z +ℤ (pos R⁺ -ℤ pos R⁻)) (ap negℤ (ap (λ z. (pos (t true) -ℤ pos (t false)) +ℤ z) (diff-neg (a true) (a false)) ∙ diff-add (t true) (t false) (a false) (a true)) ∙ diff-neg (t true + a false) (t false + a true)) ∙ diff-add (t false + a true) (t true + a false) R⁺ R⁻)
+        diff-eq B⁺ B⁻ (t false + a true + R⁺) (t true + a false + R⁻)
+        (omega (arith, boundary-sum nv cs s h (plusOn w), top true cs ln, top false cs ln, bot true, bot false))
+        ∙ sym (ap (λ z. z +ℤ (pos R⁺ -ℤ pos R⁻)) (ap negℤ (ap (λ z. (pos (t true) -ℤ pos (t false)) +ℤ z) (diff-neg (a true) (a false))
+        ∙ diff-add (t true) (t false) (a false) (a true)) ∙ diff-neg (t true + a false) (t false + a true))
+        ∙ diff-add (t false + a true) (t true + a false) R⁺ R⁻)

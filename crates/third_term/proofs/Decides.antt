@@ -45,13 +45,19 @@ sumChain-neg f b (c ∷ cs) = ap₂ (λ m n. m + n) (ap (λ t. f t (c .row)) (go
 coef-fun : (f : Functional) (xs ys : List Cell) →
     ((w : Row) → sumChain (plusOn w) true xs + sumChain (plusOn w) false ys ≡ sumChain (plusOn w) true ys + sumChain (plusOn w) false xs) →
     sumChain f true xs + sumChain f false ys ≡ sumChain f true ys + sumChain f false xs
-coef-fun f xs ys h = omega (arith, bal (length (xs ++ neg ys)) f (xs ++ neg ys) (omega arith) (λ w. omega (arith, h w, part (plusOn w) true, part (plusOn w) false)), part f true, part f false)
+coef-fun f xs ys h = omega (
+  arith,
+  bal (length (xs ++ neg ys)) f (xs ++ neg ys) (omega arith) (λ w. omega (arith, h w, part (plusOn w) true, part (plusOn w) false)),
+  part f true,
+  part f false,
+)
   where
     part : (f : Functional) (b : Bool) → sumChain f b (xs ++ neg ys) ≡ sumChain f b xs + sumChain f (not b) ys
     part f b = omega (arith, sumChain-append f b xs (neg ys), sumChain-neg f b ys)
 
 abbrev pub SameSums : List Cell → List Cell → Type 0
-SameSums xs ys = (w : Row) → (sumChain (plusOn w) true xs ≡ sumChain (plusOn w) true ys) × (sumChain (plusOn w) false xs ≡ sumChain (plusOn w) false ys)
+SameSums xs ys =
+    (w : Row) → (sumChain (plusOn w) true xs ≡ sumChain (plusOn w) true ys) × (sumChain (plusOn w) false xs ≡ sumChain (plusOn w) false ys)
 
 module _ (nv h : ℕ) (xa xb : List Cell) (sa : Solid nv xa) (sb : Solid nv xb) where
   pub forth : SameSums xa xb → SameSums (sweptBoundary nv h xa) (sweptBoundary nv h xb)
@@ -63,10 +69,12 @@ module _ (nv h : ℕ) (xa xb : List Cell) (sa : Solid nv xa) (sb : Solid nv xb) 
       any : (f : Functional) → sumChain f true xa + sumChain f false xb ≡ sumChain f true xb + sumChain f false xa
       any f = coef-fun f xa xb (λ w. omega (arith, e w .0, e w .1))
 
-      faces-of : (xs : List Cell) (b : Bool) → sumChain (plusOn w) b (sweepOf nv h (allFaces xs)) ≡ sumChain (sumFaces (overSweep (plusOn w) nv h)) b xs
+      faces-of : (xs : List Cell) (b : Bool) →
+          sumChain (plusOn w) b (sweepOf nv h (allFaces xs)) ≡ sumChain (sumFaces (overSweep (plusOn w) nv h)) b xs
       faces-of xs b = sumChain-sweep (plusOn w) nv h b (allFaces xs) ∙ sumChain-allFaces (overSweep (plusOn w) nv h) b xs
 
-      eq : sumChain (plusOn w) true (sweptBoundary nv h xa) + sumChain (plusOn w) false (sweptBoundary nv h xb) ≡ sumChain (plusOn w) true (sweptBoundary nv h xb) + sumChain (plusOn w) false (sweptBoundary nv h xa)
+      eq : sumChain (plusOn w) true (sweptBoundary nv h xa) + sumChain (plusOn w) false (sweptBoundary nv h xb)
+          ≡ sumChain (plusOn w) true (sweptBoundary nv h xb) + sumChain (plusOn w) false (sweptBoundary nv h xa)
       eq = omega (
         arith,
         bd-is nv xa sa h (plusOn w),
@@ -96,8 +104,10 @@ sumChain-times : (e : Bool) (f : Functional) (b : Bool) (cs : List Cell) → sum
 sumChain-times true f b cs = refl
 sumChain-times false f b cs = sumChain-not f b cs
 
-at-bottom : (nv : ℕ) (w : Row) (b : Bool) (cs : List Cell) → sumChain (atHeight (plusOn w) (zero * nv)) b cs ≡ sumChain (plusOn w) (times (dimensionSign w) b) cs
-at-bottom nv w b cs = ap (λ (f : Functional). sumChain f b cs) (fun-ext (λ c. fun-ext (λ y. go c y))) ∙ sumChain-times (dimensionSign w) (plusOn w) b cs
+at-bottom : (nv : ℕ) (w : Row) (b : Bool) (cs : List Cell) →
+    sumChain (atHeight (plusOn w) (zero * nv)) b cs ≡ sumChain (plusOn w) (times (dimensionSign w) b) cs
+at-bottom nv w b cs =
+    ap (λ (f : Functional). sumChain f b cs) (fun-ext (λ c. fun-ext (λ y. go c y))) ∙ sumChain-times (dimensionSign w) (plusOn w) b cs
   where
     same : (y : Row) (e c t : Bool) → (t ≡ true → y ≡ w) → one (times (dimensionSign y) c && t) ≡ one (times (dimensionSign w) c && t)
     same y e c true h = rw (h refl) refl
@@ -123,7 +133,8 @@ module _ (nv h : ℕ) (xa xb : List Cell) (sa : Solid nv xa) (sb : Solid nv xb) 
       goal = (sumChain (plusOn w) true xa ≡ sumChain (plusOn w) true xb) × (sumChain (plusOn w) false xa ≡ sumChain (plusOn w) false xb)
 
       bottom : (cs : List Cell) → Solid nv cs → Good nv w →
-          sumChain (plusOn w) true (sweptBoundary nv h cs) + sumChain (plusOn w) (times (dimensionSign w) true) cs ≡ sumChain (plusOn w) (times (dimensionSign w) false) cs + sumChain (plusOn w) false (sweptBoundary nv h cs)
+          sumChain (plusOn w) true (sweptBoundary nv h cs) + sumChain (plusOn w) (times (dimensionSign w) true) cs
+          ≡ sumChain (plusOn w) (times (dimensionSign w) false) cs + sumChain (plusOn w) false (sweptBoundary nv h cs)
       bottom cs s g =
           omega (
             arith,
@@ -142,11 +153,33 @@ module _ (nv h : ℕ) (xa xb : List Cell) (sa : Solid nv xa) (sb : Solid nv xb) 
           none : sideCount cs (lowerIn nv w) (upperIn nv w) ≡ 0
           none = ap (sideCount cs (lowerIn nv w)) (ap (λ j. uppers nv j w) (low-level nv w g) ∙ low-highs nv w (g .1)) ∙ sumRows-countFaces-zero cs
 
-      case : Good nv w → (t : Bool) → dimensionSign w ≡ t → (sumChain (plusOn w) true xa ≡ sumChain (plusOn w) true xb) × (sumChain (plusOn w) false xa ≡ sumChain (plusOn w) false xb)
-      case g true k = omega (arith, rw k at (bottom xa sa g), rw k at (bottom xb sb g), e w .0, e w .1, sa .distinct w, sb .distinct w, plus-minus w xa, plus-minus w xb)
-      case g false k = omega (arith, rw k at (bottom xa sa g), rw k at (bottom xb sb g), e w .0, e w .1, sa .distinct w, sb .distinct w, plus-minus w xa, plus-minus w xb)
+      case : Good nv w → (t : Bool) → dimensionSign w ≡ t →
+          (sumChain (plusOn w) true xa ≡ sumChain (plusOn w) true xb) × (sumChain (plusOn w) false xa ≡ sumChain (plusOn w) false xb)
+      case g true k = omega (
+        arith,
+        rw k at (bottom xa sa g),
+        rw k at (bottom xb sb g),
+        e w .0,
+        e w .1,
+        sa .distinct w,
+        sb .distinct w,
+        plus-minus w xa,
+        plus-minus w xb,
+      )
+      case g false k = omega (
+        arith,
+        rw k at (bottom xa sa g),
+        rw k at (bottom xb sb g),
+        e w .0,
+        e w .1,
+        sa .distinct w,
+        sb .distinct w,
+        plus-minus w xa,
+        plus-minus w xb,
+      )
 
-      go : (total w xa ≡ 0) ⊎ Good nv w → (total w xb ≡ 0) ⊎ Good nv w → (sumChain (plusOn w) true xa ≡ sumChain (plusOn w) true xb) × (sumChain (plusOn w) false xa ≡ sumChain (plusOn w) false xb)
+      go : (total w xa ≡ 0) ⊎ Good nv w → (total w xb ≡ 0) ⊎ Good nv w →
+          (sumChain (plusOn w) true xa ≡ sumChain (plusOn w) true xb) × (sumChain (plusOn w) false xa ≡ sumChain (plusOn w) false xb)
       go (inl p) (inl q) = omega (arith, plus-minus w xa, plus-minus w xb)
       go (inl p) (inr g) = case g (dimensionSign w) refl
       go (inr g) q = case g (dimensionSign w) refl

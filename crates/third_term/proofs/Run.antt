@@ -11,7 +11,7 @@ use mathlib.Core.Bool.{true}
 use Rattle.words.specs.Records.{part}
 use Rattle.words.proofs.Records.{tabulate-length}
 use Rattle.rules.specs.Calls.{accepted, written}
-use Rattle.rules.specs.Limits.{empty, maxCells, maxDimension, maxSource, maxSteps, maxVertices, sizesOk, sweptVertices, verticesOk, within}
+use Rattle.rules.specs.Limits.{maxCells, maxDimension, maxSource, maxSteps, maxVertices, sizesOk, sweptVertices, verticesOk, within}
 use Rattle.rules.specs.Shapes.{shapeOk}
 use Rattle.rules.proofs.Tests.{and-parts}
 use Rattle.rules.proofs.Accepting.{front-of}
@@ -20,7 +20,7 @@ use Rattle.simplex.specs.Order.{ascending}
 use Rattle.simplex.proofs.Counts.{All}
 use Rattle.simplex.proofs.Rows.{Long}
 use Rattle.complex.specs.Accept.{listedCells}
-use Rattle.complex.specs.Layout.{Entry, cellOf, entriesOf, listSize, tableLength, tableWords}
+use Rattle.records.specs.Layout.{faceSize, empty, Entry, cellOf, entriesOf, listSize, tableLength, tableWords}
 use Rattle.complex.specs.Table.{sound, tableOf, tableOfList}
 use Rattle.wing.specs.Wing.{wingBuffer}
 use Rattle.complex.proofs.Accepted.{accepted-solid}
@@ -33,9 +33,10 @@ use Rattle.prism.proofs.SweptRows.{len-sweep}
 use Rattle.prism.proofs.SweptSolid.{swept-long, swept-solid}
 use Rattle.prism.proofs.SweptTable.{swept-table}
 use Rattle.boundary.specs.Boundary.{boundaryOf, ownBoundary}
-use Rattle.boundary.specs.Faces.{boundaryCells, faceSize, facesBuffer, facesOutcome, facesRules}
+use Rattle.boundary.specs.Faces.{boundaryCells, facesBuffer, facesOutcome, facesRules}
 use Rattle.boundary.proofs.EmptyWings.{boundary-own}
-use Rattle.third_term.specs.ThirdTerm.{Sitting, Unrefused, boundary, boundaryWords, list, solid, sweptWritten, tableWritten, toFaces, toSweep, toWing}
+use Rattle.third_term.specs.ThirdTerm.{Sitting, Unrefused, boundary, boundaryWords, list, solid, sweptWritten, tableWritten, toFaces, toSweep}
+use Rattle.third_term.specs.ThirdTerm.{toWing}
 use Rattle.third_term.proofs.Acceptance.{Swept, Winged, swept-is, winged-is}
 
 module _ (d v h : ℕ) (x : Sitting) (u : Unrefused d v h x) where
@@ -65,7 +66,8 @@ module _ (d v h : ℕ) (x : Sitting) (u : Unrefused d v h x) where
   unfolding wingBuffer tableOfList
   table-is =
       rw (u .winged)
-      (front-of (tableWords (tableOf cs)) (x .tableBuffer) _ (tableLength d (x .s)) refl (sym (words-length d v cs is-solid is-long ∙ ap (tableLength d) count)) .1)
+      (front-of (tableWords (tableOf cs)) (x .tableBuffer) _ (tableLength d (x .s)) refl
+      (sym (words-length d v cs is-solid is-long ∙ ap (tableLength d) count)) .1)
 
   entries-are : entriesOf d (x .s) (tableWritten d v h x) ≡ tableOf cs
   entries-are = ap₂ {C = List Entry} (λ n ws. entriesOf d n ws) (sym count) table-is ∙ entries-of-words d v cs is-solid is-long
@@ -111,14 +113,16 @@ module _ (d v h : ℕ) (x : Sitting) (u : Unrefused d v h x) where
   swept-table-is =
       rw (u .swept)
       (front-of (sweptWords (toSweep d v h x)) (x .sweptBuffer) _ (sweptLength (toSweep d v h x)) refl
-      (sym (ap length swept-words ∙ words-length (suc d) (sweptVertices v h) T swept-is-solid swept-is-long ∙ ap (tableLength (suc d)) swept-count)) .1
+      (sym (ap length swept-words ∙ words-length (suc d) (sweptVertices v h) T swept-is-solid swept-is-long
+      ∙ ap (tableLength (suc d)) swept-count)) .1
       ∙ swept-words)
 
   -- the boundary off its empty wings is the swept cells' own
   pub boundary-is : boundary d v h x ≡ ownBoundary T
   boundary-is =
       ap boundaryOf
-      (ap₂ {C = List Entry} (λ n ws. entriesOf (suc d) n ws) (sym swept-count) swept-table-is ∙ entries-of-words (suc d) (sweptVertices v h) T swept-is-solid swept-is-long)
+      (ap₂ {C = List Entry} (λ n ws. entriesOf (suc d) n ws) (sym swept-count) swept-table-is
+      ∙ entries-of-words (suc d) (sweptVertices v h) T swept-is-solid swept-is-long)
       ∙ boundary-own (sweptVertices v h) (suc d) T swept-is-solid swept-is-long swept-small
 
   swept-shape : shapeOk maxDimension (suc d) (sweptVertices v h) (sweptCells d (x .s) h) ≡ true
@@ -133,16 +137,19 @@ module _ (d v h : ℕ) (x : Sitting) (u : Unrefused d v h x) where
       ) refl
 
   swept-length-is : length (sweptWritten d v h x) ≡ tableLength (suc d) (sweptCells d (x .s) h)
-  swept-length-is = ap length swept-table-is ∙ words-length (suc d) (sweptVertices v h) T swept-is-solid swept-is-long ∙ ap (tableLength (suc d)) swept-count
+  swept-length-is =
+      ap length swept-table-is ∙ words-length (suc d) (sweptVertices v h) T swept-is-solid swept-is-long ∙ ap (tableLength (suc d)) swept-count
 
   -- the swept table is sound
   pub swept-sound : sound (suc d) (sweptVertices v h) (sweptCells d (x .s) h) (sweptWritten d v h x) ≡ true
   swept-sound =
       ap₂ (λ n ws. sound (suc d) (sweptVertices v h) n ws) (sym swept-count) swept-table-is
-      ∙ table-sound (suc d) (sweptVertices v h) T swept-is-solid swept-is-long (ap (shapeOk maxDimension (suc d) (sweptVertices v h)) swept-count ∙ swept-shape)
+      ∙ table-sound (suc d) (sweptVertices v h) T swept-is-solid swept-is-long
+      (ap (shapeOk maxDimension (suc d) (sweptVertices v h)) swept-count ∙ swept-shape)
 
   -- so faces does not refuse it
-  pub faces-accepts : (out : List ℕ) → length (boundary d v h x) * faceSize (suc d) ≤ length out → facesOutcome (toFaces d v h x out) ≡ accepted (length (boundary d v h x))
+  pub faces-accepts : (out : List ℕ) → length (boundary d v h x) * faceSize (suc d) ≤ length out →
+      facesOutcome (toFaces d v h x out) ≡ accepted (length (boundary d v h x))
   unfolding facesOutcome facesRules boundaryCells
   faces-accepts out room =
       rw (
@@ -152,6 +159,7 @@ module _ (d v h : ℕ) (x : Sitting) (u : Unrefused d v h x) where
         le-ltb (length out) (length (boundary d v h x) * faceSize (suc d)) room,
       ) refl
 
-  pub faces-writes : (out : List ℕ) → length (boundary d v h x) * faceSize (suc d) ≤ length out → facesBuffer (toFaces d v h x out) out ≡ written (boundaryWords d v h x) out
+  pub faces-writes : (out : List ℕ) → length (boundary d v h x) * faceSize (suc d) ≤ length out →
+      facesBuffer (toFaces d v h x out) out ≡ written (boundaryWords d v h x) out
   unfolding facesBuffer boundaryCells
   faces-writes out room = rw (faces-accepts out room) refl

@@ -45,7 +45,8 @@ module _ (d v h : ℕ) (x : Sitting) (u : Unrefused d v h x) where
 
   sum-is : (w : Row) →
       coefficient w (boundary d v h x)
-      ≡ signed d v h x (coefficient w (topCopy v h (solid d v h x)) -ℤ coefficient w (solid d v h x)) +ℤ coefficient w (sweepOf v h (ownBoundary (solid d v h x)))
+      ≡ signed d v h x (coefficient w (topCopy v h (solid d v h x)) -ℤ coefficient w (solid d v h x))
+      +ℤ coefficient w (sweepOf v h (ownBoundary (solid d v h x)))
   sum-is w =
       coefficient-is w (boundary d v h x) ∙ ap (value w) (boundary-is d v h x u)
       ∙ coefficients v d h (solid d v h x) (is-solid d v h x u) (is-long d v h x u) w
@@ -68,7 +69,8 @@ third-term d v h x y ux uy =
     record {
       decides = (
         (λ e. subst₂ Same (sym (boundary-is d v h x ux)) (sym (boundary-is d v h y uy))
-            (from-sums bx by (forth v h (solid d v h x) (solid d v h y) (is-solid d v h x ux) (is-solid d v h y uy) (to-sums (solid d v h x) (solid d v h y) e)))),
+            (from-sums bx by
+            (forth v h (solid d v h x) (solid d v h y) (is-solid d v h x ux) (is-solid d v h y uy) (to-sums (solid d v h x) (solid d v h y) e)))),
         (λ e. from-sums (solid d v h x) (solid d v h y)
             (back v h (solid d v h x) (solid d v h y) (is-solid d v h x ux) (is-solid d v h y uy) (some-steps d v h x ux)
             (to-sums bx by (subst₂ Same (boundary-is d v h x ux) (boundary-is d v h y uy) e)))),

@@ -15,17 +15,17 @@ use lib.IntN.{ℤ, _+ℤ_, _-ℤ_, negℤ}
 use lib.ListN.{length, take}
 use Rattle.words.specs.Records.{concat}
 use Rattle.rules.specs.Limits.{sweptVertices}
-use Rattle.rules.specs.Calls.{Outcome, accepted, written}
+use Rattle.rules.specs.Calls.{accepted, written}
 use Rattle.simplex.specs.Cell.{Row, Cell, alternating}
 use Rattle.simplex.specs.Chain.{total, Same, coefficient}
-use Rattle.complex.specs.Layout.{cellsOf, cellWords, entriesOf, tableLength}
+use Rattle.records.specs.Layout.{faceSize, cellsOf, cellWords, entriesOf, tableLength}
 use Rattle.complex.specs.Accept.{Listed, solidOf}
 use Rattle.wing.specs.Wing.{WingInput, wingOutcome, wingBuffer}
 use Rattle.prism.specs.Cells.{sweepOf, topCopy}
 use Rattle.prism.specs.Swept.{sweptCells}
 use Rattle.sweep.specs.Sweep.{SweepInput, sweptLength, sweepOutcome, sweepBuffer}
 use Rattle.boundary.specs.Boundary.{boundaryOf, ownBoundary}
-use Rattle.boundary.specs.Faces.{FacesInput, faceSize, facesOutcome, facesBuffer}
+use Rattle.boundary.specs.Faces.{FacesInput, facesOutcome, facesBuffer}
 
 pub record Sitting : Type 0 where
   pub s : ℕ

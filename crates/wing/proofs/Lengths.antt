@@ -10,7 +10,7 @@ use Rattle.rules.specs.Calls.{accepted}
 use Rattle.rules.proofs.Accepting.{accepted-by}
 use Rattle.simplex.specs.Order.{ascending}
 use Rattle.complex.specs.Accept.{Listed, listedCells, solidOf, solidRules}
-use Rattle.complex.specs.Layout.{cellOf, listSize, tableLength}
+use Rattle.records.specs.Layout.{cellOf, listSize, tableLength}
 use Rattle.complex.specs.Table.{tableOfList}
 use Rattle.complex.proofs.Accepted.{accepted-solid, passes}
 use Rattle.complex.proofs.OwnTable as own

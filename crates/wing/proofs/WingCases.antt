@@ -13,7 +13,7 @@ use Rattle.rules.specs.Calls.{accepted, after, outcome, refused}
 use Rattle.rules.specs.Limits.{maxDimension}
 use Rattle.rules.specs.Shapes.{shapeOk}
 use Rattle.complex.specs.Accept.{solidRules}
-use Rattle.complex.specs.Layout.{listSize, tableLength}
+use Rattle.records.specs.Layout.{listSize, tableLength}
 use Rattle.complex.specs.Table.{tableOfList}
 use Rattle.adjacency.specs.Tabled.{listWith, tableRefusal, tableAfter}
 use Rattle.wing.specs.Wing.{wingBuffer, wingInput, wingOutcome, wingRules}

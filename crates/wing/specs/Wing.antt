@@ -12,7 +12,7 @@ use lib.ListN.{length}
 use Rattle.rules.specs.Limits.{maxDimension}
 use Rattle.rules.specs.Shapes.{shapeOk}
 use Rattle.rules.specs.Calls.{Rule, refuse, onPart, Outcome, decide, after}
-use Rattle.complex.specs.Layout.{listSize, tableLength}
+use Rattle.records.specs.Layout.{listSize, tableLength}
 use Rattle.complex.specs.Accept.{Listed, solidRules}
 use Rattle.complex.specs.Table.{tableOfList}
 

@@ -14,7 +14,7 @@ use Rattle.rules.specs.Limits.{maxDimension, axesOk}
 use Rattle.rules.specs.Shapes.{shapeOk}
 use Rattle.rules.specs.Calls.{Outcome, accepted, refused}
 use Rattle.rules.proofs.Accepting.{accepted-by}
-use Rattle.complex.specs.Layout.{tableLength}
+use Rattle.records.specs.Layout.{tableLength}
 use Rattle.motion.specs.Move.{movedLength}
 use Rattle.file.specs.Tests.{cellsLength}
 use Rattle.read.specs.declared.Header.{Header}

@@ -4,18 +4,17 @@
 -- Assumes nothing.
 use mathlib.Core.Path.{_≡_, refl, sym, ap, _∙_}
 use mathlib.Core.Bool.{Bool, true, false}
-use mathlib.Core.List.{List, map, _++_}
+use mathlib.Core.List.{List, _++_}
 use Prim.Native.Nat.{ℕ, _*_}
 use lib.IntN.{pos, negℤ}
 use lib.ListN.{length, drop}
 use borrow.Author.Tests.{ne-eqb}
 use Rattle.words.specs.Bytes.{words16, bytesOf}
-use Rattle.words.specs.Records.{concat}
 use Rattle.rules.specs.Limits.{maxDimension}
 use Rattle.rules.specs.Shapes.{shapeOk}
 use Rattle.rules.specs.Calls.{Outcome, accepted, refused, after}
-use Rattle.complex.specs.Layout.{cellWords, tableLength}
-use Rattle.boundary.specs.Faces.{boundaryCells, faceSize, facesOutcome}
+use Rattle.records.specs.Layout.{faceSize, facesWords, tableLength}
+use Rattle.boundary.specs.Faces.{boundaryCells, facesOutcome}
 use Rattle.boundary.proofs.Outcomes.{refused-at-2, refused-at-3}
 use Rattle.winged.specs.Host.{hosted, hostAnswer, inWords, hostFacesInput, hostFacesOutcome, hostFaces, hostFacesBuffer}
 use Rattle.winged.specs.Sent.{facesIn, facesAnswer, facesAfter}
@@ -23,7 +22,7 @@ use Rattle.winged.proofs.Hosting.{hosted-right, hosted-wrong}
 
 -- the words of the faces
 abbrev pub wordsFor : ℕ → ℕ → ℕ → List ℕ → List ℕ → List ℕ
-wordsFor d v s ws out = concat (map cellWords (boundaryCells (facesIn d v s ws out)))
+wordsFor d v s ws out = facesWords (boundaryCells (facesIn d v s ws out))
 
 module _ (d v s : ℕ) (ws out : List ℕ) where
   told : (o : Outcome ℕ) → facesOutcome (facesIn d v s ws out) ≡ o →

@@ -25,7 +25,7 @@ use Rattle.rules.specs.Shapes.{shapeOk}
 use Rattle.rules.specs.Calls.{Outcome, accepted, refused, after}
 use Rattle.rules.proofs.Tests.{and-parts}
 use Rattle.complex.specs.Accept.{solidRules}
-use Rattle.complex.specs.Layout.{listSize, recordSize, tableLength}
+use Rattle.records.specs.Layout.{listSize, recordSize, tableLength}
 use Rattle.complex.specs.Table.{tableOfList}
 use Rattle.wing.specs.Wing.{WingInput, wingInput, wingOutcome, wingBuffer, wingRules}
 use Rattle.rules.proofs.InLimits.{limits-of, sweep-limits-are}

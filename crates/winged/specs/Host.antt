@@ -4,22 +4,21 @@
 --   hostWingBuffer, hostSweepBuffer, hostFacesBuffer    the lent bytes after the call
 -- An input of an odd number of bytes is row 3; of an output only whole words count.
 use mathlib.Core.Bool.{Bool, not, cond, _&&_}
-use mathlib.Core.List.{List, [], _∷_, map}
+use mathlib.Core.List.{List}
 use Prim.Native.Nat.{ℕ, _*_, _/_, _%_}
 use lib.Dec.{eqb}
 use lib.IntN.{ℤ, pos, negℤ}
 use lib.ListN.{length}
-use Rattle.words.specs.Records.{concat}
 use Rattle.words.specs.Bytes.{words16, bytesOf}
 use Rattle.rules.specs.Limits.{maxDimension, maxSource, stepsOk}
 use Rattle.rules.specs.Shapes.{shapeOk}
 use Rattle.rules.specs.Calls.{Outcome, accepted, refused, after}
 use Rattle.complex.specs.Accept.{Listed}
-use Rattle.complex.specs.Layout.{cellWords}
+use Rattle.records.specs.Layout.{faceSize, facesWords}
 use Rattle.complex.specs.Table.{tableOfList}
 use Rattle.wing.specs.Wing.{WingInput, wingOutcome}
 use Rattle.sweep.specs.Sweep.{SweepInput, sweptWords, sweepOutcome}
-use Rattle.boundary.specs.Faces.{FacesInput, faceSize, boundaryCells, facesOutcome}
+use Rattle.boundary.specs.Faces.{FacesInput, boundaryCells, facesOutcome}
 
 -- the call's outcome, but row 3 where the numbers are within the limits and the bytes are odd
 abbrev pub hosted : Bool → List ℕ → Outcome ℕ → Outcome ℕ
@@ -76,4 +75,4 @@ module _ (d v s : ℕ) (table out : List ℕ) where
   hostFaces = hostAnswer (inWords hostFacesOutcome)
 
   unfoldable pub hostFacesBuffer : List ℕ
-  hostFacesBuffer = after hostFacesOutcome (bytesOf (concat (map cellWords (boundaryCells hostFacesInput)))) out
+  hostFacesBuffer = after hostFacesOutcome (bytesOf (facesWords (boundaryCells hostFacesInput))) out

@@ -4,6 +4,7 @@
 --   countOf o         the count of an accepted outcome; 0 of a refused one
 --   sent o t out      the lent bytes when the outcome's count of the words t has gone to their start
 --   wingRead, sweepRead    the outcomes in a room of so many words
+--   faceBytes, facesBytes   the bytes of a face's record, and of those of a list of faces
 --   facesAnswer, facesAfter    what faces answers and leaves in the lent bytes, told from the table's words
 use mathlib.Core.Bool.{cond, _&&_}
 use mathlib.Core.List.{List, _++_, map}
@@ -16,11 +17,12 @@ use Rattle.words.specs.Bytes.{words16, bytesOf}
 use Rattle.rules.specs.Limits.{maxDimension, maxSource, stepsOk}
 use Rattle.rules.specs.Shapes.{shapeOk}
 use Rattle.rules.specs.Calls.{Outcome, accepted, refused, after}
-use Rattle.complex.specs.Layout.{cellWords}
+use Rattle.simplex.specs.Cell.{Cell}
+use Rattle.records.specs.Layout.{faceWords, facesWords}
 use Rattle.wing.specs.Wing.{wingInput, wingOutcome}
 use Rattle.sweep.specs.Sweep.{sweepOutcome, sweepInput}
 use Rattle.boundary.specs.Faces.{FacesInput, boundaryCells, facesOutcome}
-use Rattle.boundary.specs.Written.{facesInput}
+use Rattle.boundary.specs.Walk.{facesInput}
 use Rattle.winged.specs.Host.{hosted, hostAnswer, wordsIn, inWords}
 
 abbrev pub lesser : ℕ → ℕ → ℕ
@@ -43,6 +45,12 @@ wingRead d v s cells room = hosted (shapeOk maxDimension d v s) cells (wingOutco
 unfoldable pub sweepRead : ℕ → ℕ → ℕ → ℕ → List ℕ → ℕ → Outcome ℕ
 sweepRead d v s h table room = hosted (shapeOk maxSource d v s && stepsOk h) table (sweepOutcome (sweepInput d v s h (words16 table) room))
 
+abbrev pub faceBytes : Cell → List ℕ
+faceBytes f = bytesOf (faceWords f)
+
+abbrev pub facesBytes : List Cell → List ℕ
+facesBytes fs = concat (map faceBytes fs)
+
 module _ (d v s : ℕ) (ws out : List ℕ) where
   abbrev pub facesIn : FacesInput
   facesIn = facesInput d v s ws (wordsIn out)
@@ -51,4 +59,4 @@ module _ (d v s : ℕ) (ws out : List ℕ) where
   facesAnswer = hostAnswer (inWords d v s ws out (facesOutcome facesIn))
 
   unfoldable pub facesAfter : List ℕ
-  facesAfter = after (facesOutcome facesIn) (bytesOf (concat (map cellWords (boundaryCells facesIn)))) out
+  facesAfter = after (facesOutcome facesIn) (bytesOf (facesWords (boundaryCells facesIn))) out

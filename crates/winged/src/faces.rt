@@ -1,52 +1,61 @@
-// The call faces from bytes to bytes: a cell's records at a time, since all of them are too many for a local array.
+// The call faces from bytes to bytes: a record at a time, since all of them are too many for a local array.
 ghost use mathlib.Core.Path.{_≡_};
 ghost use mathlib.Core.Bool.{true};
 ghost use Prim.Native.Nat.{_+_, _≤_};
 ghost use lib.ListN.{length};
-ghost use Rattle.words.specs.Bytes.{bytesOf};
 ghost use Rattle.rules.specs.Limits.{maxDimension};
 ghost use Rattle.rules.specs.Shapes.{shapeOk};
-ghost use Rattle.complex.specs.Layout.{recordSize, tableLength, entryOf};
-ghost use Rattle.words.specs.Placed.{placed};
-ghost use Rattle.boundary.specs.Written.{cellWordsOf, allWords};
+ghost use Rattle.words.specs.Placed.{placed, Put};
+ghost use Rattle.records.specs.Layout.{tableLength};
+ghost use Rattle.records.specs.Inside.{Table, Inside};
+ghost use Rattle.boundary.specs.Walk.{faceAt, tableFaces};
 ghost use Rattle.winged.specs.Host.{hostFaces, hostFacesBuffer};
-ghost use Rattle.winged.specs.Sent.{tableRoom, facesAnswer, facesAfter};
+ghost use Rattle.winged.specs.Sent.{tableRoom, faceBytes, facesBytes, facesAnswer, facesAfter};
 use crate::sending::minus;
 use adjacency::sound::is_sound;
+use boundary::face::face_word;
+use boundary::walk::next_face;
 use boundary::writing::count_faces;
-use boundary::writing::write_cell;
+use records::sizes::face_size;
 use rules::limits::Shape;
 use words::copy::decode;
-use words::copy::encode;
 
-// The boundary faces of one cell as bytes from `at` on; the place behind them.
-fn cell_bytes(d: usize, entry: &[u16], at: usize, out: &mut [u8]) -> usize
-    requires of { ⌜ (d ≤ 7) × (length (now entry) ≡ recordSize d) ⌝ }
-    requires room { ⌜ at + length (bytesOf (cellWordsOf d (entryOf d (now entry)))) ≤ length (now out) ⌝ }
-    ensures place { λ r. ⌜ r ≡ at + length (bytesOf (cellWordsOf d (entryOf d (now (entry .entry))))) ⌝ }
-    ensures bytes { λ r. ⌜ now (out .exit) ≡ placed at (bytesOf (cellWordsOf d (entryOf d (now (entry .entry))))) (now (out .entry)) ⌝ }
+// The record of face a of cell p as bytes from `at` on; the place behind them.
+fn face_bytes(
+    d: usize,
+    s: usize,
+    table: &[u16],
+    p: usize,
+    a: usize,
+    at: usize,
+    out: &mut [u8],
+) -> usize
+    requires { ⌜ Inside d s p (now table) × (a ≤ d) × (at + length (faceBytes (faceAt d (now table) p a)) ≤ length (now out)) ⌝ }
+    ensures { λ r. ⌜ Put at (faceBytes (faceAt d (now (table .entry)) p a)) (now (out .entry)) r (now (out .exit)) ⌝ }
 {
-    let mut row = [0u16; 64];
-    let n = write_cell(d, entry, 0, &mut row);
-    let to = at + n * 2;
-    encode(&row[..n], &mut out[at..to]);
-    to
+    let size = face_size(d);
+    let mut next = at;
+    let mut j: usize = 0;
+    while j < size {
+        let w = face_word(d, s, table, p, a, j);
+        out[next] = (w % 256) as u8;
+        out[next + 1] = (w / 256 % 256) as u8;
+        next += 2;
+        j += 1;
+    }
+    next
 }
 
-// The boundary faces of all cells, from the start of the bytes.
+// All records, from the start of the bytes.
 fn write_bytes(d: usize, s: usize, table: &[u16], out: &mut [u8])
-    requires of { ⌜ (d ≤ 7) × (s ≤ 4096) × (length (now table) ≡ tableLength d s) ⌝ }
-    requires room { ⌜ length (bytesOf (allWords d s (now table))) ≤ length (now out) ⌝ }
-    ensures { λ _. ⌜ now (out .exit) ≡ placed 0 (bytesOf (allWords d s (now (table .entry)))) (now (out .entry)) ⌝ }
+    requires { ⌜ Table d s (now table) × (length (facesBytes (tableFaces d s (now table))) ≤ length (now out)) ⌝ }
+    ensures { λ _. ⌜ now (out .exit) ≡ placed 0 (facesBytes (tableFaces d s (now (table .entry)))) (now (out .entry)) ⌝ }
 {
-    let size = d + d + 3;
     let mut next: usize = 0;
-    let mut p: usize = 0;
-    while p < s {
-        let from = p * size;
-        let to = from + size;
-        next = cell_bytes(d, &table[from..to], next, out);
-        p += 1;
+    let mut at = next_face(d, s, table, 0, 0);
+    while at.cell < s {
+        next = face_bytes(d, s, table, at.cell, at.position, next, out);
+        at = next_face(d, s, table, at.cell, at.position + 1);
     }
 }
 

@@ -16,6 +16,7 @@ use hosting::moving::move_bytes;
 use hosting::reading::read_bytes;
 use hosting::step_bits::StepBits;
 use marking::key::key_text;
+use records::sizes::TABLE_ROOM;
 
 mod faces;
 mod host;
@@ -27,7 +28,7 @@ pub extern "C" fn winged_wing(d: u32, v: u32, s: u32, cells: &[u8], table: &mut 
     ensures answer { λ r. ⌜ r ≡ hostWing d v s (now (cells .entry)) (now (table .entry)) ⌝ }
     ensures buffer { λ _. ⌜ now (table .exit) ≡ hostWingBuffer d v s (now (cells .entry)) (now (table .entry)) ⌝ }
 {
-    let mut words = [0u16; 69632];
+    let mut words = [0u16; TABLE_ROOM];
     wing_bytes(d as usize, v as usize, s as usize, cells, &mut words, table)
 }
 
@@ -43,7 +44,7 @@ pub extern "C" fn winged_sweep(
     ensures answer { λ r. ⌜ r ≡ hostSweep d v s h (now (table .entry)) (now (swept .entry)) ⌝ }
     ensures buffer { λ _. ⌜ now (swept .exit) ≡ hostSweepBuffer d v s h (now (table .entry)) (now (swept .entry)) ⌝ }
 {
-    let mut words = [0u16; 69632];
+    let mut words = [0u16; TABLE_ROOM];
     sweep_bytes(
         d as usize,
         v as usize,
@@ -60,7 +61,7 @@ pub extern "C" fn winged_faces(d: u32, v: u32, s: u32, table: &[u8], faces: &mut
     ensures answer { λ r. ⌜ r ≡ hostFaces d v s (now (table .entry)) (now (faces .entry)) ⌝ }
     ensures buffer { λ _. ⌜ now (faces .exit) ≡ hostFacesBuffer d v s (now (table .entry)) (now (faces .entry)) ⌝ }
 {
-    let mut words = [0u16; 69632];
+    let mut words = [0u16; TABLE_ROOM];
     faces_bytes(d as usize, v as usize, s as usize, table, &mut words, faces)
 }
 

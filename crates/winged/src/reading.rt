@@ -8,6 +8,8 @@ ghost use Rattle.complex.specs.Table.{tableOfList};
 ghost use Rattle.sweep.specs.Sweep.{sweptWords, sweepInput};
 ghost use Rattle.winged.specs.Host.{hostList};
 ghost use Rattle.winged.specs.Sent.{wingRead, sweepRead};
+use records::sizes::LIST_ROOM;
+use records::sizes::SOLID_ROOM;
 use rules::limits::Shape;
 use rules::refusal::Answer;
 use rules::refusal::Refusal;
@@ -27,7 +29,7 @@ pub fn wing_words(d: usize, v: usize, s: usize, cells: &[u8], out: &mut [u16]) -
     if cells.len() != n * 2 {
         return Answer::Refused(Refusal::WrongLength);
     }
-    let mut list = [0u16; 36864];
+    let mut list = [0u16; LIST_ROOM];
     decode(cells, &mut list);
     wing(d, v, s, &list[..n], out)
 }
@@ -44,10 +46,10 @@ pub fn sweep_words(d: usize, v: usize, s: usize, h: usize, table: &[u8], out: &m
         return Answer::Refused(Refusal::WrongLength);
     }
     // A table of more words gives over 4,096 cells.
-    if 12288 < n {
+    if SOLID_ROOM < n {
         return Answer::Refused(Refusal::SweptTooLarge);
     }
-    let mut solid = [0u16; 12288];
+    let mut solid = [0u16; SOLID_ROOM];
     decode(table, &mut solid);
     sweep(d, v, s, h, &solid[..n], out)
 }

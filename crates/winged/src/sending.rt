@@ -6,6 +6,7 @@ ghost use lib.ListN.{length};
 ghost use Rattle.rules.specs.Numbers.{outcomeOf};
 ghost use Rattle.winged.specs.Host.{hostAnswer};
 ghost use Rattle.winged.specs.Sent.{lesser, tableRoom, countOf, sent};
+use records::sizes::TABLE_ROOM;
 use rules::refusal::Answer;
 use rules::refusal::number;
 use words::copy::encode;
@@ -15,10 +16,10 @@ pub fn room(bytes: usize) -> usize
     ensures { λ r. ⌜ r ≡ lesser (bytes / 2) tableRoom ⌝ }
 {
     let n = bytes / 2;
-    if n <= 69632 {
+    if n <= TABLE_ROOM {
         return n;
     }
-    69632
+    TABLE_ROOM
 }
 
 pub fn minus(k: u8) -> i64

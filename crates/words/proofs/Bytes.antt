@@ -8,15 +8,12 @@
 --   copy-step, bytes-step          one turn of the loops that store numbers, and their bytes
 -- Assumes nothing.
 use mathlib.Core.Path.{_≡_, refl, sym, ap, ap₂, _∙_}
-use mathlib.Core.List.{List, [], _∷_, _++_}
-use Prim.Native.Nat.{ℕ, zero, suc, _+_, _-_, _*_, _/_, _%_, _≤_, _<_}
+use mathlib.Core.List.{List, [], _∷_}
+use Prim.Native.Nat.{ℕ, zero, suc, _+_, _-_, _*_, _/_, _≤_, _<_}
 use native.Mathlib.Nat.{not-suc-le-zero, add-zero, zero-add}
-use native.Mathlib.Numerals.{add-one}
 use native.Mathlib.Omega.{arith}
-use lib.ListN.{length, drop, getD, set}
-use lib.Seq.{sets}
+use lib.ListN.{length, getD}
 use Rattle.words.specs.Bytes.{number, word16, word64, words16, bytesOf, wordsFrom}
-use Rattle.words.proofs.Loops.{drop-next, sets-front}
 
 pub halves : (b : List ℕ) (at : ℕ) → word64 b at ≡ number 4 b at + number 4 b (at + 4) * 4294967296
 halves b at =
@@ -56,25 +53,3 @@ words-all b = words-of (length b / 2) b b 0 (omega arith) (omega arith) (λ i h.
 
 pub words-count : (b : List ℕ) → length (words16 b) ≡ length b / 2
 words-count b = ap length (words-all b) ∙ words-length b 0 (length b / 2)
-
-module _ (b out w : List ℕ) where
-  pub decoded : length b / 2 ≤ length out → w ≡ sets out 0 (wordsFrom b 0 (length b / 2)) → w ≡ words16 b ++ drop (length b / 2) out
-  decoded h e =
-      e ∙ ap (sets out 0) (sym (words-all b)) ∙ sets-front out (words16 b) (omega (arith, words-count b)) ∙ ap (λ k. words16 b ++ drop k out) (words-count b)
-
-  pub encoded : length b * 2 ≤ length out → w ≡ sets out 0 (bytesOf b) → w ≡ bytesOf b ++ drop (length b * 2) out
-  encoded h e = e ∙ sets-front out (bytesOf b) (omega (arith, bytes-length b)) ∙ ap (λ k. bytesOf b ++ drop k out) (bytes-length b)
-
-pub copy-step : (b : List ℕ) (at m : ℕ) (out : List ℕ) (to : ℕ) → 0 < m →
-    sets out to (wordsFrom b at m) ≡ sets (set out to (word16 b at)) (to + 1) (wordsFrom b (at + 2) (m - 1))
-copy-step b at m out to h = rw (words-next b at m h, add-one to) refl
-
-pub bytes-step : (ws out : List ℕ) (p : ℕ) → p < length ws →
-    sets out (p * 2) (bytesOf (drop p ws))
-    ≡ sets (set (set out (p * 2) (getD ws p 0 % 256)) (p * 2 + 1) (getD ws p 0 / 256 % 256)) ((p + 1) * 2) (bytesOf (drop (p + 1) ws))
-bytes-step ws out p h =
-    let second : suc (p * 2) ≡ p * 2 + 1 = omega arith in
-    let next : suc (p * 2 + 1) ≡ (p + 1) * 2 = omega arith in
-    ap (λ r. sets out (p * 2) (bytesOf r)) (drop-next 0 ws p h)
-    ∙ ap (λ k. sets (set (set out (p * 2) (getD ws p 0 % 256)) k (getD ws p 0 / 256 % 256)) (suc k) (bytesOf (drop (p + 1) ws))) second
-    ∙ ap (λ k. sets (set (set out (p * 2) (getD ws p 0 % 256)) (p * 2 + 1) (getD ws p 0 / 256 % 256)) k (bytesOf (drop (p + 1) ws))) next

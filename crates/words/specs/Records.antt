@@ -3,6 +3,7 @@
 --   part size p xs    record p of a list of records of that size
 --   concat xss        the lists one after the other
 --   anyOf, allOf      whether a test passes at some, at each element
+--   anyBelow n p      whether it passes at some number below n
 use mathlib.Core.Bool.{Bool, true, false, _&&_, _||_}
 use mathlib.Core.List.{List, [], _∷_, _++_}
 use Prim.Native.Nat.{ℕ, zero, suc, _*_}
@@ -27,3 +28,7 @@ module _ {ℓ} {A : Type ℓ} where
   abbrev pub allOf : (A → Bool) → List A → Bool
   allOf q [] = true
   allOf q (x ∷ xs) = q x && allOf q xs
+
+abbrev pub anyBelow : ℕ → (ℕ → Bool) → Bool
+anyBelow zero p = false
+anyBelow (suc n) p = p n || anyBelow n p

@@ -4,13 +4,13 @@ ghost use mathlib.Core.Path.{_≡_};
 ghost use mathlib.Core.List.{_++_};
 ghost use Prim.Native.Nat.{_+_, _*_, _/_, _≤_};
 ghost use lib.ListN.{length, drop};
-ghost use lib.Seq.{sets};
+ghost use Rattle.words.specs.Placed.{placed};
 ghost use Rattle.words.specs.Bytes.{wordsFrom, words16, bytesOf};
 
 // Writes the m numbers from `at` of the bytes to the places from `to`.
 pub fn copy16(b: &[u8], at: usize, m: usize, out: &mut [u16], to: usize)
     requires { ⌜ (at + m * 2 ≤ length (now b)) × (to + m ≤ length (now out)) ⌝ }
-    ensures { λ _. ⌜ now (out .exit) ≡ sets (now (out .entry)) to (wordsFrom (now (b .entry)) at m) ⌝ }
+    ensures { λ _. ⌜ now (out .exit) ≡ placed to (wordsFrom (now (b .entry)) at m) (now (out .entry)) ⌝ }
 {
     let mut from = at;
     let mut k = to;

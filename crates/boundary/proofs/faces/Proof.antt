@@ -1,20 +1,19 @@
 -- The call faces: each return is the outcome of its row, and only an accepted call writes. Assumes nothing.
 use mathlib.Core.Path.{_≡_, sym, ap, ap₂, _∙_}
 use mathlib.Core.Bool.{true}
-use mathlib.Core.List.{List, _++_, map}
-use Prim.Native.Nat.{ℕ, _+_, _*_}
+use Prim.Native.Nat.{_+_, _*_}
 use native.Mathlib.Nat.{mul-le-mul}
 use native.Mathlib.Numerals.{add-one}
 use native.Mathlib.Omega.{arith}
 use borrow.Author.Needs.{needs}
 use borrow.Author.Tests.{not-true, not-false, eq-eqb, ne-eqb, lt-ltb, le-ltb}
-use lib.ListN.{length, drop}
-use Rattle.words.specs.Records.{concat}
+use lib.ListN.{length}
 use Rattle.rules.specs.Calls.{accepted}
-use Rattle.complex.specs.Layout.{tableLength, cellWords}
+use Rattle.records.specs.Layout.{tableLength, facesWords}
 use Rattle.boundary.specs.Faces.{FacesInput, boundaryCells, facesLength}
-use Rattle.boundary.specs.Written.{facesInput, tableFaces, allWords}
-use Rattle.boundary.proofs.Counting.{boundary-is, words-are, words-long}
+use Rattle.records.specs.Inside.{Table}
+use Rattle.boundary.specs.Walk.{facesInput, tableFaces}
+use Rattle.boundary.proofs.Sizes.{words-long}
 use Rattle.rules.specs.Limits.{maxDimension}
 use Rattle.rules.proofs.InLimits.{Limits, limits-are}
 use Rattle.boundary.proofs.Outcomes.{inLimits, rightLength, isSound, refused-at-2, refused-at-3, refused-at-14, refused-at-15, accepted-with, left-alone, left-written}
@@ -56,13 +55,13 @@ right c = let a = start (one c) .args in eq-eqb (length (a .table .now)) (tableL
 whole : (c : tie.Else3) → isSound (input (start-of c)) ≡ true
 whole c = sym (c .before .is-sound .ensures) ∙ not-false _ (c .if3 .left)
 
--- its boundary by cell and position, and the words that it takes
-cells : (c : tie.Else3) → boundaryCells (input (start-of c)) ≡ tableFaces (start-of c .args .d) (start-of c .args .s) (start-of c .args .table .now)
-unfolding boundaryCells
-cells c = let a = start-of c .args in boundary-is (a .d) (a .s) (a .table .now) (long (two c))
+table : (c : tie.Else2) → Table (start (one c) .args .d) (start (one c) .args .s) (start (one c) .args .table .now)
+table c = let l = limits (one c) in record { dimension = l .dimension; cells = l .cells; long = long c }
 
+-- the words that its boundary takes
 needed : (c : tie.After-count-faces) → c .count-faces .result * (start-of (c .before) .args .d + 1) ≡ facesLength (input (start-of (c .before)))
-needed c = ap₂ _*_ (c .count-faces .ensures .0 ∙ sym (ap length (cells (c .before)))) (add-one (start-of (c .before) .args .d))
+unfolding boundaryCells
+needed c = ap₂ _*_ (c .count-faces .ensures .0) (add-one (start-of (c .before) .args .d))
 
 within-requires : tie.Need-within-requires
 within-requires c κs = search needs
@@ -95,7 +94,7 @@ returns-3 c =
     (sym o, left-alone i 14 (start (one two) .args .out .now) o)
 
 count-faces-requires : tie.Need-count-faces-requires
-count-faces-requires c κs = let l = limits (one (two c)) in (l .dimension, l .cells, long (two c))
+count-faces-requires c κs = table (two c)
 
 add-if4 : tie.Need-add-if4
 add-if4 c = omega (arith, limits (one (two (c .before))) .dimension)
@@ -117,29 +116,27 @@ returns-4 c =
 write-faces-requires : tie.Need-write-faces-requires
 write-faces-requires c κs =
     let three = c .before .before .before in
-    let l = limits (one (two three)) in
-    let a = start-of three .args in (
-      (l .dimension, l .cells, long (two three)),
-      omega (arith, c .before .if4 .left, ap (λ n. n * (a .d + 1)) (c .before .before .count-faces .ensures .0), words-long (a .d) (a .s) (a .table .now) (long (two three))),
-    )
+    let a = start-of three .args in
+    let long = words-long (a .d) (a .s) (a .table .now) (table (two three)) in
+    let count = ap (λ n. n * (a .d + 1)) (c .before .before .count-faces .ensures .0) in
+    (table (two three), rw (long, ← add-one (a .d)) (omega arith))
 
 same-length : tie.Need-same-length
 same-length c = search needs
 
 returns-5 : tie.Need-returns-5
+unfolding boundaryCells
 returns-5 c =
     let four = c .before .before .before .before in
     let three = four .before .before in
     let a = start-of three .args in
     let i = input (start-of three) in
-    let call = c .before .before .write-faces in
     let o =
     accepted-with i (inside (one (two three))) (right (two three)) (whole three)
-    (le-ltb (i .room) (facesLength i) (omega (arith, four .if4 .left, needed (four .before)))) in
-    let words = ap (λ cs. concat (map cellWords cs)) (cells three) ∙ words-are (a .d) (a .s) (a .table .now) in (
-      ap accepted (four .before .count-faces .ensures .0 ∙ sym (ap length (cells three))) ∙ sym o,
-      call .ensures .1 ∙ placed-first (allWords (a .d) (a .s) (a .table .now)) (a .out .now)
-          ∙ ap (λ (l : List ℕ). l ++ drop (length l) (a .out .now)) (sym words) ∙ left-written i (length (boundaryCells i)) (a .out .now) o,
+    (le-ltb (i .room) (facesLength i) (omega (arith, four .if4 .left, needed (four .before)))) in (
+      ap accepted (four .before .count-faces .ensures .0) ∙ sym o,
+      c .before .before .write-faces .ensures .content ∙ placed-first (facesWords (tableFaces (a .d) (a .s) (a .table .now))) (a .out .now)
+          ∙ left-written i (length (boundaryCells i)) (a .out .now) o,
     )
 
 pub faces-spec : {M : Type 1} → statement M

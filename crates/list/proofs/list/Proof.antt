@@ -7,7 +7,8 @@ use borrow.Author.Tests.{not-true, not-false, lt-ltb, le-ltb}
 use borrow.Author.Needs.{needs}
 use Rattle.rules.specs.Calls.{accepted}
 use Rattle.list.specs.Listing.{ListInput, listInput, listText}
-use Rattle.listing.specs.Parts.{Points, Table}
+use Rattle.records.specs.Inside.{Table}
+use Rattle.listing.specs.Parts.{Points}
 use Rattle.list.proofs.ListCases.{list-limits, NumbersAre, LengthsAre, FloatsAre, SoundIs, refused-2, refused-3, refused-4, refused-14, refused-15, accepted-text, kept, written-text, told}
 use Rattle.list.proofs.list.Statement.{statement}
 use Rattle.list.proofs.list.Tie as tie

@@ -61,8 +61,16 @@ same-key-requires c κs =
     let s = c .before .before .before .before .before .before .before in (
       s .pre .0 .0 .long,
       s .pre .0 .0 .vertices,
-      omega (arith, c .before .before .place-of2 .ensures .0, div-lt-iff-lt-mul {y = 4096} (s .pre .0 .0 .some) .1 (lt-trans (lower (c .before .before .before)) (s .pre .0 .2))),
-      omega (arith, c .before .before .before .before .before .before .place-of .ensures .0, div-lt-iff-lt-mul {y = 4096} (s .pre .0 .0 .some) .1 (s .pre .0 .2)),
+      omega (
+        arith,
+        c .before .before .place-of2 .ensures .0,
+        div-lt-iff-lt-mul {y = 4096} (s .pre .0 .0 .some) .1 (lt-trans (lower (c .before .before .before)) (s .pre .0 .2)),
+      ),
+      omega (
+        arith,
+        c .before .before .before .before .before .before .place-of .ensures .0,
+        div-lt-iff-lt-mul {y = 4096} (s .pre .0 .0 .some) .1 (s .pre .0 .2),
+      ),
     )
 
 -- the keys as the comparison sees them
@@ -71,7 +79,8 @@ keys c =
     let a = c .before .before .before .before .before .before .before .before .args in keyRow (a .rows .now) (a .k) (a .w) (a .first)
 
 -- the comparison is that of the two keys
-compares : (c : tie.After-same-key Inv-loop μ-loop) → c .same-key .result ≡ sameRow (keys c (c .before .before .before .before .before .loop .f)) (keys c (c .before .before .before .before .before .before .before .before .args .g))
+compares : (c : tie.After-same-key Inv-loop μ-loop) → c .same-key .result ≡ sameRow (keys c (c .before .before .before .before .before .loop .f))
+    (keys c (c .before .before .before .before .before .before .before .before .args .g))
 compares c =
     let a = c .before .before .before .before .before .before .before .before .args in
     let x = c .before .before .before .place-of2 in
@@ -95,7 +104,8 @@ unfolding earlier
 returns c =
     let b = c .before in
     let l = b .before .before .before .before .before .loop in
-    sym (walk-found (keys b) (b .before .before .before .before .before .before .before .before .args .g) (l .f) (l .inv) (b .before .before .before .before .loop-test .taken) (sym (compares b) ∙ c .if1 .taken))
+    sym (walk-found (keys b) (b .before .before .before .before .before .before .before .before .args .g) (l .f)
+    (l .inv) (b .before .before .before .before .loop-test .taken) (sym (compares b) ∙ c .if1 .taken))
 
 mul-f-2 : tie.Need-mul-f-2 Inv-loop μ-loop
 mul-f-2 c = omega (arith, lower (c .before .before .before .before .before))

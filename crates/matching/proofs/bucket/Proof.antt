@@ -25,13 +25,15 @@ sub-result : tie.Need-sub-result
 sub-result c =
     let s = c .before .before .before in
     let a = s .args in
-    term-within (a .rows .now) (a .p) (a .k) (a .a) (a .sum) (s .pre .0 .0) (s .pre .1) (c .term .result) (c .before .before .if1 .taken) (c .term .ensures .0)
+    term-within (a .rows .now) (a .p) (a .k) (a .a) (a .sum) (s .pre .0 .0) (s .pre .1)
+    (c .term .result) (c .before .before .if1 .taken) (c .term .ensures .0)
 
 returns : tie.Need-returns
 returns c =
     let s = c .before .before .before in
     let a = s .args in (
-      bucket-less (a .rows .now) (a .p) (a .k) (a .a) (a .sum) (s .pre .0 .0) (s .pre .1) (c .term .result) (c .before .before .if1 .taken) (c .term .ensures .0),
+      bucket-less (a .rows .now) (a .p) (a .k) (a .a) (a .sum) (s .pre .0 .0) (s .pre .1)
+          (c .term .result) (c .before .before .if1 .taken) (c .term .ensures .0),
       lt-trans (mod-lt _ (lit< tt)) (lit< tt),
     )
 

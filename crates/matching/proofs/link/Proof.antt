@@ -45,8 +45,10 @@ returns : tie.Need-returns Inv-loop μ-loop
 returns c =
     let a = c .before .before .args in
     let l = c .before .loop in
-    let e : l .p ≡ a .s = omega arith in
-    (subst (λ (p : ℕ). Linked (keyRow (a .rows .now) (a .k) (a .w) (a .first)) (l .prev) (p * a .w)) e (l .inv .1 .links), (l .inv .1 .prevLong, l .inv .2))
+    let e : l .p ≡ a .s = omega arith in (
+      subst (λ (p : ℕ). Linked (keyRow (a .rows .now) (a .k) (a .w) (a .first)) (l .prev) (p * a .w)) e (l .inv .1 .links),
+      (l .inv .1 .prevLong, l .inv .2),
+    )
 
 pub link-spec : {M : Type 1} → statement M
 link-spec =

@@ -12,7 +12,8 @@ use Rattle.matching.proofs.link_cell.Statement.{statement}
 use Rattle.matching.proofs.link_cell.Tie as tie
 
 abbrev Inv-loop : tie.InvT-loop
-Inv-loop k w first p rows head₀ prev₀ sum i₀ head prev i = (i ≤ w) × Linking (keyRow rows k w first) head prev (p * w + i) × Behind (p * w + w) prev prev₀
+Inv-loop k w first p rows head₀ prev₀ sum i₀ head prev i =
+    (i ≤ w) × Linking (keyRow rows k w first) head prev (p * w + i) × Behind (p * w + w) prev prev₀
 
 abbrev μ-loop : tie.MeasureT-loop
 μ-loop k w first p rows head₀ prev₀ sum i₀ head prev i = w - i
@@ -75,7 +76,8 @@ loop-again c =
     let l = c .before .before .before .loop in
     let b = c .before .bucket in (
       omega arith,
-      subst (λ (m : ℕ). Linking (keyRow (a .rows .now) (a .k) (a .w) (a .first)) (set (l .head) (b .result) (a .p * a .w + l .i)) (set (l .prev) (a .p * a .w + l .i) (getD (l .head) (b .result) 0)) m)
+      subst (λ (m : ℕ). Linking (keyRow (a .rows .now) (a .k) (a .w) (a .first))
+          (set (l .head) (b .result) (a .p * a .w + l .i)) (set (l .prev) (a .p * a .w + l .i) (getD (l .head) (b .result) 0)) m)
           (add-assoc (a .p * a .w) (l .i) 1)
           (linking-more (keyRow (a .rows .now) (a .k) (a .w) (a .first)) (l .head) (l .prev) (a .p * a .w + l .i) (b .result)
           (in-table (c .before .before))

@@ -9,7 +9,7 @@ use borrow.Author.Needs.{needs}
 use borrow.Author.Tests.{not-true, not-false, eq-eqb, ne-eqb, lt-ltb, le-ltb}
 use lib.ListN.{length, drop}
 use Rattle.rules.specs.Calls.{accepted}
-use Rattle.complex.specs.Layout.{tableLength}
+use Rattle.records.specs.Layout.{tableLength}
 use Rattle.sweep.specs.Sweep.{SweepInput, sweptLength, sweepInput}
 use Rattle.sweeping.specs.Written.{allWords, Ready}
 use Rattle.rules.proofs.InLimits.{SweepLimits, sweep-limits-are}

@@ -92,9 +92,11 @@ returns-2 c =
     let a = s .args in
     let empty : 0 ≡ faceCount (a .d) (a .s) = sym (ap (λ (d : ℕ). faceCount d (a .s)) (c .before .before .before .if1 .taken)) in
     let once = sym (c .before .any-repeated .ensures (a .signs .now)) ∙ c .if2 .left in (
-      found-none (a .d) (a .s) (a .rows .now) (a .signs .now) (s .pre .0 .0) (s .pre .0 .1) (s .pre .0 .2) [] 0 empty (λ g l. absurd (not-suc-le-zero l)) refl once refl,
+      found-none (a .d) (a .s) (a .rows .now) (a .signs .now) (s .pre .0 .0) (s .pre .0 .1)
+          (s .pre .0 .2) [] 0 empty (λ g l. absurd (not-suc-le-zero l)) refl once refl,
       λ z.
-          found-wings (a .d) (a .s) (a .rows .now) (a .signs .now) (s .pre .0 .0) (s .pre .0 .1) (s .pre .0 .2) [] 0 empty (λ g l. absurd (not-suc-le-zero l)) refl
+          found-wings (a .d) (a .s) (a .rows .now) (a .signs .now) (s .pre .0 .0)
+          (s .pre .0 .1) (s .pre .0 .2) [] 0 empty (λ g l. absurd (not-suc-le-zero l)) refl
           (a .wings .now) (a .wings .now) (s .pre .1) (s .pre .0 .3) refl,
     )
 
@@ -102,8 +104,11 @@ add-k : tie.Need-add-k
 add-k c = omega arith
 
 earlier-equal-requires : tie.Need-earlier-equal-requires
-earlier-equal-requires c κs =
-    (record { long = c .before .before .pre .0 .2; vertices = omega arith; some = omega arith; most = omega arith; start = omega arith }, omega arith, length-replicate {A = ℕ} 32768 65535)
+earlier-equal-requires c κs = (
+  record { long = c .before .before .pre .0 .2; vertices = omega arith; some = omega arith; most = omega arith; start = omega arith },
+  omega arith,
+  length-replicate {A = ℕ} 32768 65535,
+)
 
 mul-pair : tie.Need-mul-pair
 mul-pair c =

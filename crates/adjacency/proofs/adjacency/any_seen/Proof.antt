@@ -6,7 +6,7 @@ use native.Mathlib.Omega.{arith}
 use borrow.Author.Count.{below-none, below-more}
 use borrow.Author.Needs.{needs}
 use Rattle.adjacency.specs.Scan.{seenAt}
-use Rattle.adjacency.proofs.Below.{any-below, none-below}
+use Rattle.words.proofs.Below.{any-below, none-below}
 use Rattle.adjacency.proofs.adjacency.any_seen.Statement.{statement}
 use Rattle.adjacency.proofs.adjacency.any_seen.Tie as tie
 

@@ -33,10 +33,13 @@ either-requires-3 c κs = search needs
 returns : tie.Need-returns
 returns c =
     let o = c .before .before .before .before .before .before .before .before .args .found in (
-      c .before .before .before .before .before .before .either .ensures ∙ ap (λ (t : Bool). t || o .crowded) (c .before .before .before .before .before .before .before .seen .ensures),
+      c .before .before .before .before .before .before .either .ensures
+          ∙ ap (λ (t : Bool). t || o .crowded) (c .before .before .before .before .before .before .before .seen .ensures),
       (
-        c .before .before .before .before .either2 .ensures ∙ ap (λ (t : Bool). t || o .repeated) (c .before .before .before .before .before .same-first .ensures),
-        c .either3 .ensures ∙ ap (λ (t : Bool). t || o .equal) (c .before .product .ensures ∙ ap₂ times (c .before .before .before .face-sign .ensures) (c .before .before .face-sign2 .ensures)),
+        c .before .before .before .before .either2 .ensures
+            ∙ ap (λ (t : Bool). t || o .repeated) (c .before .before .before .before .before .same-first .ensures),
+        c .either3 .ensures ∙ ap (λ (t : Bool). t || o .equal) (c .before .product .ensures
+            ∙ ap₂ times (c .before .before .before .face-sign .ensures) (c .before .before .face-sign2 .ensures)),
       ),
     )
 

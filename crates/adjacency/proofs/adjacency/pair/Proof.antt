@@ -26,8 +26,13 @@ add-part c = omega (arith, div-le-self 1048576 (c .args .k))
 
 loop-holds : tie.Need-loop-holds Inv-loop μ-loop
 loop-holds c =
-    let a = c .args in
-    (omega arith, refl, omega arith, omega arith, pairing-none (a .k) (a .n) (a .rows .now) (a .signs .now) (a .prev .now) 0 (a .wings .now) false false false)
+    let a = c .args in (
+      omega arith,
+      refl,
+      omega arith,
+      omega arith,
+      pairing-none (a .k) (a .n) (a .rows .now) (a .signs .now) (a .prev .now) 0 (a .wings .now) false false false,
+    )
 
 pair-at-requires : tie.Need-pair-at-requires Inv-loop μ-loop
 pair-at-requires c κs =
@@ -35,7 +40,13 @@ pair-at-requires c κs =
     let s = c .before .before .before in
     let a = s .args in (
       (s .pre .0, s .pre .1, l .inv .1, s .pre .2),
-      (l .inv .2, l .inv .3, c .before .loop-test .taken, pairing-long (a .k) (a .n) (a .rows .now) (a .signs .now) (a .prev .now) (l .g) (a .wings .now) (l .wings) (l .found .crowded) (l .found .repeated) (l .found .equal) (l .inv .4) ∙ s .pre .3),
+      (
+        l .inv .2,
+        l .inv .3,
+        c .before .loop-test .taken,
+        pairing-long (a .k) (a .n) (a .rows .now) (a .signs .now) (a .prev .now) (l .g) (a .wings .now)
+            (l .wings) (l .found .crowded) (l .found .repeated) (l .found .equal) (l .inv .4) ∙ s .pre .3,
+      ),
     )
 
 -- the cell of key g is one of 4096
@@ -66,7 +77,8 @@ loop-again c =
       l .inv .1,
       c .next .ensures .0,
       omega (arith, c .next .ensures .1, l .inv .3),
-      pairing-more (a .k) (a .n) (a .rows .now) (a .signs .now) (a .prev .now) (l .g) (a .wings .now) (l .found .crowded) (l .found .repeated) (l .found .equal) (l .wings) _ _ _ _ (l .inv .4) (c .before .pair-at .ensures),
+      pairing-more (a .k) (a .n) (a .rows .now) (a .signs .now) (a .prev .now) (l .g) (a .wings .now) (l .found .crowded)
+          (l .found .repeated) (l .found .equal) (l .wings) _ _ _ _ (l .inv .4) (c .before .pair-at .ensures),
     )
 
 returns : tie.Need-returns Inv-loop μ-loop
@@ -74,7 +86,8 @@ returns c =
     let l = c .before .loop in
     let a = c .before .before .args in
     let all : l .g ≡ a .n = omega arith in
-    subst (λ (m : ℕ). Pairing (a .k) (a .n) (a .rows .now) (a .signs .now) (a .prev .now) m (a .wings .now) (l .wings) (l .found .crowded) (l .found .repeated) (l .found .equal)) all (l .inv .4)
+    subst (λ (m : ℕ). Pairing (a .k) (a .n) (a .rows .now) (a .signs .now) (a .prev .now) m (a .wings .now)
+    (l .wings) (l .found .crowded) (l .found .repeated) (l .found .equal)) all (l .inv .4)
 
 pub pair-spec : {M : Type 1} → statement M
 pair-spec =

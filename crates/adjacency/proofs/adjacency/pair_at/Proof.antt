@@ -37,7 +37,11 @@ place-of-requires c κs =
 other : (c : tie.After-place-of) → c .place-of .result .cell < 4096
 other c =
     let s = c .before .before .before .before in
-    omega (arith, c .place-of .ensures .0, div-lt-iff-lt-mul {k = s .args .k} {x = c .before .before .wide .result} {y = 4096} (s .pre .0 .0) .1 (omega arith))
+    omega (
+      arith,
+      c .place-of .ensures .0,
+      div-lt-iff-lt-mul {k = s .args .k} {x = c .before .before .wide .result} {y = 4096} (s .pre .0 .0) .1 (omega arith),
+    )
 
 cast-wings : tie.Need-cast-wings
 cast-wings c = omega (arith, other c)
@@ -65,14 +69,17 @@ returns c =
     let s = c .before .before .before .before .before in
     let a = s .args in
     let x = c .before .place-of in
-    met-seen (a .k) (a .n) (a .rows .now) (a .signs .now) (a .prev .now) (a .g) (a .wings .now) (a .found .crowded) (a .found .repeated) (a .found .equal)
-    (c .before .before .before .wide .result) (c .before .before .before .wide .ensures) (a .p) (a .a) (x .result .cell) (x .result .at) (cell s) (place s) (x .ensures .0) (x .ensures .1) (c .before .before .if1 .taken)
+    met-seen (a .k) (a .n) (a .rows .now) (a .signs .now) (a .prev .now) (a .g)
+    (a .wings .now) (a .found .crowded) (a .found .repeated) (a .found .equal)
+    (c .before .before .before .wide .result) (c .before .before .before .wide .ensures) (a .p) (a .a) (x .result .cell)
+    (x .result .at) (cell s) (place s) (x .ensures .0) (x .ensures .1) (c .before .before .if1 .taken)
     _ _ _ _ refl (c .meet .ensures .0) (c .meet .ensures .1 .0) (c .meet .ensures .1 .1)
 
 returns-2 : tie.Need-returns-2
 returns-2 c =
     let a = c .before .before .before .args in
-    met-none (a .k) (a .n) (a .rows .now) (a .signs .now) (a .prev .now) (a .g) (a .wings .now) (a .found .crowded) (a .found .repeated) (a .found .equal)
+    met-none (a .k) (a .n) (a .rows .now) (a .signs .now) (a .prev .now) (a .g)
+    (a .wings .now) (a .found .crowded) (a .found .repeated) (a .found .equal)
     (c .before .wide .result) (c .before .wide .ensures) (c .if1 .left)
 
 pub pair-at-spec : {M : Type 1} → statement M

@@ -24,7 +24,10 @@ element-copy-out-result-2 : tie.Need-element-copy-out-result-2
 element-copy-out-result-2 c = omega arith
 
 returns : tie.Need-returns
-returns c = rw (eq-eqb (c .before .before .before .before .args .a) 0 (c .before .before .before .if1 .taken), eq-eqb (c .before .before .before .before .args .b) 0 (c .before .before .if2 .taken)) refl
+returns c = rw (
+  eq-eqb (c .before .before .before .before .args .a) 0 (c .before .before .before .if1 .taken),
+  eq-eqb (c .before .before .before .before .args .b) 0 (c .before .before .if2 .taken),
+) refl
 
 returns-2 : tie.Need-returns-2
 returns-2 c = rw (eq-eqb (c .before .before .args .a) 0 (c .before .if1 .taken), ne-eqb (c .before .before .args .b) 0 (c .if2 .left)) refl

@@ -4,9 +4,9 @@ use mathlib.Core.Path.{_≡_, sym, _∙_}
 use Prim.Native.Nat.{ℕ, _-_, _≤_, _<_}
 use native.Mathlib.Omega.{arith}
 use borrow.Author.Count.{below-none, below-more}
+use Rattle.words.specs.Records.{anyBelow}
 use Rattle.adjacency.specs.Held.{falls, fallsAt}
-use Rattle.adjacency.specs.Scan.{anyBelow}
-use Rattle.adjacency.proofs.Below.{any-below, below-not, none-below, some-below}
+use Rattle.words.proofs.Below.{any-below, below-not, none-below, some-below}
 use Rattle.adjacency.proofs.gather.any_falls.Statement.{statement}
 use Rattle.adjacency.proofs.gather.any_falls.Tie as tie
 
@@ -27,7 +27,8 @@ returns c =
     let a = c .before .before .before .before .args in
     let j = c .before .before .before .loop .j in
     let f = some-below (λ (p : ℕ). fallsAt (a .rows .now) p j) (a .s) (sym (c .before .column-falls .ensures) ∙ c .if1 .taken) in
-    sym (any-below (falls (a .d) (a .rows .now)) (a .s) (f .0) (f .1) (any-below (fallsAt (a .rows .now) (f .0)) (a .d) j (c .before .before .loop-test .taken) (f .2)))
+    sym (any-below (falls (a .d) (a .rows .now)) (a .s) (f .0) (f .1)
+    (any-below (fallsAt (a .rows .now) (f .0)) (a .d) j (c .before .before .loop-test .taken) (f .2)))
 
 add-j : tie.Need-add-j Inv-loop μ-loop
 add-j c = omega arith
@@ -42,7 +43,8 @@ returns-2 : tie.Need-returns-2 Inv-loop μ-loop
 returns-2 c =
     let a = c .before .before .args in
     sym (none-below (falls (a .d) (a .rows .now)) (a .s)
-    (λ p l. none-below (fallsAt (a .rows .now) p) (a .d) (λ j h. below-not (λ (q : ℕ). fallsAt (a .rows .now) q j) (a .s) (c .before .loop .inv .1 j (omega arith)) p l)))
+    (λ p l. none-below (fallsAt (a .rows .now) p) (a .d)
+    (λ j h. below-not (λ (q : ℕ). fallsAt (a .rows .now) q j) (a .s) (c .before .loop .inv .1 j (omega arith)) p l)))
 
 pub any-falls-spec : {M : Type 1} → statement M
 any-falls-spec =

@@ -8,7 +8,7 @@ use borrow.Author.Count.{below-none, below-more}
 use borrow.Author.Needs.{needs}
 use borrow.Author.Tests.{lt-ltb, le-ltb}
 use Rattle.adjacency.specs.Held.{badAt}
-use Rattle.adjacency.proofs.Below.{any-below, none-below}
+use Rattle.words.proofs.Below.{any-below, none-below}
 use Rattle.adjacency.proofs.gather.bad_sign.Statement.{statement}
 use Rattle.adjacency.proofs.gather.bad_sign.Tie as tie
 
@@ -23,23 +23,27 @@ loop-holds c = (search needs, below-none _)
 
 mul-if1 : tie.Need-mul-if1 Inv-loop μ-loop
 mul-if1 c =
-    let inside = mul-lt-mul-of-pos-right {m = c .before .loop .p} {n = c .before .before .args .s} {k = c .before .before .args .size} (c .loop-test .taken) (omega arith) in
+    let inside = mul-lt-mul-of-pos-right {m = c .before .loop .p} {n = c .before .before .args .s}
+    {k = c .before .before .args .size} (c .loop-test .taken) (omega arith) in
     omega arith
 
 mul-if1-2 : tie.Need-mul-if1-2 Inv-loop μ-loop
 mul-if1-2 c =
-    let inside = mul-lt-mul-of-pos-right {m = c .before .loop .p} {n = c .before .before .args .s} {k = c .before .before .args .size} (c .loop-test .taken) (omega arith) in
+    let inside = mul-lt-mul-of-pos-right {m = c .before .loop .p} {n = c .before .before .args .s}
+    {k = c .before .before .args .size} (c .loop-test .taken) (omega arith) in
     omega arith
 
 shared-slice-read-if1 : tie.Need-shared-slice-read-if1 Inv-loop μ-loop
 shared-slice-read-if1 c =
-    let inside = mul-lt-mul-of-pos-right {m = c .before .before .loop .p} {n = c .before .before .before .args .s} {k = c .before .before .before .args .size} (c .before .loop-test .taken) (omega arith) in
+    let inside = mul-lt-mul-of-pos-right {m = c .before .before .loop .p} {n = c .before .before .before .args .s}
+    {k = c .before .before .before .args .size} (c .before .loop-test .taken) (omega arith) in
     omega arith
 
 returns : tie.Need-returns Inv-loop μ-loop
 returns c =
     let a = c .before .before .before .before .args in
-    sym (any-below (badAt (a .size) (a .words .now)) (a .s) (c .before .before .before .loop .p) (c .before .before .loop-test .taken) (lt-ltb _ _ (c .if1 .taken)))
+    sym (any-below (badAt (a .size) (a .words .now)) (a .s) (c .before .before .before .loop .p)
+    (c .before .before .loop-test .taken) (lt-ltb _ _ (c .if1 .taken)))
 
 add-p : tie.Need-add-p Inv-loop μ-loop
 add-p c = search needs

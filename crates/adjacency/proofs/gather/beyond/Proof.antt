@@ -8,7 +8,7 @@ use borrow.Author.Count.{below-none, below-more}
 use borrow.Author.Needs.{needs}
 use borrow.Author.Tests.{le-leb, lt-leb}
 use Rattle.adjacency.specs.Held.{beyondAt}
-use Rattle.adjacency.proofs.Below.{any-below, none-below}
+use Rattle.words.proofs.Below.{any-below, none-below}
 use Rattle.adjacency.proofs.gather.beyond.Statement.{statement}
 use Rattle.adjacency.proofs.gather.beyond.Tie as tie
 
@@ -39,7 +39,8 @@ wide-requires c κs = search needs
 returns : tie.Need-returns Inv-loop μ-loop
 returns c =
     let a = c .before .before .before .before .before .args in
-    sym (any-below (beyondAt (a .d) (a .v) (a .rows .now)) (a .s) (c .before .before .before .before .loop .p) (c .before .before .before .loop-test .taken) (ap (leb (a .v)) (sym (c .before .wide .ensures)) ∙ le-leb _ _ (c .if1 .taken)))
+    sym (any-below (beyondAt (a .d) (a .v) (a .rows .now)) (a .s) (c .before .before .before .before .loop .p)
+    (c .before .before .before .loop-test .taken) (ap (leb (a .v)) (sym (c .before .wide .ensures)) ∙ le-leb _ _ (c .if1 .taken)))
 
 add-p : tie.Need-add-p Inv-loop μ-loop
 add-p c = search needs
@@ -49,8 +50,10 @@ loop-less c = search needs
 
 loop-again : tie.Need-loop-again Inv-loop μ-loop
 loop-again c =
-    let a = c .before .before .before .before .before .args in
-    (search needs, below-more _ _ (c .before .before .before .before .loop .inv .1) (ap (leb (a .v)) (sym (c .before .wide .ensures)) ∙ lt-leb _ _ (c .if1 .left)))
+    let a = c .before .before .before .before .before .args in (
+      search needs,
+      below-more _ _ (c .before .before .before .before .loop .inv .1) (ap (leb (a .v)) (sym (c .before .wide .ensures)) ∙ lt-leb _ _ (c .if1 .left)),
+    )
 
 returns-2 : tie.Need-returns-2 Inv-loop μ-loop
 returns-2 c =

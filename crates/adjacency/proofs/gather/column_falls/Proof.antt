@@ -6,7 +6,7 @@ use native.Mathlib.Omega.{arith}
 use borrow.Author.Count.{below-none, below-more}
 use borrow.Author.Tests.{le-leb, lt-leb}
 use Rattle.adjacency.specs.Held.{fallsAt}
-use Rattle.adjacency.proofs.Below.{any-below, none-below}
+use Rattle.words.proofs.Below.{any-below, none-below}
 use Rattle.adjacency.proofs.gather.column_falls.Statement.{statement}
 use Rattle.adjacency.proofs.gather.column_falls.Tie as tie
 
@@ -49,7 +49,8 @@ element-copy-out-if1-2 c = omega arith
 returns : tie.Need-returns Inv-loop μ-loop
 returns c =
     let a = c .before .before .before .before .before .args in
-    sym (any-below (λ (q : ℕ). fallsAt (a .rows .now) q (a .j)) (a .s) (c .before .before .before .before .loop .p) (c .before .before .before .loop-test .taken) (le-leb _ _ (c .if1 .taken)))
+    sym (any-below (λ (q : ℕ). fallsAt (a .rows .now) q (a .j)) (a .s) (c .before .before .before .before .loop .p)
+    (c .before .before .before .loop-test .taken) (le-leb _ _ (c .if1 .taken)))
 
 add-p : tie.Need-add-p Inv-loop μ-loop
 add-p c = omega arith

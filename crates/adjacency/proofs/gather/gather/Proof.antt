@@ -12,7 +12,8 @@ use Rattle.adjacency.proofs.gather.gather.Statement.{statement}
 use Rattle.adjacency.proofs.gather.gather.Tie as tie
 
 abbrev Inv-loop : tie.InvT-loop
-Inv-loop size d s words rows₀ signs₀ p₀ rows signs p = (p ≤ s) × (length rows ≡ 32768) × (length signs ≡ 4096) × ((q : ℕ) → q < p → cellHeld d rows signs q ≡ ascending (cellRead size d words q))
+Inv-loop size d s words rows₀ signs₀ p₀ rows signs p =
+    (p ≤ s) × (length rows ≡ 32768) × (length signs ≡ 4096) × ((q : ℕ) → q < p → cellHeld d rows signs q ≡ ascending (cellRead size d words q))
 
 abbrev μ-loop : tie.MeasureT-loop
 μ-loop size d s words rows₀ signs₀ p₀ rows signs p = s - p

@@ -47,7 +47,8 @@ returns c =
     let pre = c .before .before .before .before .before .before .before .before .before .pre in
     let read = c .before .before .before .before .before .before .before .read-row in
     let put = c .before .before .before .before .before .before .sort-row in
-    gathered (a .size) (a .d) (a .p) (a .words .now) (a .rows .now) (a .signs .now) (read .result) (put .result .row) _ _ (a .d + 1) (a .p * a .size + 1) (put .result .odd) (c .before .before .product .result)
+    gathered (a .size) (a .d) (a .p) (a .words .now) (a .rows .now) (a .signs .now) (read .result) (put .result .row)
+    _ _ (a .d + 1) (a .p * a .size + 1) (put .result .odd) (c .before .before .product .result)
     (omega arith) (omega arith) (omega arith) (pre .1 .0) (pre .1 .1) (add-one (a .d)) refl (omega arith) (read .ensures .1)
     (put .ensures .0) (put .ensures .1 .1) (c .before .before .product .ensures) (c .store-row .ensures) refl
 

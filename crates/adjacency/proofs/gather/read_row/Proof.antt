@@ -41,7 +41,8 @@ loop-again c =
     let l = c .before .before .loop in
     let a = c .before .before .before .args in (
       omega arith,
-      ⊎-elim (λ w. read-more (a .n) (a .at) (a .words .now) (l .j) (l .row) (c .if1 .row) (l .inv .1) (c .before .loop-test .taken) (w .0 .taken) (w .2))
+      ⊎-elim
+          (λ w. read-more (a .n) (a .at) (a .words .now) (l .j) (l .row) (c .if1 .row) (l .inv .1) (c .before .loop-test .taken) (w .0 .taken) (w .2))
           (λ w. read-no-more (a .n) (a .at) (a .words .now) (l .j) (l .row) (c .if1 .row) (l .inv .1) (w .0 .left) (w .1)) (c .if1 .came),
     )
 

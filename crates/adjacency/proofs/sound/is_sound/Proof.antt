@@ -70,24 +70,30 @@ take-requires c κs =
 returns-3 : tie.Need-returns-3
 returns-3 c =
     let a = c .before .before .before .before .before .before .before .before .before .args in
-    let ok = sym (c .before .before .before .before .before .before .before .within .ensures) ∙ not-false _ (c .before .before .before .before .before .before .if1 .left) in
+    let ok = sym (c .before .before .before .before .before .before .before .within .ensures)
+    ∙ not-false _ (c .before .before .before .before .before .before .if1 .left) in
     let lim = limits-of (a .d) (a .v) (a .s) ok in
-    unsound-refused (a .d) (a .v) (a .s) (a .table .now) ok (c .before .before .before .before .before .if2 .left) (c .before .take .result) (c .before .take .ensures .0) (c .if3 .taken)
+    unsound-refused (a .d) (a .v) (a .s) (a .table .now) ok (c .before .before .before .before .before .if2 .left)
+    (c .before .take .result) (c .before .take .ensures .0) (c .if3 .taken)
 
 same-requires : tie.Need-same-requires
 same-requires c κs =
     let a = c .before .before .before .before .before .before .before .before .before .before .before .before .args in
-    let ok = sym (c .before .before .before .before .before .before .before .before .before .before .within .ensures) ∙ not-false _ (c .before .before .before .before .before .before .before .before .before .if1 .left) in
+    let ok = sym (c .before .before .before .before .before .before .before .before .before .before .within .ensures)
+    ∙ not-false _ (c .before .before .before .before .before .before .before .before .before .if1 .left) in
     let lim = limits-of (a .d) (a .v) (a .s) ok in
     (lim .0, lim .2, c .before .before .before .before .before .before .before .before .if2 .left)
 
 returns-4 : tie.Need-returns-4
 returns-4 c =
     let a = c .before .before .before .before .before .before .before .before .before .before .before .before .before .args in
-    let ok = sym (c .before .before .before .before .before .before .before .before .before .before .before .within .ensures) ∙ not-false _ (c .before .before .before .before .before .before .before .before .before .before .if1 .left) in
+    let ok = sym (c .before .before .before .before .before .before .before .before .before .before .before .within .ensures)
+    ∙ not-false _ (c .before .before .before .before .before .before .before .before .before .before .if1 .left) in
     let lim = limits-of (a .d) (a .v) (a .s) ok in
     let t = c .before .before .before .before .before .take in
-    sound-same (a .d) (a .v) (a .s) (a .table .now) ok (c .before .before .before .before .before .before .before .before .before .if2 .left) (t .result) (t .ensures .0) (t .last .1 .1 .1 .1 .1 .0) (t .last .1 .1 .1 .1 .1 .1 .0) (t .last .1 .1 .1 .1 .1 .1 .1 .0) _ (c .before .before .before .before .if3 .left) (t .ensures .1 (c .before .before .before .before .if3 .left)) (c .same .ensures)
+    sound-same (a .d) (a .v) (a .s) (a .table .now) ok (c .before .before .before .before .before .before .before .before .before .if2 .left)
+    (t .result) (t .ensures .0) (t .last .1 .1 .1 .1 .1 .0) (t .last .1 .1 .1 .1 .1 .1 .0) (t .last .1 .1 .1 .1 .1 .1 .1 .0) _
+    (c .before .before .before .before .if3 .left) (t .ensures .1 (c .before .before .before .before .if3 .left)) (c .same .ensures)
 
 pub is-sound-spec : {M : Type 1} → statement M
 is-sound-spec =

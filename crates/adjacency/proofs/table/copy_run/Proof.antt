@@ -54,8 +54,10 @@ loop-again c =
     let a = s .args in (
       omega arith,
       ⊎-elim (λ w. ap length (w .2) ∙ length-set (l .table) _ _ ∙ l .inv .1) (λ w. ap length (w .1) ∙ l .inv .1) (c .if1 .came),
-      ⊎-elim (λ w. run-more (a .n) (a .from) (a .to) (l .j) (a .words .now) (a .table .now) (l .table) (c .if1 .table) (s .pre .2) (l .inv .2) (w .0 .taken) (w .2))
-          (λ w. run-no-more (a .n) (a .from) (a .to) (l .j) (a .words .now) (a .table .now) (l .table) (c .if1 .table) (s .pre .2) (l .inv .2) (w .0 .left) (w .1)) (c .if1 .came),
+      ⊎-elim (λ w. run-more (a .n) (a .from) (a .to) (l .j) (a .words .now) (a .table .now)
+          (l .table) (c .if1 .table) (s .pre .2) (l .inv .2) (w .0 .taken) (w .2))
+          (λ w. run-no-more (a .n) (a .from) (a .to) (l .j) (a .words .now) (a .table .now)
+          (l .table) (c .if1 .table) (s .pre .2) (l .inv .2) (w .0 .left) (w .1)) (c .if1 .came),
     )
 
 same-length : tie.Need-same-length Inv-loop μ-loop
@@ -67,7 +69,8 @@ returns c =
     let s = c .before .before in
     let a = s .args in
     l .inv .2 ∙ ap (λ (t : List ℕ). placed (a .to) t (a .table .now))
-    (take-all (l .j) (run (a .n) (a .from) (a .words .now)) (omega (arith, tabulate-length (a .n) (λ (j : ℕ). getD (a .words .now) (a .from + j) 0), s .pre .0)))
+    (take-all (l .j) (run (a .n) (a .from) (a .words .now))
+    (omega (arith, tabulate-length (a .n) (λ (j : ℕ). getD (a .words .now) (a .from + j) 0), s .pre .0)))
 
 pub copy-run-spec : {M : Type 1} → statement M
 copy-run-spec =

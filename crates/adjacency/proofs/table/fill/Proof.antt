@@ -8,7 +8,7 @@ use Rattle.words.specs.Placed.{placed}
 use Rattle.words.specs.Records.{concat, tabulate}
 use Rattle.words.proofs.Placed.{placed-none, placed-record}
 use Rattle.adjacency.specs.Held.{heldWords, recordHeld}
-use Rattle.complex.specs.Layout.{recordSize}
+use Rattle.records.specs.Layout.{recordSize}
 use Rattle.adjacency.proofs.Filling.{record-fits, record-long, record-next, records-length}
 use Rattle.adjacency.proofs.table.fill.Statement.{statement}
 use Rattle.adjacency.proofs.table.fill.Tie as tie
@@ -55,8 +55,10 @@ loop-again c =
     let a = s .args in
     let f : ℕ → List ℕ = recordHeld (a .d) (a .rows .now) (a .signs .now) (a .wings .now) in
     let more =
-    placed-record (a .s) 0 (l .p) (l .at) (l .at + recordSize (a .d)) f (a .table .now) (l .table) _ (omega (arith, c .before .before .before .before .loop-test .taken))
-    (omega (arith, records-length (a .d) (a .rows .now) (a .signs .now) (a .wings .now) (a .s), s .pre .2)) (omega (arith, l .inv .1, records-length (a .d) (a .rows .now) (a .signs .now) (a .wings .now) (l .p))) (l .inv .3)
+    placed-record (a .s) 0 (l .p) (l .at) (l .at + recordSize (a .d)) f (a .table .now)
+    (l .table) _ (omega (arith, c .before .before .before .before .loop-test .taken))
+    (omega (arith, records-length (a .d) (a .rows .now) (a .signs .now) (a .wings .now) (a .s), s .pre .2))
+    (omega (arith, l .inv .1, records-length (a .d) (a .rows .now) (a .signs .now) (a .wings .now) (l .p))) (l .inv .3)
     (omega (arith, record-long (a .d) (a .rows .now) (a .signs .now) (a .wings .now) (l .p))) (c .before .before .write-record .ensures) in
     (omega arith, omega (arith, record-next (recordSize (a .d)) (l .p)), more .long, more .words)
 

@@ -7,13 +7,14 @@ use borrow.Author.Tests.{not-true, not-false}
 use Rattle.simplex.proofs.Rows.{sameRow-true}
 use Rattle.simplex.specs.Cell.{sameRow}
 use Rattle.adjacency.specs.Held.{recordHeld, run}
-use Rattle.complex.specs.Layout.{recordSize}
+use Rattle.records.specs.Layout.{recordSize}
 use Rattle.adjacency.proofs.Filling.{record-fits, record-next, table-other, table-same}
 use Rattle.adjacency.proofs.table.same.Statement.{statement}
 use Rattle.adjacency.proofs.table.same.Tie as tie
 
 abbrev Inv-loop : tie.InvT-loop
-Inv-loop d s rows signs wings table at₀ p₀ at p = (p ≤ s) × (at ≡ p * recordSize d) × ((q : ℕ) → q < p → run (recordSize d) (q * recordSize d) table ≡ recordHeld d rows signs wings q)
+Inv-loop d s rows signs wings table at₀ p₀ at p =
+    (p ≤ s) × (at ≡ p * recordSize d) × ((q : ℕ) → q < p → run (recordSize d) (q * recordSize d) table ≡ recordHeld d rows signs wings q)
 
 abbrev μ-loop : tie.MeasureT-loop
 μ-loop d s rows signs wings table at₀ p₀ at p = s - p
@@ -31,8 +32,10 @@ returns : tie.Need-returns Inv-loop μ-loop
 returns c =
     let l = c .before .before .before .loop in
     let a = c .before .before .before .before .before .args in
-    sym (table-other (a .d) (a .rows .now) (a .signs .now) (a .wings .now) (a .s) (a .table .now) (c .before .before .before .before .before .pre .2) (l .p) (c .before .before .loop-test .taken)
-    (ap (λ (i : ℕ). sameRow (run (recordSize (a .d)) i (a .table .now)) (recordHeld (a .d) (a .rows .now) (a .signs .now) (a .wings .now) (l .p))) (sym (l .inv .1)) ∙ sym (c .before .same-record .ensures) ∙ not-true _ (c .if1 .taken)))
+    sym (table-other (a .d) (a .rows .now) (a .signs .now) (a .wings .now) (a .s) (a .table .now)
+    (c .before .before .before .before .before .pre .2) (l .p) (c .before .before .loop-test .taken)
+    (ap (λ (i : ℕ). sameRow (run (recordSize (a .d)) i (a .table .now)) (recordHeld (a .d) (a .rows .now) (a .signs .now) (a .wings .now) (l .p)))
+    (sym (l .inv .1)) ∙ sym (c .before .same-record .ensures) ∙ not-true _ (c .if1 .taken)))
 
 add-at : tie.Need-add-at Inv-loop μ-loop
 add-at c = omega arith
@@ -44,7 +47,11 @@ add-at-3 : tie.Need-add-at-3 Inv-loop μ-loop
 add-at-3 c =
     let l = c .before .before .before .loop in
     let a = c .before .before .before .before .before .args in
-    omega (arith, record-fits (recordSize (a .d)) (l .p) (a .s) (c .before .before .loop-test .taken), c .before .before .before .before .before .pre .2)
+    omega (
+      arith,
+      record-fits (recordSize (a .d)) (l .p) (a .s) (c .before .before .loop-test .taken),
+      c .before .before .before .before .before .pre .2,
+    )
 
 add-p : tie.Need-add-p Inv-loop μ-loop
 add-p c = omega arith
@@ -60,13 +67,15 @@ loop-again c =
       omega (arith, record-next (recordSize (a .d)) (l .p)),
       below-more _ (l .p) (l .inv .2)
           (ap (λ (i : ℕ). run (recordSize (a .d)) i (a .table .now)) (sym (l .inv .1))
-          ∙ sameRow-true (run (recordSize (a .d)) (l .at) (a .table .now)) (recordHeld (a .d) (a .rows .now) (a .signs .now) (a .wings .now) (l .p)) (sym (c .before .same-record .ensures) ∙ not-false _ (c .if1 .left))),
+          ∙ sameRow-true (run (recordSize (a .d)) (l .at) (a .table .now)) (recordHeld (a .d) (a .rows .now) (a .signs .now) (a .wings .now) (l .p))
+          (sym (c .before .same-record .ensures) ∙ not-false _ (c .if1 .left))),
     )
 
 returns-2 : tie.Need-returns-2 Inv-loop μ-loop
 returns-2 c =
     let a = c .before .before .before .args in
-    sym (table-same (a .d) (a .rows .now) (a .signs .now) (a .wings .now) (a .s) (a .table .now) (c .before .before .before .pre .2) (λ q h. c .before .loop .inv .2 q (omega arith)))
+    sym (table-same (a .d) (a .rows .now) (a .signs .now) (a .wings .now) (a .s) (a .table .now)
+    (c .before .before .before .pre .2) (λ q h. c .before .loop .inv .2 q (omega arith)))
 
 pub same-spec : {M : Type 1} → statement M
 same-spec =

@@ -27,7 +27,8 @@ sign-word-requires c κs = search needs
 returns : tie.Need-returns
 returns c =
     let a = c .before .before .before .before .before .args in
-    sym (record-same (a .d) (a .rows .now) (a .signs .now) (a .wings .now) (a .p) (a .at) (a .table .now) ∙ rw (ne-eqb _ _ (λ e. c .if1 .taken (e ∙ sym (c .before .sign-word .ensures)))) refl)
+    sym (record-same (a .d) (a .rows .now) (a .signs .now) (a .wings .now) (a .p) (a .at) (a .table .now)
+    ∙ rw (ne-eqb _ _ (λ e. c .if1 .taken (e ∙ sym (c .before .sign-word .ensures)))) refl)
 
 mul-same-run : tie.Need-mul-same-run
 mul-same-run c = omega arith
@@ -58,12 +59,18 @@ returns-2 : tie.Need-returns-2
 returns-2 c =
     let a = c .before .before .before .before .before .before .before .before .args in
     c .same-run2 .ensures
-    ∙ sym (record-same (a .d) (a .rows .now) (a .signs .now) (a .wings .now) (a .p) (a .at) (a .table .now) ∙ rw (eq-eqb _ _ (c .before .before .before .if1 .left ∙ c .before .before .before .before .sign-word .ensures), sym (c .before .before .same-run .ensures) ∙ c .before .if2 .taken) refl)
+    ∙ sym (record-same (a .d) (a .rows .now) (a .signs .now) (a .wings .now) (a .p) (a .at) (a .table .now) ∙ rw (
+      eq-eqb _ _ (c .before .before .before .if1 .left ∙ c .before .before .before .before .sign-word .ensures),
+      sym (c .before .before .same-run .ensures) ∙ c .before .if2 .taken,
+    ) refl)
 
 returns-3 : tie.Need-returns-3
 returns-3 c =
     let a = c .before .before .before .before .before .before .before .args in
-    sym (record-same (a .d) (a .rows .now) (a .signs .now) (a .wings .now) (a .p) (a .at) (a .table .now) ∙ rw (eq-eqb _ _ (c .before .before .if1 .left ∙ c .before .before .before .sign-word .ensures), sym (c .before .same-run .ensures) ∙ c .if2 .left) refl)
+    sym (record-same (a .d) (a .rows .now) (a .signs .now) (a .wings .now) (a .p) (a .at) (a .table .now) ∙ rw (
+      eq-eqb _ _ (c .before .before .if1 .left ∙ c .before .before .before .sign-word .ensures),
+      sym (c .before .same-run .ensures) ∙ c .if2 .left,
+    ) refl)
 
 pub same-record-spec : {M : Type 1} → statement M
 same-record-spec =

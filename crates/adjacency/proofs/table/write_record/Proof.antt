@@ -33,7 +33,14 @@ add-copy-run : tie.Need-add-copy-run
 add-copy-run c = omega arith
 
 copy-run-requires : tie.Need-copy-run-requires
-copy-run-requires c κs = (omega arith, omega arith, omega (arith, length-set (c .before .before .before .before .args .table .now) (c .before .before .before .before .args .at) (c .before .sign-word .result)))
+copy-run-requires c κs = (
+  omega arith,
+  omega arith,
+  omega (
+    arith,
+    length-set (c .before .before .before .before .args .table .now) (c .before .before .before .before .args .at) (c .before .sign-word .result),
+  ),
+)
 
 mul-copy-run-2 : tie.Need-mul-copy-run-2
 mul-copy-run-2 c =
@@ -49,20 +56,36 @@ add-copy-run-3 c = omega arith
 copy-run-requires-2 : tie.Need-copy-run-requires-2
 copy-run-requires-2 c κs =
     let s = c .before .before .before .before .before .before .before .before in
-    let a = s .args in
-    (omega arith, omega (arith, mul-le-mul-right {m = a .p} {n = 4095} (a .d + 1) (omega arith)), omega (arith, part-room (a .d) (a .rows .now) (a .signs .now) (a .wings .now) (a .p) (a .at) (c .before .before .before .before .before .sign-word .result) (a .table .now) _ (s .pre .2) (c .before .before .before .before .before .sign-word .ensures) (c .before .before .before .copy-run .ensures)))
+    let a = s .args in (
+      omega arith,
+      omega (arith, mul-le-mul-right {m = a .p} {n = 4095} (a .d + 1) (omega arith)),
+      omega (
+        arith,
+        part-room (a .d) (a .rows .now) (a .signs .now) (a .wings .now) (a .p) (a .at)
+            (c .before .before .before .before .before .sign-word .result) (a .table .now) _ (s .pre .2)
+            (c .before .before .before .before .before .sign-word .ensures) (c .before .before .before .copy-run .ensures),
+      ),
+    )
 
 same-length : tie.Need-same-length
 same-length c =
     let s = c .before .before .before .before .before .before .before .before .before .before .before in
     let a = s .args in
-    ap length (record-placed (a .d) (a .rows .now) (a .signs .now) (a .wings .now) (a .p) (a .at) (c .before .before .before .before .before .before .before .before .sign-word .result) (a .table .now) _ (s .pre .2) (c .before .before .before .before .before .before .before .before .sign-word .ensures) (c .before .before .before .before .before .before .copy-run .ensures) _ (c .before .before .copy-run2 .ensures)) ∙ placed-length (a .at) (recordHeld (a .d) (a .rows .now) (a .signs .now) (a .wings .now) (a .p)) (a .table .now) (omega (arith, record-long (a .d) (a .rows .now) (a .signs .now) (a .wings .now) (a .p)))
+    ap length (record-placed (a .d) (a .rows .now) (a .signs .now) (a .wings .now) (a .p) (a .at)
+    (c .before .before .before .before .before .before .before .before .sign-word .result) (a .table .now)
+    _ (s .pre .2) (c .before .before .before .before .before .before .before .before .sign-word .ensures)
+    (c .before .before .before .before .before .before .copy-run .ensures) _ (c .before .before .copy-run2 .ensures))
+    ∙ placed-length (a .at) (recordHeld (a .d) (a .rows .now) (a .signs .now) (a .wings .now) (a .p))
+    (a .table .now) (omega (arith, record-long (a .d) (a .rows .now) (a .signs .now) (a .wings .now) (a .p)))
 
 returns : tie.Need-returns
 returns c =
     let s = c .before .before .before .before .before .before .before .before .before .before .before in
     let a = s .args in
-    record-placed (a .d) (a .rows .now) (a .signs .now) (a .wings .now) (a .p) (a .at) (c .before .before .before .before .before .before .before .before .sign-word .result) (a .table .now) _ (s .pre .2) (c .before .before .before .before .before .before .before .before .sign-word .ensures) (c .before .before .before .before .before .before .copy-run .ensures) _ (c .before .before .copy-run2 .ensures)
+    record-placed (a .d) (a .rows .now) (a .signs .now) (a .wings .now) (a .p) (a .at)
+    (c .before .before .before .before .before .before .before .before .sign-word .result) (a .table .now)
+    _ (s .pre .2) (c .before .before .before .before .before .before .before .before .sign-word .ensures)
+    (c .before .before .before .before .before .before .copy-run .ensures) _ (c .before .before .copy-run2 .ensures)
 
 pub write-record-spec : {M : Type 1} → statement M
 write-record-spec =

@@ -25,8 +25,10 @@ add-take c = omega (arith, limits (c .before .before) .0)
 take-requires : tie.Need-take-requires
 take-requires c κs =
     let s = c .before .before .before .before .before in
-    let lim = limits s in
-    ((lim .0, omega arith, omega arith, lim .2, omega (arith, s .pre .1)), (length-replicate {A = ℕ} 32768 0, length-replicate {A = Bool} 4096 false, fresh-blank))
+    let lim = limits s in (
+      (lim .0, omega arith, omega arith, lim .2, omega (arith, s .pre .1)),
+      (length-replicate {A = ℕ} 32768 0, length-replicate {A = Bool} 4096 false, fresh-blank),
+    )
 
 returns : tie.Need-returns
 returns c =
@@ -53,7 +55,8 @@ returns-2 c =
     let t = c .before .before .take in
     let s = start (c .before .before) in
     let a = s .args in
-    let e = table-no-room (a .d) (a .v) (a .s) (a .cells .now) (s .pre .1) (t .result) (t .ensures .0) (length (a .table .now)) (c .before .if1 .left) (c .if2 .taken) in
+    let e = table-no-room (a .d) (a .v) (a .s) (a .cells .now) (s .pre .1) (t .result)
+    (t .ensures .0) (length (a .table .now)) (c .before .if1 .left) (c .if2 .taken) in
     (e, after-refused (a .d) (a .v) (a .s) (a .cells .now) (a .table .now) 15 (λ z. absurd (omega (arith, z))) e)
 
 fill-requires : tie.Need-fill-requires
@@ -73,10 +76,12 @@ returns-3 c =
     let s = start call in
     let a = s .args in
     let lim = limits s in
-    let e = table-accepted (a .d) (a .v) (a .s) (a .cells .now) (s .pre .1) (t .result) (t .ensures .0) (length (a .table .now)) (else .before .if1 .left) (else .if2 .left) in (
+    let e = table-accepted (a .d) (a .v) (a .s) (a .cells .now) (s .pre .1) (t .result)
+    (t .ensures .0) (length (a .table .now)) (else .before .if1 .left) (else .if2 .left) in (
       e,
       c .before .before .fill .ensures
-          ∙ taken-written (a .d) (a .v) (a .s) (a .cells .now) (t .last .1 .1 .1 .1 .1 .0) (t .last .1 .1 .1 .1 .1 .1 .0) (t .last .1 .1 .1 .1 .1 .1 .1 .0)
+          ∙ taken-written (a .d) (a .v) (a .s) (a .cells .now) (t .last .1 .1 .1 .1 .1 .0)
+          (t .last .1 .1 .1 .1 .1 .1 .0) (t .last .1 .1 .1 .1 .1 .1 .1 .0)
           (a .table .now) (lim .0) (lim .2) (s .pre .1) (t .ensures .1 (else .before .if1 .left))
           ∙ after-accepted (a .d) (a .v) (a .s) (a .cells .now) (a .table .now) e,
     )

@@ -13,8 +13,10 @@ bad-sign-requires c κs =
 returns : tie.Need-returns
 returns c =
     let a = c .before .before .before .args in
-    let pre = c .before .before .before .pre in
-    (sym (refused-6 (a .size) (a .d) (a .v) (a .s) (a .words .now) (pre .0 .1) (pre .0 .4) (sym (c .before .bad-sign .ensures) ∙ c .if1 .taken)), (λ z. absurd (omega (arith, z))))
+    let pre = c .before .before .before .pre in (
+      sym (refused-6 (a .size) (a .d) (a .v) (a .s) (a .words .now) (pre .0 .1) (pre .0 .4) (sym (c .before .bad-sign .ensures) ∙ c .if1 .taken)),
+      (λ z. absurd (omega (arith, z))),
+    )
 
 gather-requires : tie.Need-gather-requires
 gather-requires c κs =
@@ -31,8 +33,13 @@ returns-2 c =
     let a = c .before .before .before .before .before .before .before .before .before .args in
     let pre = c .before .before .before .before .before .before .before .before .before .pre in
     let rows = c .before .before .before .gather .last .1 .1 .1 .1 .0 in
-    let signs = c .before .before .before .gather .last .1 .1 .1 .1 .1 .0 in
-    (sym (refused-7 (a .size) (a .d) (a .v) (a .s) (a .words .now) (pre .0 .1) (pre .0 .4) rows signs (pre .0 .3) (pre .0 .0) (c .before .before .before .gather .ensures .0 .0) (c .before .before .before .gather .ensures .1) (sym (c .before .before .before .before .before .before .before .bad-sign .ensures) ∙ c .before .before .before .before .before .before .if1 .left) (sym (c .before .beyond .ensures) ∙ c .if2 .taken)), (λ z. absurd (omega (arith, z))))
+    let signs = c .before .before .before .gather .last .1 .1 .1 .1 .1 .0 in (
+      sym (refused-7 (a .size) (a .d) (a .v) (a .s) (a .words .now) (pre .0 .1) (pre .0 .4) rows signs (pre .0 .3)
+          (pre .0 .0) (c .before .before .before .gather .ensures .0 .0) (c .before .before .before .gather .ensures .1)
+          (sym (c .before .before .before .before .before .before .before .bad-sign .ensures)
+          ∙ c .before .before .before .before .before .before .if1 .left) (sym (c .before .beyond .ensures) ∙ c .if2 .taken)),
+      (λ z. absurd (omega (arith, z))),
+    )
 
 any-falls-requires : tie.Need-any-falls-requires
 any-falls-requires c κs =
@@ -44,22 +51,46 @@ returns-3 c =
     let a = c .before .before .before .before .before .before .before .before .before .before .before .before .args in
     let pre = c .before .before .before .before .before .before .before .before .before .before .before .before .pre in
     let rows = c .before .before .before .before .before .before .gather .last .1 .1 .1 .1 .0 in
-    let signs = c .before .before .before .before .before .before .gather .last .1 .1 .1 .1 .1 .0 in
-    (sym (refused-8 (a .size) (a .d) (a .v) (a .s) (a .words .now) (pre .0 .1) (pre .0 .4) rows signs (pre .0 .3) (pre .0 .0) (c .before .before .before .before .before .before .gather .ensures .0 .0) (c .before .before .before .before .before .before .gather .ensures .1) (sym (c .before .before .before .before .before .before .before .before .before .before .bad-sign .ensures) ∙ c .before .before .before .before .before .before .before .before .before .if1 .left) (sym (c .before .before .before .before .beyond .ensures) ∙ c .before .before .before .if2 .left) (sym (c .before .any-falls .ensures) ∙ c .if3 .taken)), (λ z. absurd (omega (arith, z))))
+    let signs = c .before .before .before .before .before .before .gather .last .1 .1 .1 .1 .1 .0 in (
+      sym (refused-8 (a .size) (a .d) (a .v) (a .s) (a .words .now) (pre .0 .1) (pre .0 .4) rows signs
+          (pre .0 .3) (pre .0 .0) (c .before .before .before .before .before .before .gather .ensures .0 .0)
+          (c .before .before .before .before .before .before .gather .ensures .1)
+          (sym (c .before .before .before .before .before .before .before .before .before .before .bad-sign .ensures)
+          ∙ c .before .before .before .before .before .before .before .before .before .if1 .left)
+          (sym (c .before .before .before .before .beyond .ensures) ∙ c .before .before .before .if2 .left)
+          (sym (c .before .any-falls .ensures) ∙ c .if3 .taken)),
+      (λ z. absurd (omega (arith, z))),
+    )
 
 adjacent-requires : tie.Need-adjacent-requires
 adjacent-requires c κs =
-    let pre = c .before .before .before .before .before .before .before .before .before .before .before .before .before .before .before .pre in
-    ((pre .0 .0, pre .0 .3, c .before .before .before .before .before .before .before .before .before .gather .ensures .0 .0, pre .1 .2), sym (c .before .before .before .before .any-falls .ensures) ∙ c .before .before .before .if3 .left)
+    let pre = c .before .before .before .before .before .before .before .before .before .before .before .before .before .before .before .pre in (
+      (pre .0 .0, pre .0 .3, c .before .before .before .before .before .before .before .before .before .gather .ensures .0 .0, pre .1 .2),
+      sym (c .before .before .before .before .any-falls .ensures) ∙ c .before .before .before .if3 .left,
+    )
 
 returns-4 : tie.Need-returns-4
 returns-4 c =
     let a = c .before .before .before .before .before .before .before .before .before .before .before .before .before .before .before .before .args in
-    let pre = c .before .before .before .before .before .before .before .before .before .before .before .before .before .before .before .before .pre in
+    let pre =
+    c .before .before .before .before .before .before .before .before .before .before .before .before .before .before .before .before .pre in
     let rows = c .before .before .before .before .before .before .before .before .before .before .gather .last .1 .1 .1 .1 .0 in
     let signs = c .before .before .before .before .before .before .before .before .before .before .gather .last .1 .1 .1 .1 .1 .0 in (
-      c .adjacent .ensures .0 ∙ sym (refused-rest (a .size) (a .d) (a .v) (a .s) (a .words .now) (pre .0 .1) (pre .0 .4) rows signs (pre .0 .3) (pre .0 .0) (c .before .before .before .before .before .before .before .before .before .before .gather .ensures .0 .0) (c .before .before .before .before .before .before .before .before .before .before .gather .ensures .1) (sym (c .before .before .before .before .before .before .before .before .before .before .before .before .before .before .bad-sign .ensures) ∙ c .before .before .before .before .before .before .before .before .before .before .before .before .before .if1 .left) (sym (c .before .before .before .before .before .before .before .before .beyond .ensures) ∙ c .before .before .before .before .before .before .before .if2 .left) (sym (c .before .before .before .before .before .any-falls .ensures) ∙ c .before .before .before .before .if3 .left)),
-      (λ z. record { wide = c .before .before .before .before .before .before .before .before .before .before .gather .ensures .0 .0; cells = solid-held (a .size) (a .d) (a .v) (a .s) (a .words .now) (pre .0 .1) (pre .0 .4) rows signs (pre .0 .3) (pre .0 .0) (c .before .before .before .before .before .before .before .before .before .before .gather .ensures .0 .0) (c .before .before .before .before .before .before .before .before .before .before .gather .ensures .1); winged = c .adjacent .ensures .1 z }),
+      c .adjacent .ensures .0 ∙ sym (refused-rest (a .size) (a .d) (a .v) (a .s) (a .words .now) (pre .0 .1) (pre .0 .4) rows signs
+          (pre .0 .3) (pre .0 .0) (c .before .before .before .before .before .before .before .before .before .before .gather .ensures .0 .0)
+          (c .before .before .before .before .before .before .before .before .before .before .gather .ensures .1)
+          (sym (c .before .before .before .before .before .before .before .before .before .before .before .before .before .before .bad-sign .ensures)
+          ∙ c .before .before .before .before .before .before .before .before .before .before .before .before .before .if1 .left)
+          (sym (c .before .before .before .before .before .before .before .before .beyond .ensures)
+          ∙ c .before .before .before .before .before .before .before .if2 .left)
+          (sym (c .before .before .before .before .before .any-falls .ensures) ∙ c .before .before .before .before .if3 .left)),
+      (λ z. record {
+        wide = c .before .before .before .before .before .before .before .before .before .before .gather .ensures .0 .0;
+        cells = solid-held (a .size) (a .d) (a .v) (a .s) (a .words .now) (pre .0 .1) (pre .0 .4) rows signs (pre .0 .3)
+            (pre .0 .0) (c .before .before .before .before .before .before .before .before .before .before .gather .ensures .0 .0)
+            (c .before .before .before .before .before .before .before .before .before .before .gather .ensures .1);
+        winged = c .adjacent .ensures .1 z;
+      }),
     )
 
 pub take-spec : {M : Type 1} → statement M

@@ -1,115 +1,65 @@
--- The boundary faces of all cells are counted by cell: n is the count of the first p cells. Assumes nothing.
-use mathlib.Core.Path.{_≡_, refl, sym, ap, _∙_}
-use Prim.Native.Nat.{ℕ, suc, _+_, _-_, _*_, _≤_}
-use native.Mathlib.Nat.{suc-mul, mul-le-mul-right}
+-- What is counted and what is left make the whole. Assumes nothing.
+use mathlib.Core.Path.{_≡_, sym, ap, _∙_}
+use Prim.Native.Nat.{suc, _+_}
 use native.Mathlib.Omega.{arith}
-use borrow.Author.Needs.{needs}
 use lib.ListN.{length}
-use Rattle.words.specs.Records.{tabulate, concat}
-use Rattle.complex.specs.Layout.{entryOf, recordSize}
-use Rattle.boundary.specs.Written.{cellFaces, entryIn}
-use Rattle.boundary.proofs.Counting.{table-faces-are}
-use Rattle.boundary.proofs.EntryWords.{part-long, lent-is}
-use Rattle.words.proofs.Placed.{concat-more-long}
+use borrow.Author.Needs.{needs}
+use Rattle.boundary.specs.Walk.{tableFaces, facesFrom, AtFace}
+use Rattle.boundary.proofs.Sizes.{faces-few}
+use Rattle.boundary.proofs.Walking.{from-start, from-end, face-less}
 use Rattle.boundary.proofs.writing.count_faces.Statement.{statement}
 use Rattle.boundary.proofs.writing.count_faces.Tie as tie
 
 abbrev Inv-loop : tie.InvT-loop
-Inv-loop d s table size n₀ p₀ n p =
-    (p ≤ s) × (size ≡ recordSize d) × (n ≤ p * 8) × (n ≡ length (concat (tabulate p (λ p. cellFaces d (entryIn d table p)))))
+Inv-loop d s table n₀ at₀ n at =
+    AtFace d s table (at .cell) (at .position) × (n + length (facesFrom d s table (at .cell) (at .position)) ≡ length (tableFaces d s table))
 
 abbrev μ-loop : tie.MeasureT-loop
-μ-loop d s table size n₀ p₀ n p = s - p
+μ-loop d s table n₀ at₀ n at = length (facesFrom d s table (at .cell) (at .position))
 
--- record p is inside the table
-index : (c : tie.In-loop Inv-loop μ-loop) →
-    c .before .loop .p * recordSize (c .before .before .before .args .d) + recordSize (c .before .before .before .args .d) ≤ length (c .before .before .before .args .table .now)
-index c =
-    let start = c .before .before .before in
-    let n = recordSize (start .args .d) in
-    omega (arith, start .pre .2, suc-mul (c .before .loop .p) n, mul-le-mul-right {m = suc (c .before .loop .p)} {n = start .args .s} n (c .loop-test .taken))
+-- behind a face one less is left
+less : (c : tie.After-next-face2 Inv-loop μ-loop) → let a = c .before .before .before .before .before .before .before .args in let at = c .before .before .before .before .loop .at in
+    length (facesFrom (a .d) (a .s) (a .table .now) (at .cell) (at .position)) ≡ suc (length (facesFrom (a .d) (a .s) (a .table .now) (c .next-face2 .result .cell) (c .next-face2 .result .position)))
+less c =
+    let turn = c .before .before .before .before in
+    let start = turn .before .before .before in
+    face-less (start .args .d) (start .args .s) (start .args .table .now) (start .pre) _ _ (turn .loop .inv .0) (omega arith) (c .next-face2 .ensures)
 
-add-size : tie.Need-add-size Inv-loop μ-loop
-add-size c = search needs
-
-add-size-2 : tie.Need-add-size-2 Inv-loop μ-loop
-add-size-2 c = search needs
+next-face-requires : tie.Need-next-face-requires Inv-loop μ-loop
+next-face-requires c κs = search needs
 
 loop-holds : tie.Need-loop-holds Inv-loop μ-loop
-loop-holds c = (omega arith, refl, omega arith, refl)
-
-mul-from : tie.Need-mul-from Inv-loop μ-loop
-mul-from c = omega (arith, index c)
-
-add-to : tie.Need-add-to Inv-loop μ-loop
-add-to c = omega (arith, index c)
-
-mul-count-cell : tie.Need-mul-count-cell Inv-loop μ-loop
-mul-count-cell c = omega (arith, index c)
-
-sub-count-cell : tie.Need-sub-count-cell Inv-loop μ-loop
-sub-count-cell c = search needs
-
-part-count-cell-start : tie.Need-part-count-cell-start Inv-loop μ-loop
-part-count-cell-start c = search needs
-
-part-count-cell-end : tie.Need-part-count-cell-end Inv-loop μ-loop
-part-count-cell-end c = omega (arith, index c)
-
-count-cell-requires : tie.Need-count-cell-requires Inv-loop μ-loop
-count-cell-requires c κs =
-    let start = c .before .before .before .before in
-    let a = start .args in
-    let n = recordSize (a .d) in
-    ap length (lent-is n (c .before .before .loop .p) (a .table .now)) ∙ part-long n (c .before .before .loop .p) (a .s) (a .table .now) (c .before .loop-test .taken) (start .pre .2)
+loop-holds c =
+    let a = c .before .before .args in
+    let n = c .next-face .ensures in
+    (n .place, omega (arith, ap length (sym (from-start (a .d) (a .s) (a .table .now)) ∙ n .same)))
 
 add-n : tie.Need-add-n Inv-loop μ-loop
-add-n c = omega (arith, c .count-cell .ensures .1, c .before .before .before .loop .inv .2)
+add-n c =
+    let start = c .before .before .before .before .before in
+    omega (arith, faces-few (start .args .d) (start .args .s) (start .args .table .now) (start .pre))
 
-add-p : tie.Need-add-p Inv-loop μ-loop
-add-p c = search needs
+add-next-face : tie.Need-add-next-face Inv-loop μ-loop
+add-next-face c = omega (arith, c .before .before .before .loop .inv .0 .position (omega arith))
+
+next-face-requires-2 : tie.Need-next-face-requires-2 Inv-loop μ-loop
+next-face-requires-2 c κs = search needs
 
 loop-less : tie.Need-loop-less Inv-loop μ-loop
-loop-less c = search needs
+loop-less c = omega (arith, less c)
 
 loop-again : tie.Need-loop-again Inv-loop μ-loop
-loop-again c =
-    let at = c .before .before .before in
-    let a = at .before .before .args in
-    let count = c .count-cell .ensures .0 ∙ ap (λ ws. length (cellFaces (a .d) (entryOf (a .d) ws))) (lent-is (recordSize (a .d)) (at .loop .p) (a .table .now)) in (
-      omega arith,
-      refl,
-      omega (arith, c .count-cell .ensures .1, at .loop .inv .2),
-      omega (arith, at .loop .inv .3, count, concat-more-long (at .loop .p) (λ p. cellFaces (a .d) (entryIn (a .d) (a .table .now) p))),
-    )
+loop-again c = (c .next-face2 .ensures .place, omega (arith, less c))
 
 returns : tie.Need-returns Inv-loop μ-loop
 returns c =
-    let at = c .before in
-    let a = at .before .before .args in
-    let all : at .loop .p ≡ a .s = omega arith in (
-      at .loop .inv .3 ∙ ap (λ (m : ℕ). length (concat (tabulate m (λ p. cellFaces (a .d) (entryIn (a .d) (a .table .now) p))))) all ∙ sym (ap length (table-faces-are (a .d) (a .s) (a .table .now))),
-      omega arith,
-    )
+    let start = c .before .before .before .before .before in
+    let a = start .args in
+    let at = c .before .before .loop .at in
+    let none = ap length (from-end (a .d) (a .s) (a .table .now) (at .cell) (at .position) (omega arith)) in
+    (omega arith, omega (arith, faces-few (a .d) (a .s) (a .table .now) (start .pre)))
 
 pub count-faces-spec : {M : Type 1} → statement M
 count-faces-spec =
     tie.close
-    (tie.spec
-    Inv-loop
-    μ-loop
-    add-size
-    add-size-2
-    loop-holds
-    mul-from
-    add-to
-    mul-count-cell
-    sub-count-cell
-    part-count-cell-start
-    part-count-cell-end
-    count-cell-requires
-    add-n
-    add-p
-    loop-less
-    loop-again
-    returns)
+    (tie.spec Inv-loop μ-loop next-face-requires loop-holds add-n add-next-face next-face-requires-2 loop-less loop-again returns)

@@ -1,81 +1,74 @@
--- The record of a face is written word by word. The loop has written its first j words. Assumes nothing.
-use mathlib.Core.Path.{_≡_, sym, ap, _∙_}
+-- The words of a face's record, one after the other. Assumes nothing.
+use mathlib.Core.Path.{_≡_}
 use mathlib.Core.List.{List}
-use Prim.Native.Nat.{ℕ, _+_, _-_, _≤_}
+use Prim.Native.Nat.{ℕ, _-_, _≤_, _<_}
 use native.Mathlib.Omega.{arith}
+use lib.ListN.{length, drop, length-drop, drop-of-length-le}
 use borrow.Author.Needs.{needs}
-use lib.ListN.{length, take, length-set}
-use lib.Seq.{take-length}
-use Rattle.simplex.specs.Faces.{face}
-use Rattle.complex.specs.Layout.{cellWords, entryOf}
-use Rattle.words.specs.Placed.{placed}
-use Rattle.boundary.proofs.EntryWords.{face-long}
-use Rattle.words.proofs.Placed.{placed-none, placed-word}
+use Rattle.words.proofs.Writing.{Left, left-starts, left-next, left-ends}
+use Rattle.records.specs.Layout.{faceSize, faceWords}
+use Rattle.boundary.specs.Walk.{faceAt}
+use Rattle.boundary.proofs.FaceWords.{face-long}
 use Rattle.boundary.proofs.writing.write_face.Statement.{statement}
 use Rattle.boundary.proofs.writing.write_face.Tie as tie
 
 abbrev Inv-loop : tie.InvT-loop
-Inv-loop d entry a at out₀ j₀ out j =
-    (j ≤ d + 1) × (length out ≡ length out₀) × (out ≡ placed at (take j (cellWords (face a (entryOf d entry .cell)))) out₀)
+Inv-loop d s table p a at out₀ size next₀ j₀ out next j =
+    (j ≤ size) × (size ≡ faceSize d) × Left at (faceWords (faceAt d table p a)) out₀ next (drop j (faceWords (faceAt d table p a))) out
 
 abbrev μ-loop : tie.MeasureT-loop
-μ-loop d entry a at out₀ j₀ out j = d + 1 - j
+μ-loop d s table p a at out₀ size next₀ j₀ out next j = size - j
 
-words : (c : tie.After-slice-known Inv-loop μ-loop) →
-    length (cellWords (face (c .before .before .args .a) (entryOf (c .before .before .args .d) (c .before .before .args .entry .now) .cell))) ≡ c .before .before .args .d + 1
-words c =
-    let start = c .before .before in
-    let a = start .args in
-    face-long (a .d) (a .entry .now) (start .pre .0 .0) (a .a) (start .pre .0 .1)
+abbrev words : tie.Start Inv-loop μ-loop → List ℕ
+words c = faceWords (faceAt (c .args .d) (c .args .table .now) (c .args .p) (c .args .a))
+
+long : (c : tie.Start Inv-loop μ-loop) → length (words c) ≡ faceSize (c .args .d)
+long c = face-long (c .args .d) (c .args .s) (c .args .table .now) (c .args .p) (c .pre .0) (c .args .a) (c .pre .1)
+
+fits : (c : tie.After-face-word Inv-loop μ-loop) → c .before .before .loop .next < length (c .before .before .loop .out)
+fits c =
+    let turn = c .before .before in
+    let start = turn .before .before .before .before in
+    omega (arith, turn .loop .inv .2 .room, length-drop (turn .loop .j) (words start), long start)
+
+face-size-requires : tie.Need-face-size-requires Inv-loop μ-loop
+face-size-requires c κs = search needs
 
 loop-holds : tie.Need-loop-holds Inv-loop μ-loop
-loop-holds c = let a = c .before .before .args in (omega arith, omega arith, sym (placed-none (a .at) (a .out .now)))
+loop-holds c = let start = c .before .before .before in (omega arith, omega arith, left-starts (start .args .at) (words start) (start .args .out .now) (start .pre .2))
 
 face-word-requires : tie.Need-face-word-requires Inv-loop μ-loop
 face-word-requires c κs = search needs
 
-add-out : tie.Need-add-out Inv-loop μ-loop
-add-out c = omega (arith, words (c .before .before .before))
-
 mul-out : tie.Need-mul-out Inv-loop μ-loop
-mul-out c = omega (arith, words (c .before .before .before))
+mul-out c = omega (arith, fits c)
 
 slice-write-out : tie.Need-slice-write-out Inv-loop μ-loop
-slice-write-out c = omega (arith, words (c .before .before .before), c .before .before .loop .inv .1)
+slice-write-out c = fits c
+
+add-next : tie.Need-add-next Inv-loop μ-loop
+add-next c = omega (arith, fits c)
 
 add-j : tie.Need-add-j Inv-loop μ-loop
-add-j c = omega (arith, words (c .before .before .before))
+add-j c = search needs
 
 loop-less : tie.Need-loop-less Inv-loop μ-loop
 loop-less c = search needs
 
 loop-again : tie.Need-loop-again Inv-loop μ-loop
 loop-again c =
-    let at = c .before .before in
-    let start = at .before .before .before in
-    let a = start .args in (
-      omega arith,
-      length-set (at .loop .out) _ _ ∙ at .loop .inv .1,
-      placed-word (a .at) (at .loop .j) (c .face-word .result) (cellWords (face (a .a) (entryOf (a .d) (a .entry .now) .cell))) (a .out .now) (at .loop .out)
-          (omega (arith, words (at .before), c .before .loop-test .taken)) (start .pre .1) (at .loop .inv .2) (c .face-word .ensures),
-    )
-
-add-result : tie.Need-add-result Inv-loop μ-loop
-add-result c = omega (arith, words (c .before .before))
-
-add-result-2 : tie.Need-add-result-2 Inv-loop μ-loop
-add-result-2 c = omega (arith, words (c .before .before))
+    let turn = c .before .before in
+    let start = turn .before .before .before .before in
+    (omega arith, cc, left-next 0 (words start) (turn .loop .j) _ _ (omega (arith, long start)) (c .face-word .ensures) (omega arith) (turn .loop .inv .2))
 
 same-length : tie.Need-same-length Inv-loop μ-loop
-same-length c = search needs
+same-length c = c .before .loop .inv .2 .same
 
 returns : tie.Need-returns Inv-loop μ-loop
 returns c =
-    let at = c .before in
-    let a = at .before .before .before .args in
-    let X = cellWords (face (a .a) (entryOf (a .d) (a .entry .now) .cell)) in
-    let all : at .loop .j ≡ length X = omega (arith, words (at .before)) in
-    (omega (arith, words (at .before)), at .loop .inv .2 ∙ ap (λ (l : List ℕ). placed (a .at) l (a .out .now)) (ap (λ (n : ℕ). take n X) all ∙ take-length X))
+    let turn = c .before in
+    let start = turn .before .before .before .before in
+    left-ends (rw (drop-of-length-le (words start) {i = turn .loop .j} (omega (arith, long start))) at (turn .loop .inv .2))
 
 pub write-face-spec : {M : Type 1} → statement M
 write-face-spec =
@@ -83,15 +76,14 @@ write-face-spec =
     (tie.spec
     Inv-loop
     μ-loop
+    face-size-requires
     loop-holds
     face-word-requires
-    add-out
     mul-out
     slice-write-out
+    add-next
     add-j
     loop-less
     loop-again
-    add-result
-    add-result-2
     same-length
     returns)

@@ -1,5 +1,5 @@
 -- `beyond` answers whether a vertex is v or above: what is left of the vertices decides. Assumes nothing.
-use mathlib.Core.Path.{_≡_, refl, sym, ap, _∙_}
+use mathlib.Core.Path.{_≡_, refl}
 use Prim.Native.Nat.{_≤_, _+_, _*_}
 use native.Mathlib.Omega.{arith}
 use lib.Dec.{leb}
@@ -8,7 +8,7 @@ use borrow.Author.Tests.{le-leb, lt-leb}
 use borrow.Author.Needs.{needs}
 use Rattle.words.specs.Records.{anyOf}
 use Rattle.words.specs.Bytes.{wordsFrom}
-use Rattle.file.proofs.Rows.{any-first, any-next}
+use Rattle.file.proofs.Rows.{row-goes, row-stops, row-ends}
 use Rattle.file.proofs.cells.beyond.Statement.{statement}
 use Rattle.file.proofs.cells.beyond.Tie as tie
 
@@ -21,39 +21,26 @@ abbrev μ-loop : tie.MeasureT-loop
 loop-holds : tie.Need-loop-holds Inv-loop μ-loop
 loop-holds c = (search needs, refl)
 
-word16-requires : tie.Need-word16-requires Inv-loop μ-loop
-word16-requires c κs = search needs
-
-cast-x : tie.Need-cast-x Inv-loop μ-loop
-cast-x c = search needs
+abbrev start : tie.At-loop Inv-loop μ-loop → tie.Start Inv-loop μ-loop
+start l = l .before .before
 
 returns : tie.Need-returns Inv-loop μ-loop
 returns c =
-    let l = c .before .before .before .loop in
-    let a = c .before .before .before .before .before .args in
-    sym (l .inv .1 ∙ any-first (a .b .now) (l .from) (l .left) (c .before .before .loop-test .taken) (λ x. leb (a .v) x) (le-leb _ _ (rw (c .before .word16 .ensures) at (c .if1 .taken))))
-
-add-from : tie.Need-add-from Inv-loop μ-loop
-add-from c = search needs
-
-sub-left : tie.Need-sub-left Inv-loop μ-loop
-sub-left c = search needs
-
-loop-less : tie.Need-loop-less Inv-loop μ-loop
-loop-less c = search needs
+    let l = c .before .before .before in
+    let a = start l .args in
+    row-stops (a .b .now) (l .loop .from) (l .loop .left) _ (omega arith) _ (c .before .word16 .ensures) (λ x. leb (a .v) x) (l .loop .inv .1) (le-leb _ _ (c .if1 .taken))
 
 loop-again : tie.Need-loop-again Inv-loop μ-loop
 loop-again c =
-    let l = c .before .before .before .loop in
-    let a = c .before .before .before .before .before .args in
-    (omega arith, l .inv .1 ∙ any-next (a .b .now) (l .from) (l .left) (c .before .before .loop-test .taken) (λ x. leb (a .v) x) (lt-leb _ _ (rw (c .before .word16 .ensures) at (c .if1 .left))))
+    let l = c .before .before .before in
+    let a = start l .args in
+    (omega arith, row-goes (a .b .now) (l .loop .from) (l .loop .left) _ (omega arith) _ (c .before .word16 .ensures) (λ x. leb (a .v) x) (l .loop .inv .1) (lt-leb _ _ (c .if1 .left)))
 
 returns-2 : tie.Need-returns-2 Inv-loop μ-loop
 returns-2 c =
-    let l = c .before .loop in
-    let a = c .before .before .before .args in
-    let none : l .left ≡ 0 = omega arith in
-    sym (l .inv .1 ∙ ap (λ k. anyOf (λ x. leb (a .v) x) (wordsFrom (a .b .now) (l .from) k)) none)
+    let l = c .before in
+    let a = start l .args in
+    row-ends (a .b .now) (l .loop .from) (l .loop .left) _ (omega arith) (λ x. leb (a .v) x) (l .loop .inv .1)
 
 pub beyond-spec : {M : Type 1} → statement M
 beyond-spec =
@@ -62,11 +49,11 @@ beyond-spec =
     Inv-loop
     μ-loop
     loop-holds
-    word16-requires
-    cast-x
+    (λ c κs. search needs)
+    (λ c. search needs)
     returns
-    add-from
-    sub-left
-    loop-less
+    (λ c. search needs)
+    (λ c. search needs)
+    (λ c. search needs)
     loop-again
     returns-2)

@@ -19,21 +19,6 @@ sized c =
     let pre = c .before .before .before .before .pre in
     (ap (λ k. a .p * k) (c .cell-size .ensures .0 ∙ ap cellBytes (c .before .dimension .ensures .0)), cell-room (a .b .now) (pre .0) (a .p) (pre .1))
 
-point-count-requires : tie.Need-point-count-requires
-point-count-requires c κs = search needs
-
-dimension-requires : tie.Need-dimension-requires
-dimension-requires c κs = search needs
-
-cell-size-requires : tie.Need-cell-size-requires
-cell-size-requires c κs = search needs
-
-mul-result : tie.Need-mul-result
-mul-result c = search needs
-
-add-result : tie.Need-add-result
-add-result c = search needs
-
 mul-result-2 : tie.Need-mul-result-2
 mul-result-2 c = record { fits = omega (arith, sized c) }
 
@@ -47,11 +32,11 @@ pub cell-at-spec : {M : Type 1} → statement M
 cell-at-spec =
     tie.close
     (tie.spec
-    point-count-requires
-    dimension-requires
-    cell-size-requires
-    mul-result
-    add-result
+    (λ c κs. search needs)
+    (λ c κs. search needs)
+    (λ c κs. search needs)
+    (λ c. search needs)
+    (λ c. search needs)
     mul-result-2
     add-result-2
     returns)

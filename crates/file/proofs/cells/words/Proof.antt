@@ -7,15 +7,6 @@ use Rattle.file.proofs.Parts.{product-below}
 use Rattle.file.proofs.cells.words.Statement.{statement}
 use Rattle.file.proofs.cells.words.Tie as tie
 
-cell-count-requires : tie.Need-cell-count-requires
-cell-count-requires c κs = search needs
-
-dimension-requires : tie.Need-dimension-requires
-dimension-requires c κs = search needs
-
-add-result : tie.Need-add-result
-add-result c = search needs
-
 mul-result : tie.Need-mul-result
 mul-result c =
     let small : c .dimension .result + 2 < 258 = omega (arith, c .dimension .ensures .1) in
@@ -26,4 +17,4 @@ returns c = ap₂ _*_ (c .before .cell-count .ensures .0) (ap (λ d. d + 2) (c .
 
 pub words-spec : {M : Type 1} → statement M
 words-spec =
-    tie.close (tie.spec cell-count-requires dimension-requires add-result mul-result returns)
+    tie.close (tie.spec (λ c κs. search needs) (λ c κs. search needs) (λ c. search needs) mul-result returns)

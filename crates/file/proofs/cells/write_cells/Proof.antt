@@ -1,94 +1,71 @@
 -- `write_cells` stores the cells: in each turn one more of those that are left is stored. Assumes nothing.
-use mathlib.Core.Path.{_≡_, refl, sym, ap₂, _∙_}
+use mathlib.Core.Path.{ap, _∙_}
 use mathlib.Core.List.{map}
-use Prim.Native.Nat.{suc, _≤_, _<_, _-_, _+_, _*_}
-use native.Mathlib.Nat.{zero-mul, add-mul, one-mul}
+use Prim.Native.Nat.{_≤_, _<_, _-_, _+_}
 use native.Mathlib.Omega.{arith}
-use lib.Seq.{sets}
-use lib.ListN.{length, drop}
+use lib.ListN.{length, drop, getD}
 use borrow.Author.Needs.{needs}
 use Rattle.words.specs.Records.{concat}
-use Rattle.words.proofs.Loops.{sets-front}
-use Rattle.complex.specs.Layout.{listSize, cellWords}
-use Rattle.file.specs.File.{dimensionOf, cellCountOf, fileCells}
-use Rattle.file.specs.Tests.{cellsLength, fileWords}
-use Rattle.file.proofs.Parts.{within-records}
-use Rattle.file.proofs.Stores.{words-count, cells-step, cells-end}
+use Rattle.words.specs.Placed.{placed, Put}
+use Rattle.words.proofs.Writing.{Left, left-starts, left-item, left-item-fits, left-items, put-first}
+use Rattle.records.specs.Layout.{cellWords}
+use Rattle.file.specs.File.{fileCells}
+use Rattle.file.specs.Tests.{fileWords}
+use Rattle.file.proofs.Parts.{noCell, cells-length, words-at}
+use Rattle.file.proofs.Stores.{one-length, words-count}
 use Rattle.file.proofs.cells.write_cells.Statement.{statement}
 use Rattle.file.proofs.cells.write_cells.Tie as tie
 
 abbrev Inv-loop : tie.InvT-loop
-Inv-loop b out₀ count m p₀ to₀ out p to =
-    (p ≤ count) × (to ≡ p * (m + 1)) × (length out ≡ length out₀) × (sets out₀ 0 (fileWords b) ≡ sets out to (concat (map cellWords (drop p (fileCells b)))))
+Inv-loop b out₀ count m p₀ to₀ out p to = (p ≤ count) × Left 0 (fileWords b) out₀ to (concat (map cellWords (drop p (fileCells b)))) out
 
 abbrev μ-loop : tie.MeasureT-loop
 μ-loop b out₀ count m p₀ to₀ out p to = count - p
 
+abbrev start : tie.At-loop Inv-loop μ-loop → tie.Start Inv-loop μ-loop
+start l = l .before .before .before .before .before
+
+abbrev turn : tie.After-write-cell Inv-loop μ-loop → tie.In-loop Inv-loop μ-loop
+turn c = c .before .before .before
+
 -- the cell that is written has room
 room : (c : tie.In-loop Inv-loop μ-loop) → c .before .loop .to + (c .before .before .dimension .result + 1 + 1) ≤ length (c .before .loop .out)
 room c =
-    let s = c .before .before .before .before .before .before in
+    let l = c .before in
+    let s = start l in
     let b = s .args .b .now in
-    let size : c .before .before .dimension .result + 1 + 1 ≡ listSize (dimensionOf b) = omega (arith, c .before .before .dimension .ensures .0) in
-    let all : c .before .before .before .cell-count .result * (c .before .before .dimension .result + 1 + 1) ≡ cellsLength b =
-    ap₂ _*_ (c .before .before .before .cell-count .ensures .0) size in
-    omega (arith, within-records (c .before .before .dimension .result + 1 + 1) (c .before .loop .p) (c .before .before .before .cell-count .result) (c .loop-test .taken), s .pre .1, c .before .loop .inv)
-
-cell-count-requires : tie.Need-cell-count-requires Inv-loop μ-loop
-cell-count-requires c κs = search needs
-
-dimension-requires : tie.Need-dimension-requires Inv-loop μ-loop
-dimension-requires c κs = search needs
-
-add-m : tie.Need-add-m Inv-loop μ-loop
-add-m c = search needs
+    let here : l .loop .p < length (fileCells b) = omega (arith, cells-length b) in
+    omega (arith, left-item-fits cellWords noCell (fileCells b) (l .loop .p) here (l .loop .inv .1), one-length b (s .pre .0) (l .loop .p) (omega arith))
 
 loop-holds : tie.Need-loop-holds Inv-loop μ-loop
 unfolding fileWords
-loop-holds c = (omega arith, sym (zero-mul _), refl, refl)
-
-cell-at-requires : tie.Need-cell-at-requires Inv-loop μ-loop
-cell-at-requires c κs = search needs
+loop-holds c =
+    let s = c .before .before .before .before in
+    (omega arith, left-starts 0 _ _ (omega (arith, words-count (s .args .b .now) (s .pre .0))))
 
 write-cell-requires : tie.Need-write-cell-requires Inv-loop μ-loop
-write-cell-requires c κs = (omega (arith, c .before .cell-at .ensures .1, c .before .before .before .before .dimension .ensures .0), omega (arith, room (c .before .before)))
-
-add-to : tie.Need-add-to Inv-loop μ-loop
-add-to c = search needs
+write-cell-requires c κs = (omega arith, omega (arith, room (c .before .before)))
 
 add-to-2 : tie.Need-add-to-2 Inv-loop μ-loop
-add-to-2 c = record { fits = omega (arith, room (c .before .before .before .before .before), c .before .before .before .before .before .before .before .before .before .before .before .good .1 .0 .0) }
-
-add-p : tie.Need-add-p Inv-loop μ-loop
-add-p c = search needs
-
-loop-less : tie.Need-loop-less Inv-loop μ-loop
-loop-less c = search needs
+add-to-2 c = let t = turn (c .before .before) in record { fits = omega (arith, room t, start (t .before) .good .1 .0 .0) }
 
 loop-again : tie.Need-loop-again Inv-loop μ-loop
 loop-again c =
-    let s = c .before .before .before .before .before .before .before .before .before .before .before in
-    let l = c .before .before .before .before .before .before .loop in
+    let l = turn (c .before .before) .before in
+    let s = start l in
     let b = s .args .b .now in
-    let m = c .before .before .before .before .before .before .before .dimension .result + 1 in
-    let h : l .p < cellCountOf b = omega (arith, c .before .before .before .before .before .before .before .before .cell-count .ensures .0) in
-    let k : m ≡ suc (dimensionOf b) = omega (arith, c .before .before .before .before .before .before .before .dimension .ensures .0) in (
-      omega arith,
-      omega (arith, add-mul (l .p) 1 (m + 1), one-mul (m + 1)),
-      c .before .before .write-cell .kept .1 .1 .1 .0 ∙ l .inv .2,
-      l .inv .3 ∙ cells-step b (s .pre .0) (l .p) h _ m (c .before .before .before .before .cell-at .ensures .0) k (l .out) (l .to) _ (c .before .before .write-cell .ensures),
-    )
-
-same-length : tie.Need-same-length Inv-loop μ-loop
-same-length c = search needs
+    let p = l .loop .p in
+    let here : p < length (fileCells b) = omega (arith, cells-length b) in
+    let words = words-at b (s .pre .0) p (omega arith) _ (l .before .dimension .result + 1) (c .before .before .before .before .cell-at .ensures .0) (omega arith) in
+    let put : Put (l .loop .to) (cellWords (getD (fileCells b) p noCell)) (l .loop .out) (l .loop .to + (l .before .dimension .result + 1 + 1)) (c .before .before .write-cell .last .1 .1 .1 .0) =
+    record { place = omega (arith, one-length b (s .pre .0) p (omega arith)); content = c .before .before .write-cell .ensures ∙ ap (λ ws. placed (l .loop .to) ws (l .loop .out)) words } in
+    (omega arith, left-item cellWords noCell (fileCells b) p here (l .loop .inv .1) _ _ put)
 
 returns : tie.Need-returns Inv-loop μ-loop
 returns c =
-    let s = c .before .before .before .before .before .before in
-    let l = c .before .loop in
-    let b = s .args .b .now in
-    sym (l .inv .3 ∙ cells-end b (s .pre .0) (l .p) (omega (arith, c .before .before .before .cell-count .ensures .0)) (l .out) (l .to))
-    ∙ sets-front (s .args .out .now) (fileWords b) (omega (arith, words-count b (s .pre .0), s .pre .1))
+    let l = c .before in
+    let b = start l .args .b .now in
+    put-first (left-items cellWords (fileCells b) (l .loop .p) (omega (arith, cells-length b)) (l .loop .inv .1))
 
 pub write-cells-spec : {M : Type 1} → statement M
 write-cells-spec =
@@ -96,16 +73,16 @@ write-cells-spec =
     (tie.spec
     Inv-loop
     μ-loop
-    cell-count-requires
-    dimension-requires
-    add-m
+    (λ c κs. search needs)
+    (λ c κs. search needs)
+    (λ c. search needs)
     loop-holds
-    cell-at-requires
+    (λ c κs. search needs)
     write-cell-requires
-    add-to
+    (λ c. search needs)
     add-to-2
-    add-p
-    loop-less
+    (λ c. search needs)
+    (λ c. search needs)
     loop-again
-    same-length
+    (λ c. search needs)
     returns)

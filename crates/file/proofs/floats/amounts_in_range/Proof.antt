@@ -1,38 +1,13 @@
 -- `amounts_in_range` tests the three floats of the header. Assumes nothing.
-use mathlib.Core.Path.{refl, sym, _∙_}
-use mathlib.Core.Bool.{and-true}
+use mathlib.Core.Path.{sym, ap₂, _∙_}
+use mathlib.Core.Bool.{_&&_, and-true}
 use borrow.Author.Needs.{needs}
 use Rattle.file.proofs.floats.amounts_in_range.Statement.{statement}
 use Rattle.file.proofs.floats.amounts_in_range.Tie as tie
 
-in-range-requires : tie.Need-in-range-requires
-in-range-requires c κs = search needs
-
-in-range-requires-2 : tie.Need-in-range-requires-2
-in-range-requires-2 c κs = search needs
-
-in-range-requires-3 : tie.Need-in-range-requires-3
-in-range-requires-3 c κs = search needs
-
 returns : tie.Need-returns
-returns c =
-    rw (sym (c .before .before .before .before .in-range .ensures) ∙ c .before .before .before .if1 .taken, sym (c .before .before .in-range2 .ensures) ∙ c .before .if2 .taken)
-    (c .in-range3 .ensures ∙ sym (and-true _))
-
-returns-2 : tie.Need-returns-2
-returns-2 c =
-    rw (sym (c .before .before .before .in-range .ensures) ∙ c .before .before .if1 .taken, sym (c .before .in-range2 .ensures) ∙ c .if2 .left) refl
-
-returns-3 : tie.Need-returns-3
-returns-3 c = rw (sym (c .before .in-range .ensures) ∙ c .if1 .left) refl
+returns c = ap₂ _&&_ (c .before .before .in-range .ensures) (ap₂ _&&_ (c .before .in-range2 .ensures) (c .in-range3 .ensures ∙ sym (and-true _)))
 
 pub amounts-in-range-spec : {M : Type 1} → statement M
 amounts-in-range-spec =
-    tie.close
-    (tie.spec
-    in-range-requires
-    in-range-requires-2
-    in-range-requires-3
-    returns
-    returns-2
-    returns-3)
+    tie.close (tie.spec (λ c κs. search needs) (λ c κs. search needs) (λ c κs. search needs) returns)

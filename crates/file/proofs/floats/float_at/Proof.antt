@@ -7,9 +7,6 @@ use Rattle.file.proofs.Range.{bits-no-nan}
 use Rattle.file.proofs.floats.float_at.Statement.{statement}
 use Rattle.file.proofs.floats.float_at.Tie as tie
 
-word64-requires : tie.Need-word64-requires
-word64-requires c κs = search needs
-
 float-from-bits-result : tie.Need-float-from-bits-result
 float-from-bits-result c =
     bits-no-nan _ (ap (λ n. inRange (ofBits binary64 n)) (c .word64 .ensures) ∙ c .before .before .pre .1)
@@ -18,4 +15,4 @@ returns : tie.Need-returns
 returns c = ap (ofBits binary64) (c .word64 .ensures)
 
 pub float-at-spec : {M : Type 1} → statement M
-float-at-spec = tie.close (tie.spec word64-requires float-from-bits-result returns)
+float-at-spec = tie.close (tie.spec (λ c κs. search needs) float-from-bits-result returns)

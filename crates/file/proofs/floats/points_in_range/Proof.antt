@@ -1,12 +1,13 @@
 -- `points_in_range` tests the points: what is left of them decides. Assumes nothing.
-use mathlib.Core.Path.{_≡_, refl, sym, ap, _∙_}
-use Prim.Native.Nat.{_≤_, _<_, _-_}
+use mathlib.Core.Path.{_≡_, refl}
+use mathlib.Core.List.{List}
+use Prim.Native.Nat.{ℕ, _≤_, _-_}
 use native.Mathlib.Omega.{arith}
 use lib.Ieee.{nan}
-use lib.ListN.{length, getD, drop}
+use lib.ListN.{drop}
 use borrow.Author.Needs.{needs}
 use Rattle.words.specs.Records.{allOf}
-use Rattle.words.proofs.Loops.{all-pass, all-fail, all-end}
+use Rattle.words.proofs.Loops.{all-goes, all-stops, all-ends}
 use Rattle.points.specs.Step.{inRange}
 use Rattle.file.specs.File.{filePoints}
 use Rattle.file.proofs.Parts.{points-length, point-at}
@@ -19,54 +20,30 @@ Inv-loop b count k₀ k = (k ≤ count) × (allOf inRange (filePoints b) ≡ all
 abbrev μ-loop : tie.MeasureT-loop
 μ-loop b count k₀ k = count - k
 
--- float k of the points is tested
-below : (c : tie.After-in-range Inv-loop μ-loop) → c .before .before .loop .k < length (filePoints (c .before .before .before .before .before .args .b .now))
-below c = omega (arith, points-length (c .before .before .before .before .before .args .b .now), c .before .before .before .point-count .ensures .0)
-
-here : (c : tie.After-in-range Inv-loop μ-loop) →
-    inRange (getD (filePoints (c .before .before .before .before .before .args .b .now)) (c .before .before .loop .k) nan) ≡ c .in-range .result
-here c =
-    let b = c .before .before .before .before .before .args .b .now in
-    ap inRange (point-at b (c .before .before .loop .k) (omega (arith, c .before .before .before .point-count .ensures .0))) ∙ sym (c .in-range .ensures)
-
-point-count-requires : tie.Need-point-count-requires Inv-loop μ-loop
-point-count-requires c κs = search needs
-
 loop-holds : tie.Need-loop-holds Inv-loop μ-loop
 loop-holds c = (search needs, refl)
 
-mul-in-range : tie.Need-mul-in-range Inv-loop μ-loop
-mul-in-range c = search needs
+-- what is left of the points where one of their floats is tested
+abbrev looked : tie.After-in-range Inv-loop μ-loop → tie.At-loop Inv-loop μ-loop
+looked c = c .before .before
 
-add-in-range : tie.Need-add-in-range Inv-loop μ-loop
-add-in-range c = search needs
-
-in-range-requires : tie.Need-in-range-requires Inv-loop μ-loop
-in-range-requires c κs = search needs
-
-add-k : tie.Need-add-k Inv-loop μ-loop
-add-k c = search needs
-
-loop-less : tie.Need-loop-less Inv-loop μ-loop
-loop-less c = search needs
+abbrev bytes : tie.At-loop Inv-loop μ-loop → List ℕ
+bytes c = c .before .before .before .args .b .now
 
 loop-again : tie.Need-loop-again Inv-loop μ-loop
 loop-again c =
-    let l = c .before .before .before .loop in
-    let b = c .before .before .before .before .before .before .args .b .now in
-    (omega arith, l .inv .1 ∙ all-pass inRange nan (filePoints b) (l .k) (below (c .before)) (here (c .before) ∙ c .if1 .taken))
+    let l = looked (c .before) in
+    let b = bytes l in
+    (omega arith, all-goes inRange nan (filePoints b) _ (l .loop .k) (points-length b) (omega arith) _ (point-at b _ (omega arith)) _ (cc) (l .loop .inv .1))
 
 returns : tie.Need-returns Inv-loop μ-loop
 returns c =
-    let l = c .before .before .before .loop in
-    let b = c .before .before .before .before .before .before .args .b .now in
-    sym (l .inv .1 ∙ all-fail inRange nan (filePoints b) (l .k) (below (c .before)) (here (c .before) ∙ c .if1 .left))
+    let l = looked (c .before) in
+    let b = bytes l in
+    all-stops inRange nan (filePoints b) _ (l .loop .k) (points-length b) (omega arith) _ (point-at b _ (omega arith)) _ (cc) (l .loop .inv .1)
 
 returns-2 : tie.Need-returns-2 Inv-loop μ-loop
-returns-2 c =
-    let l = c .before .loop in
-    let b = c .before .before .before .before .args .b .now in
-    sym (l .inv .1 ∙ all-end inRange (filePoints b) (l .k) (omega (arith, points-length b, c .before .before .point-count .ensures .0)))
+returns-2 c = let l = c .before in all-ends inRange nan (filePoints (bytes l)) _ (l .loop .k) (points-length (bytes l)) (omega arith) _ (l .loop .inv .1)
 
 pub points-in-range-spec : {M : Type 1} → statement M
 points-in-range-spec =
@@ -74,13 +51,13 @@ points-in-range-spec =
     (tie.spec
     Inv-loop
     μ-loop
-    point-count-requires
+    (λ c κs. search needs)
     loop-holds
-    mul-in-range
-    add-in-range
-    in-range-requires
-    add-k
-    loop-less
+    (λ c. search needs)
+    (λ c. search needs)
+    (λ c κs. search needs)
+    (λ c. search needs)
+    (λ c. search needs)
     loop-again
     returns
     returns-2)

@@ -1,5 +1,5 @@
 -- `step` answers `stepOf`, kind by kind. Assumes nothing.
-use mathlib.Core.Path.{_≡_, sym, _∙_}
+use mathlib.Core.Path.{_≡_}
 use mathlib.Core.Bool.{true}
 use Prim.Native.Nat.{ℕ, _<_}
 use native.Mathlib.Omega.{arith}
@@ -14,59 +14,44 @@ use Rattle.file.proofs.StepKinds.{slide-of, slant-of, turn-of}
 use Rattle.file.proofs.step.step.Statement.{statement}
 use Rattle.file.proofs.step.step.Tie as tie
 
+abbrev start : tie.After-byte-at2 → tie.Start
+start c = c .before .before .before
+
+abbrev second : tie.After-float-at2 → tie.After-byte-at2
+second c = c .before .before .before
+
 -- each of the three floats is in range
-amounts : (c : tie.Start) →
-    (inRange (amountOf (c .args .b .now) 0) ≡ true) × (inRange (amountOf (c .args .b .now) 1) ≡ true) × (inRange (amountOf (c .args .b .now) 2) ≡ true)
-amounts c =
-    let at : (k : ℕ) → k < 3 → inRange (getD (tabulate 3 (amountOf (c .args .b .now))) k nan) ≡ true =
-    λ k. all-at inRange nan (tabulate 3 (amountOf (c .args .b .now))) k (c .pre .1) in
-    (at 0 (omega arith), at 1 (omega arith), at 2 (omega arith))
-
-byte-at-requires : tie.Need-byte-at-requires
-byte-at-requires c κs = search needs
-
-byte-at-requires-2 : tie.Need-byte-at-requires-2
-byte-at-requires-2 c κs = search needs
+amount : (c : tie.Start) (k : ℕ) → k < 3 → inRange (getD (tabulate 3 (amountOf (c .args .b .now))) k nan) ≡ true
+amount c k h = all-at inRange nan (tabulate 3 (amountOf (c .args .b .now))) k (c .pre .1) h
 
 float-at-requires : tie.Need-float-at-requires
-float-at-requires c κs = (omega (arith, c .before .before .before .pre .0), amounts (c .before .before .before) .0)
+float-at-requires c κs = (omega arith, amount (start c) 0 (omega arith))
 
 returns : tie.Need-returns
-returns c =
-    rw (c .before .before .byte-at2 .ensures .0, c .before .float-at .ensures)
-    (sym (slide-of (c .before .before .before .before .before .args .b .now) (sym (c .before .before .before .byte-at .ensures .0) ∙ c .if1 .taken)))
+returns c = cc (slide-of (start (c .before .before) .args .b .now) (cc))
 
 float-at-requires-2 : tie.Need-float-at-requires-2
-float-at-requires-2 c κs = (omega (arith, c .before .before .before .before .before .pre .0), amounts (c .before .before .before .before .before) .1)
-
-byte-at-requires-3 : tie.Need-byte-at-requires-3
-byte-at-requires-3 c κs = search needs
+float-at-requires-2 c κs = (omega arith, amount (start (c .before .before)) 1 (omega arith))
 
 returns-2 : tie.Need-returns-2
-returns-2 c =
-    let k = c .before .before .before .before .before .before .byte-at .ensures .0 in
-    rw (c .before .before .before .before .before .byte-at2 .ensures .0, c .before .before .before .before .float-at .ensures, c .byte-at3 .ensures .0, c .before .before .float-at2 .ensures)
-    (sym (slant-of (c .before .before .before .before .before .before .before .before .args .b .now) (λ e. c .before .before .before .if1 .left (k ∙ e)) (sym k ∙ c .before .if2 .taken)))
+returns-2 c = cc (slant-of (start (second (c .before .before)) .args .b .now) (λ e. omega arith) (cc))
 
 float-at-requires-3 : tie.Need-float-at-requires-3
-float-at-requires-3 c κs = (omega (arith, c .before .before .before .before .before .before .before .pre .0), amounts (c .before .before .before .before .before .before .before) .2)
+float-at-requires-3 c κs = (omega arith, amount (start (second (c .before))) 2 (omega arith))
 
 returns-3 : tie.Need-returns-3
-returns-3 c =
-    let k = c .before .before .before .before .before .before .byte-at .ensures .0 in
-    rw (c .before .before .before .before .float-at .ensures, c .before .before .float-at2 .ensures, c .float-at3 .ensures)
-    (sym (turn-of (c .before .before .before .before .before .before .before .before .args .b .now) (λ e. c .before .before .before .if1 .left (k ∙ e)) (λ e. c .before .if2 .left (k ∙ e))))
+returns-3 c = cc (turn-of (start (second (c .before .before)) .args .b .now) (λ e. omega arith) (λ e. omega arith))
 
 pub step-spec : {M : Type 1} → statement M
 step-spec =
     tie.close
     (tie.spec
-    byte-at-requires
-    byte-at-requires-2
+    (λ c κs. search needs)
+    (λ c κs. search needs)
     float-at-requires
     returns
     float-at-requires-2
-    byte-at-requires-3
+    (λ c κs. search needs)
     returns-2
     float-at-requires-3
     returns-3)

@@ -1,32 +1,12 @@
 -- `step_unfit` answers row 5. Assumes nothing.
-use mathlib.Core.Path.{refl, sym, ap₂, _∙_}
 use borrow.Author.Needs.{needs}
-use Rattle.points.specs.Step.{stepFits}
 use Rattle.file.proofs.step.step_unfit.Statement.{statement}
 use Rattle.file.proofs.step.step_unfit.Tie as tie
 
-axes-requires : tie.Need-axes-requires
-axes-requires c κs = search needs
-
-step-requires : tie.Need-step-requires
-step-requires c κs = search needs
-
-fits-requires : tie.Need-fits-requires
-fits-requires c κs = search needs
-
-unused-set-requires : tie.Need-unused-set-requires
-unused-set-requires c κs = search needs
-
 returns : tie.Need-returns
-returns c =
-    rw (ap₂ stepFits (sym (c .before .before .before .before .axes .ensures .0)) (sym (c .before .before .before .step .ensures)) ∙ sym (c .before .before .fits2 .ensures) ∙ c .before .if1 .taken)
-    (c .unused-set .ensures)
-
-returns-2 : tie.Need-returns-2
-returns-2 c =
-    rw (ap₂ stepFits (sym (c .before .before .before .axes .ensures .0)) (sym (c .before .before .step .ensures)) ∙ sym (c .before .fits2 .ensures) ∙ c .if1 .left) refl
+returns c = cc
 
 pub step-unfit-spec : {M : Type 1} → statement M
 step-unfit-spec =
     tie.close
-    (tie.spec axes-requires step-requires fits-requires unused-set-requires returns returns-2)
+    (tie.spec (λ c κs. search needs) (λ c κs. search needs) (λ c κs. search needs) (λ c κs. search needs) returns)

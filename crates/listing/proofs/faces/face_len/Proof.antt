@@ -1,106 +1,67 @@
--- `faces::face_len` meets its contract. Assumes nothing.
-use Prim.Native.Nat.{_-_}
+-- A face's line has a sign, the fields of its vertices and a line feed. Assumes nothing.
+use mathlib.Core.Path.{_≡_, sym, ap, _∙_}
+use Prim.Native.Nat.{_+_, _≤_}
 use native.Mathlib.Omega.{arith}
-use Rattle.listing.proofs.FaceText.{face-sum, face-length}
+use lib.ListN.{length, take}
 use borrow.Author.Needs.{needs}
+use Rattle.simplex.specs.Cell.{Cell}
+use Rattle.boundary.specs.Walk.{faceAt}
+use Rattle.boundary.proofs.FaceWords.{face-row}
+use Rattle.printing.specs.Fields.{fields}
+use Rattle.listing.specs.Lines.{faceLine}
+use Rattle.listing.proofs.FaceText.{line-length, line-short}
 use Rattle.listing.proofs.faces.face_len.Statement.{statement}
 use Rattle.listing.proofs.faces.face_len.Tie as tie
 
-add-first : tie.Need-add-first
-add-first c = search needs
+abbrev start : tie.After-fill-row → tie.Start
+start c = c .before .before .before
 
-add-skip : tie.Need-add-skip
-add-skip c = search needs
+abbrev here : tie.After-fill-row → Cell
+here c = let a = start c .args in faceAt (a .d) (a .table .now) (a .p) (a .a)
 
-add-next : tie.Need-add-next
-add-next c = search needs
+-- the row that is lent
+long : (c : tie.After-fill-row) → length (take (start c .args .d) (c .fill-row .last .1 .1 .1 .1 .1 .0)) ≡ start c .args .d
+long c =
+    let s = start c in
+    ap length (c .fill-row .ensures) ∙ face-row (s .args .d) (s .args .s) (s .args .table .now) (s .args .p) (s .pre .0) (s .args .a) (s .pre .1)
 
-add-last : tie.Need-add-last
-add-last c = search needs
+size : (c : tie.After-fields-len) → (2 + c .fields-len .result ≡ length (faceLine (here (c .before .before .before)))) × (2 + c .fields-len .result ≤ 256)
+size c =
+    let f = here (c .before .before .before) in
+    let row = c .before .before .before .fill-row .ensures in
+    let count = c .fields-len .ensures ∙ ap (λ ws. length (fields ws)) row in
+    let l = long (c .before .before .before) in
+    (omega (arith, line-length f), omega (arith, line-length f, line-short f (omega (arith, ap length row))))
 
-add-last-2 : tie.Need-add-last-2
-add-last-2 c = search needs
+slice-aggregate-fill-row : tie.Need-slice-aggregate-fill-row
+slice-aggregate-fill-row c = search needs
 
-mul-fields-len : tie.Need-mul-fields-len
-mul-fields-len c = search needs
+fill-row-requires : tie.Need-fill-row-requires
+fill-row-requires c κs = search needs
 
-sub-fields-len : tie.Need-sub-fields-len
-sub-fields-len c = search needs
+array-share-prefix-row : tie.Need-array-share-prefix-row
+array-share-prefix-row c = search needs
 
-part-fields-len-start : tie.Need-part-fields-len-start
-part-fields-len-start c = search needs
-
-part-fields-len-end : tie.Need-part-fields-len-end
-part-fields-len-end c = search needs
+slice-aggregate-fields-len : tie.Need-slice-aggregate-fields-len
+slice-aggregate-fields-len c = sym (long (c .before .before))
 
 fields-len-requires : tie.Need-fields-len-requires
-fields-len-requires c κs = search needs
+fields-len-requires c κs = omega (arith, long (c .before .before))
 
 add-result : tie.Need-add-result
-add-result c =
-    let start = c .before .before .before in
-    omega (
-      arith,
-      c .fields-len .ensures,
-      face-sum (start .args .d) (start .args .base) (start .args .table .now) (start .pre .inside) (start .args .i) (start .pre .position),
-      face-length (start .args .d) (start .args .base) (start .args .table .now) (start .pre .inside) (start .args .i) (start .pre .position),
-    )
-
-mul-fields-len-2 : tie.Need-mul-fields-len-2
-mul-fields-len-2 c = search needs
-
-sub-fields-len-2 : tie.Need-sub-fields-len-2
-sub-fields-len-2 c = search needs
-
-part-fields-len-start-2 : tie.Need-part-fields-len-start-2
-part-fields-len-start-2 c = search needs
-
-part-fields-len-end-2 : tie.Need-part-fields-len-end-2
-part-fields-len-end-2 c = search needs
-
-fields-len-requires-2 : tie.Need-fields-len-requires-2
-fields-len-requires-2 c κs = search needs
-
-add-result-2 : tie.Need-add-result-2
-add-result-2 c =
-    let start = c .before .before .before .before .before in
-    omega (
-      arith,
-      c .before .before .fields-len .ensures,
-      c .fields-len2 .ensures,
-      face-sum (start .args .d) (start .args .base) (start .args .table .now) (start .pre .inside) (start .args .i) (start .pre .position),
-      face-length (start .args .d) (start .args .base) (start .args .table .now) (start .pre .inside) (start .args .i) (start .pre .position),
-    )
+add-result c = omega (arith, size c .1)
 
 returns : tie.Need-returns
-returns c =
-    let start = c .before .before .before .before .before in
-    omega (
-      arith,
-      c .before .before .fields-len .ensures,
-      c .fields-len2 .ensures,
-      face-sum (start .args .d) (start .args .base) (start .args .table .now) (start .pre .inside) (start .args .i) (start .pre .position),
-    )
+returns c = size c
 
 pub face-len-spec : {M : Type 1} → statement M
 face-len-spec =
     tie.close
     (tie.spec
-    add-first
-    add-skip
-    add-next
-    add-last
-    add-last-2
-    mul-fields-len
-    sub-fields-len
-    part-fields-len-start
-    part-fields-len-end
+    slice-aggregate-fill-row
+    fill-row-requires
+    array-share-prefix-row
+    slice-aggregate-fields-len
     fields-len-requires
     add-result
-    mul-fields-len-2
-    sub-fields-len-2
-    part-fields-len-start-2
-    part-fields-len-end-2
-    fields-len-requires-2
-    add-result-2
     returns)

@@ -1,95 +1,88 @@
--- `faces::faces_size` meets its contract: what is counted and what is left make the whole. Assumes nothing.
-use mathlib.Core.List.{List}
-use mathlib.Core.Path.{ap, _∙_, _≡_}
-use Prim.Native.Nat.{_≤_, _-_, _+_, _*_}
+-- What is counted and what is left make the whole. Assumes nothing.
+use mathlib.Core.Path.{_≡_, sym, ap, _∙_}
+use mathlib.Core.List.{_∷_}
+use Prim.Native.Nat.{_+_, _*_, _≤_}
 use native.Mathlib.Omega.{arith}
-use lib.ListN.{drop, length-append, length}
+use lib.ListN.{length, length-append}
 use borrow.Author.Needs.{needs}
-use Rattle.simplex.specs.Cell.{Cell}
-use Rattle.complex.specs.Layout.{recordSize, entriesOf}
-use Rattle.boundary.specs.Boundary.{boundaryOf}
-use Rattle.listing.specs.Parts.{recordAt, boundaryFaces, facesOf}
-use Rattle.listing.specs.Lines.{faceLines}
-use Rattle.listing.proofs.TableFaces.{entries-rest, entries-over, flat-none, lines-append, record-within}
+use Rattle.boundary.specs.Walk.{faceAt, tableFaces, facesFrom, AtFace}
+use Rattle.boundary.proofs.Sizes.{faces-few}
+use Rattle.boundary.proofs.Walking.{from-start, from-end, face-next}
+use Rattle.listing.specs.Lines.{faceLine, faceLines}
 use Rattle.listing.proofs.faces.faces_size.Statement.{statement}
 use Rattle.listing.proofs.faces.faces_size.Tie as tie
 
 abbrev Inv-loop : tie.InvT-loop
-Inv-loop d s table count₀ bytes₀ size p₀ count bytes p = (p ≤ s) × (count ≤ 8 * p) × (bytes ≤ 2048 * p)
-    × (count + length (boundaryOf (drop p (entriesOf d s table))) ≡ length (facesOf d s table))
-    × (bytes + length (faceLines (boundaryOf (drop p (entriesOf d s table)))) ≡ length (faceLines (facesOf d s table)))
+Inv-loop d s table count₀ bytes₀ at₀ count bytes at = AtFace d s table (at .cell) (at .position) × (bytes ≤ 256 * count)
+    × (count + length (facesFrom d s table (at .cell) (at .position)) ≡ length (tableFaces d s table))
+    × (bytes + length (faceLines (facesFrom d s table (at .cell) (at .position))) ≡ length (faceLines (tableFaces d s table)))
 
 abbrev μ-loop : tie.MeasureT-loop
-μ-loop d s table count₀ bytes₀ size p₀ count bytes p = s - p
+μ-loop d s table count₀ bytes₀ at₀ count bytes at = length (facesFrom d s table (at .cell) (at .position))
 
-returns : tie.Need-returns Inv-loop μ-loop
-returns c =
-    let start = c .before .before in
-    let none = flat-none (start .args .d) (start .args .s) (start .args .table .now) (c .if1 .taken) in
-    (record { faces = omega (arith, ap length none); bytes = omega (arith, ap (λ (fs : List Cell). length (faceLines fs)) none) }, (omega arith, omega arith))
+few : (c : tie.Start Inv-loop μ-loop) → length (tableFaces (c .args .d) (c .args .s) (c .args .table .now)) ≤ 32768
+few c = faces-few (c .args .d) (c .args .s) (c .args .table .now) (c .pre)
 
-add-size : tie.Need-add-size Inv-loop μ-loop
-add-size c = search needs
+-- the face that is counted, and those behind it
+next : (c : tie.After-next-face2 Inv-loop μ-loop) →
+    let turn = c .before .before .before .before .before in
+    let a = turn .before .before .before .args in
+    let at = turn .loop .at in
+    facesFrom (a .d) (a .s) (a .table .now) (at .cell) (at .position)
+    ≡ faceAt (a .d) (a .table .now) (at .cell) (at .position) ∷ facesFrom (a .d) (a .s) (a .table .now) (c .next-face2 .result .cell) (c .next-face2 .result .position)
+next c =
+    let turn = c .before .before .before .before .before in
+    let s = turn .before .before .before in
+    face-next (s .args .d) (s .args .s) (s .args .table .now) (s .pre) _ _ (turn .loop .inv .0) (omega arith) ∙ rw (c .next-face2 .ensures .same)
 
-add-size-2 : tie.Need-add-size-2 Inv-loop μ-loop
-add-size-2 c = search needs
+next-face-requires : tie.Need-next-face-requires Inv-loop μ-loop
+next-face-requires c κs = search needs
 
 loop-holds : tie.Need-loop-holds Inv-loop μ-loop
-loop-holds c = (omega arith, omega arith, omega arith, omega arith, omega arith)
-
-mul-cell-size : tie.Need-mul-cell-size Inv-loop μ-loop
-mul-cell-size c =
-    let start = c .before .before .before .before in
-    let w = record-within (start .args .d) (start .args .s) (c .before .loop .p) (start .args .table .now) (omega (arith, c .before .before .if1 .left)) (start .pre) (c .loop-test .taken) in omega (arith, w .within)
-
-cell-size-requires : tie.Need-cell-size-requires Inv-loop μ-loop
-cell-size-requires c κs =
-    let start = c .before .before .before .before in
-    record-within (start .args .d) (start .args .s) (c .before .loop .p) (start .args .table .now) (omega (arith, c .before .before .if1 .left)) (start .pre) (c .loop-test .taken)
+loop-holds c =
+    let a = c .before .before .args in
+    let n = c .next-face .ensures in
+    let all = sym (from-start (a .d) (a .s) (a .table .now)) ∙ n .same in
+    (n .place, omega arith, omega (arith, ap length all), omega (arith, ap (λ fs. length (faceLines fs)) all))
 
 add-count : tie.Need-add-count Inv-loop μ-loop
-add-count c =
-    let turn = c .before .before .before in
-    omega (arith, c .before .cell-size .ensures .1 .0, turn .loop .inv .1, turn .loop .inv .0, c .before .before .before .before .before .before .pre .cells)
+add-count c = omega (arith, few (c .before .before .before .before .before))
+
+face-len-requires : tie.Need-face-len-requires Inv-loop μ-loop
+face-len-requires c κs =
+    (record { table = c .before .before .before .before .before .pre; number = omega arith }, c .before .before .loop .inv .0 .position (omega arith))
 
 add-bytes : tie.Need-add-bytes Inv-loop μ-loop
-add-bytes c =
-    let turn = c .before .before .before .before in
-    omega (arith, c .before .before .cell-size .ensures .1 .1, turn .loop .inv .2, turn .loop .inv .0, c .before .before .before .before .before .before .before .pre .cells)
+add-bytes c = omega (arith, few (c .before .before .before .before .before .before))
 
-add-p : tie.Need-add-p Inv-loop μ-loop
-add-p c = search needs
+add-next-face : tie.Need-add-next-face Inv-loop μ-loop
+add-next-face c = omega (arith, c .before .before .before .before .loop .inv .0 .position (omega arith))
+
+next-face-requires-2 : tie.Need-next-face-requires-2 Inv-loop μ-loop
+next-face-requires-2 c κs = search needs
 
 loop-less : tie.Need-loop-less Inv-loop μ-loop
-loop-less c = search needs
+loop-less c = omega (arith, ap length (next c))
 
 loop-again : tie.Need-loop-again Inv-loop μ-loop
 loop-again c =
-    let start = c .before .before .before .before .before .before .before in
-    let turn = c .before .before .before .before in
-    let d = start .args .d in
-    let s = start .args .s in
-    let ws = start .args .table .now in
-    let p = turn .loop .p in
-    let rest = entries-rest d s ws p (c .before .before .before .loop-test .taken) in
-    let here = boundaryFaces (recordAt d (p * recordSize d) ws) in
-    let later = boundaryOf (drop (p + 1) (entriesOf d s ws)) in
-    let size = c .before .before .cell-size .ensures .0 in
-    let count = ap length rest ∙ length-append here later in
-    let bytes = ap (λ (fs : List Cell). length (faceLines fs)) rest ∙ ap length (lines-append here later) ∙ length-append (faceLines here) (faceLines later) in (
+    let turn = c .before .before .before .before .before in
+    let a = turn .before .before .before .args in
+    let later = facesFrom (a .d) (a .s) (a .table .now) (c .next-face2 .result .cell) (c .next-face2 .result .position) in
+    let here = faceLine (faceAt (a .d) (a .table .now) (turn .loop .at .cell) (turn .loop .at .position)) in (
+      c .next-face2 .ensures .place,
       omega arith,
-      omega (arith, c .before .before .cell-size .ensures .1 .0, turn .loop .inv .1),
-      omega (arith, c .before .before .cell-size .ensures .1 .1, turn .loop .inv .2),
-      omega (arith, size .faces, turn .loop .inv .3, count),
-      omega (arith, size .bytes, turn .loop .inv .4, bytes),
+      omega (arith, ap length (next c)),
+      omega (arith, ap (λ fs. length (faceLines fs)) (next c), length-append here (faceLines later)),
     )
 
-returns-2 : tie.Need-returns-2 Inv-loop μ-loop
-returns-2 c =
-    let start = c .before .before .before .before in
-    let over = entries-over (start .args .d) (start .args .s) (start .args .table .now) (c .before .loop .p) (c .loop-test .left) in (
-      record { faces = omega (arith, c .before .loop .inv .3, ap length over); bytes = omega (arith, c .before .loop .inv .4, ap (λ (fs : List Cell). length (faceLines fs)) over) },
-      (omega (arith, c .before .loop .inv .0, c .before .loop .inv .1, start .pre .cells), omega (arith, c .before .loop .inv .0, c .before .loop .inv .2, start .pre .cells)),
+returns : tie.Need-returns Inv-loop μ-loop
+returns c =
+    let turn = c .before .before in
+    let s = turn .before .before .before in
+    let none = from-end (s .args .d) (s .args .s) (s .args .table .now) (turn .loop .at .cell) (turn .loop .at .position) (omega arith) in (
+      record { faces = omega (arith, ap length none); bytes = omega (arith, ap (λ fs. length (faceLines fs)) none) },
+      (omega (arith, few s), omega (arith, few s)),
     )
 
 pub faces-size-spec : {M : Type 1} → statement M
@@ -98,15 +91,13 @@ faces-size-spec =
     (tie.spec
     Inv-loop
     μ-loop
-    returns
-    add-size
-    add-size-2
+    next-face-requires
     loop-holds
-    mul-cell-size
-    cell-size-requires
     add-count
+    face-len-requires
     add-bytes
-    add-p
+    add-next-face
+    next-face-requires-2
     loop-less
     loop-again
-    returns-2)
+    returns)

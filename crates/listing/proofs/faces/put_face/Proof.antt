@@ -1,101 +1,81 @@
--- `faces::put_face` meets its contract: its line is the sign, the vertices before the position and those after it. Assumes nothing.
-use Prim.Native.Nat.{_-_}
-use native.Mathlib.Omega.{arith}
-use Rattle.listing.proofs.FaceText.{face-line-length, face-put}
+-- A face's line is a line of numbers, behind its sign. Assumes nothing.
+use mathlib.Core.Path.{_≡_, sym, ap, _∙_}
+use mathlib.Core.List.{List, [], _∷_, map}
+use Prim.Native.Nat.{ℕ}
+use lib.ListN.{length, take}
 use borrow.Author.Needs.{needs}
+use Rattle.simplex.specs.SignWords.{signOf}
+use Rattle.boundary.specs.Walk.{faceAt}
+use Rattle.boundary.proofs.FaceWords.{face-row}
+use Rattle.printing.specs.Decimal.{digits}
+use Rattle.printing.specs.Fields.{line}
+use Rattle.listing.specs.Lines.{signText, faceLine}
+use Rattle.listing.proofs.FaceText.{sign-text, face-line}
 use Rattle.listing.proofs.faces.put_face.Statement.{statement}
 use Rattle.listing.proofs.faces.put_face.Tie as tie
 
-mul-sign-byte : tie.Need-mul-sign-byte
-mul-sign-byte c = search needs
+abbrev start : tie.After-fill-row → tie.Start
+start c = c .before .before .before .before .before .before
 
-shared-slice-read-sign-byte : tie.Need-shared-slice-read-sign-byte
-shared-slice-read-sign-byte c = search needs
+abbrev row : tie.After-fill-row → List ℕ
+row c = take (start c .args .d) (c .fill-row .last .1 .1 .1 .1 .1 .0)
+
+long : (c : tie.After-fill-row) → length (row c) ≡ start c .args .d
+long c =
+    let s = start c in
+    ap length (c .fill-row .ensures) ∙ face-row (s .args .d) (s .args .s) (s .args .table .now) (s .args .p) (s .pre .0) (s .args .a) (s .pre .1)
+
+-- the line that is put
+whole : (c : tie.After-fill-row) → let a = start c .args in
+    faceLine (faceAt (a .d) (a .table .now) (a .p) (a .a)) ≡ line (c .before .before .sign-byte .result ∷ []) (map digits (row c))
+whole c =
+    let a = start c .args in
+    let f = faceAt (a .d) (a .table .now) (a .p) (a .a) in
+    let at = c .before .before in
+    let sign = at .sign-byte .ensures ∙ ap (λ w. signText (signOf w)) (at .before .face-sign .ensures) ∙ sign-text (f .sign) in
+    face-line f _ (row c) sign (c .fill-row .ensures)
+
+face-sign-requires : tie.Need-face-sign-requires
+face-sign-requires c κs = search needs
 
 sign-byte-requires : tie.Need-sign-byte-requires
 sign-byte-requires c κs = search needs
 
-add-first : tie.Need-add-first
-add-first c = search needs
+slice-aggregate-fill-row : tie.Need-slice-aggregate-fill-row
+slice-aggregate-fill-row c = search needs
 
-add-skip : tie.Need-add-skip
-add-skip c = search needs
+fill-row-requires : tie.Need-fill-row-requires
+fill-row-requires c κs = search needs
 
-add-next : tie.Need-add-next
-add-next c = search needs
+slice-aggregate-first-line : tie.Need-slice-aggregate-first-line
+slice-aggregate-first-line c = search needs
 
-add-last : tie.Need-add-last
-add-last c = search needs
+array-share-prefix-row : tie.Need-array-share-prefix-row
+array-share-prefix-row c = search needs
 
-add-last-2 : tie.Need-add-last-2
-add-last-2 c = search needs
+slice-aggregate-first-line-2 : tie.Need-slice-aggregate-first-line-2
+slice-aggregate-first-line-2 c = sym (long (c .before .before .before .before))
 
-slice-aggregate-face-line : tie.Need-slice-aggregate-face-line
-slice-aggregate-face-line c = search needs
-
-mul-face-line : tie.Need-mul-face-line
-mul-face-line c = search needs
-
-sub-face-line : tie.Need-sub-face-line
-sub-face-line c = search needs
-
-part-face-line-start : tie.Need-part-face-line-start
-part-face-line-start c = search needs
-
-part-face-line-end : tie.Need-part-face-line-end
-part-face-line-end c = search needs
-
-mul-face-line-2 : tie.Need-mul-face-line-2
-mul-face-line-2 c = search needs
-
-sub-face-line-2 : tie.Need-sub-face-line-2
-sub-face-line-2 c = search needs
-
-part-face-line-start-2 : tie.Need-part-face-line-start-2
-part-face-line-start-2 c = search needs
-
-part-face-line-end-2 : tie.Need-part-face-line-end-2
-part-face-line-end-2 c = search needs
-
-face-line-requires : tie.Need-face-line-requires
-face-line-requires c κs =
-    let start = c .before .before .before .before .before .before .before .before in
-    omega (
-      arith,
-      start .pre .1,
-      face-line-length (start .args .d) (start .args .base) (start .args .table .now) (start .pre .0 .inside) (start .args .i) (start .pre .0 .position),
-    )
+first-line-requires : tie.Need-first-line-requires
+first-line-requires c κs = let w = c .before .before .before .before in rw (whole w) at (start w .pre .2)
 
 same-length : tie.Need-same-length
 same-length c = search needs
 
 returns : tie.Need-returns
-returns c =
-    let start = c .before .before .before .before .before .before .before .before .before .before .before in
-    face-put (start .args .d) (start .args .base) (start .args .table .now) (start .pre .0 .inside) (start .args .i) (start .pre .0 .position)
-    (c .before .before .before .before .before .before .before .sign-byte .ensures) (c .before .before .face-line .ensures)
+returns c = let w = c .before .before .before .before .before .before .before in rw (whole w) (c .before .before .first-line .ensures)
 
 pub put-face-spec : {M : Type 1} → statement M
 put-face-spec =
     tie.close
     (tie.spec
-    mul-sign-byte
-    shared-slice-read-sign-byte
+    face-sign-requires
     sign-byte-requires
-    add-first
-    add-skip
-    add-next
-    add-last
-    add-last-2
-    slice-aggregate-face-line
-    mul-face-line
-    sub-face-line
-    part-face-line-start
-    part-face-line-end
-    mul-face-line-2
-    sub-face-line-2
-    part-face-line-start-2
-    part-face-line-end-2
-    face-line-requires
+    slice-aggregate-fill-row
+    fill-row-requires
+    slice-aggregate-first-line
+    array-share-prefix-row
+    slice-aggregate-first-line-2
+    first-line-requires
     same-length
     returns)

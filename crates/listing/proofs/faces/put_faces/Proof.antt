@@ -1,100 +1,70 @@
--- `faces::put_faces` meets its contract, record by record. Assumes nothing.
-use Prim.Native.Nat.{_≤_, _-_, _+_, _*_}
+-- The lines of the boundary faces, as the walk comes to them. Assumes nothing.
 use native.Mathlib.Omega.{arith}
-use lib.ListN.{drop}
+use lib.ListN.{length}
 use borrow.Author.Needs.{needs}
-use Rattle.complex.specs.Layout.{recordSize, entriesOf}
-use Rattle.boundary.specs.Boundary.{boundaryOf}
-use Rattle.printing.proofs.Placing.{Left, left-start, left-step, left-fits, left-done, put-nothing}
-use Rattle.listing.specs.Parts.{recordAt, boundaryFaces, facesOf}
-use Rattle.listing.specs.Lines.{faceLines}
-use Rattle.listing.proofs.TableFaces.{entries-rest, entries-over, flat-none, lines-append, record-within}
+use Rattle.listing.specs.Lines.{faceLine}
+use Rattle.boundary.specs.Walk.{facesFrom}
+use Rattle.boundary.proofs.Walking.{face-less, Walked, walk-starts, walk-fits, walk-goes, walk-ends}
 use Rattle.listing.proofs.faces.put_faces.Statement.{statement}
 use Rattle.listing.proofs.faces.put_faces.Tie as tie
 
 abbrev Inv-loop : tie.InvT-loop
-Inv-loop d s table buf₀ at size cur₀ p₀ buf cur p = (p ≤ s) × Left at (faceLines (facesOf d s table)) buf₀ cur (faceLines (boundaryOf (drop p (entriesOf d s table)))) buf
+Inv-loop d s table buf₀ at cur₀ place₀ buf cur place = Walked faceLine d s table at buf₀ (place .cell) (place .position) cur buf
 
 abbrev μ-loop : tie.MeasureT-loop
-μ-loop d s table buf₀ at size cur₀ p₀ buf cur p = s - p
+μ-loop d s table buf₀ at cur₀ place₀ buf cur place = length (facesFrom d s table (place .cell) (place .position))
 
-returns : tie.Need-returns Inv-loop μ-loop
-returns c =
-    let start = c .before .before .before in
-    rw (flat-none (start .args .d) (start .args .s) (start .args .table .now) (c .if1 .taken)) (put-nothing (start .args .at) (start .args .buf .now))
+-- the loop's turn, and the start
+abbrev turn : tie.After-next-face2 Inv-loop μ-loop → tie.At-loop Inv-loop μ-loop
+turn c = c .before .before .before .before .before .before .before .before
 
-add-size : tie.Need-add-size Inv-loop μ-loop
-add-size c = search needs
+abbrev start : tie.At-loop Inv-loop μ-loop → tie.Start Inv-loop μ-loop
+start c = c .before .before .before .before
 
-add-size-2 : tie.Need-add-size-2 Inv-loop μ-loop
-add-size-2 c = search needs
+next-face-requires : tie.Need-next-face-requires Inv-loop μ-loop
+next-face-requires c κs = search needs
 
 loop-holds : tie.Need-loop-holds Inv-loop μ-loop
 loop-holds c =
-    let start = c .before .before .before in
-    (omega arith, left-start (start .args .at) (faceLines (facesOf (start .args .d) (start .args .s) (start .args .table .now))) (start .args .buf .now) (start .pre .1))
+    let s = c .before .before .before in
+    walk-starts faceLine (s .args .d) (s .args .s) (s .args .table .now) (s .args .at) (s .args .buf .now) (c .next-face .ensures) (omega arith)
 
-mul-put-cell : tie.Need-mul-put-cell Inv-loop μ-loop
-mul-put-cell c =
-    let start = c .before .before .before .before .before in
-    let w = record-within (start .args .d) (start .args .s) (c .before .loop .p) (start .args .table .now) (omega (arith, c .before .before .if1 .left)) (start .pre .0) (c .loop-test .taken) in omega (arith, w .within)
-
-put-cell-requires : tie.Need-put-cell-requires Inv-loop μ-loop
-put-cell-requires c κs =
-    let start = c .before .before .before .before .before .before in
-    let turn = c .before .before in
-    let d = start .args .d in
-    let s = start .args .s in
-    let ws = start .args .table .now in
-    let p = turn .loop .p in
-    let rest = entries-rest d s ws p (c .before .loop-test .taken) in
-    let here = boundaryFaces (recordAt d (p * recordSize d) ws) in
-    let later = boundaryOf (drop (p + 1) (entriesOf d s ws)) in (
-      record-within (start .args .d) (start .args .s) (turn .loop .p) (start .args .table .now) (omega (arith, c .before .before .before .if1 .left)) (start .pre .0) (c .before .loop-test .taken),
-      left-fits (faceLines here) (faceLines later) (rw (rest, lines-append here later) at (turn .loop .inv .1)),
+put-face-requires : tie.Need-put-face-requires Inv-loop μ-loop
+put-face-requires c κs =
+    let t = c .before .before .before in
+    let s = start t in (
+      record { table = s .pre .0; number = omega arith },
+      t .loop .inv .place .position (omega arith),
+      walk-fits faceLine (s .args .d) (s .args .s) (s .args .table .now) (s .args .at) (s .args .buf .now) (s .pre .0) (t .loop .inv) (omega arith),
     )
 
-add-p : tie.Need-add-p Inv-loop μ-loop
-add-p c = search needs
+add-next-face : tie.Need-add-next-face Inv-loop μ-loop
+add-next-face c = omega (arith, c .before .before .before .before .before .before .before .loop .inv .place .position (omega arith))
+
+next-face-requires-2 : tie.Need-next-face-requires-2 Inv-loop μ-loop
+next-face-requires-2 c κs = search needs
 
 loop-less : tie.Need-loop-less Inv-loop μ-loop
-loop-less c = search needs
+loop-less c =
+    let s = start (turn c) in
+    omega (arith, face-less (s .args .d) (s .args .s) (s .args .table .now) (s .pre .0) _ _ (turn c .loop .inv .place) (omega arith) (c .next-face2 .ensures))
 
 loop-again : tie.Need-loop-again Inv-loop μ-loop
 loop-again c =
-    let start = c .before .before .before .before .before .before .before .before .before in
-    let turn = c .before .before .before .before .before in
-    let d = start .args .d in
-    let s = start .args .s in
-    let ws = start .args .table .now in
-    let p = turn .loop .p in
-    let rest = entries-rest d s ws p (c .before .before .before .before .loop-test .taken) in
-    let here = boundaryFaces (recordAt d (p * recordSize d) ws) in
-    let later = boundaryOf (drop (p + 1) (entriesOf d s ws)) in
-    (omega arith, left-step (faceLines here) (faceLines later) _ _ (rw (rest, lines-append here later) at (turn .loop .inv .1)) (c .before .before .put-cell .ensures))
+    let s = start (turn c) in
+    walk-goes faceLine (s .args .d) (s .args .s) (s .args .table .now) (s .args .at) (s .args .buf .now) (s .pre .0) (turn c .loop .inv) (omega arith)
+    (c .next-face2 .ensures) (c .before .before .before .before .put-face .ensures)
 
 same-length : tie.Need-same-length Inv-loop μ-loop
-same-length c = c .before .loop .inv .1 .same
+same-length c = c .before .before .loop .inv .left .same
 
-returns-2 : tie.Need-returns-2 Inv-loop μ-loop
-returns-2 c =
-    let start = c .before .before .before .before .before in
-    left-done (rw (entries-over (start .args .d) (start .args .s) (start .args .table .now) (c .before .loop .p) (c .loop-test .left)) at (c .before .loop .inv .1))
+returns : tie.Need-returns Inv-loop μ-loop
+returns c =
+    let t = c .before .before in
+    let s = start t in
+    walk-ends faceLine (s .args .d) (s .args .s) (s .args .table .now) (s .args .at) (s .args .buf .now) (t .loop .inv) (omega arith)
 
 pub put-faces-spec : {M : Type 1} → statement M
 put-faces-spec =
     tie.close
-    (tie.spec
-    Inv-loop
-    μ-loop
-    returns
-    add-size
-    add-size-2
-    loop-holds
-    mul-put-cell
-    put-cell-requires
-    add-p
-    loop-less
-    loop-again
-    same-length
-    returns-2)
+    (tie.spec Inv-loop μ-loop next-face-requires loop-holds put-face-requires add-next-face next-face-requires-2 loop-less loop-again same-length returns)

@@ -5,7 +5,7 @@ use Prim.Native.Nat.{ℕ, _-_, _+_}
 use native.Mathlib.Omega.{arith}
 use lib.ListN.{length-append, length}
 use borrow.Author.Needs.{needs}
-use Rattle.listing.specs.Parts.{facesOf}
+use Rattle.boundary.specs.Walk.{tableFaces}
 use Rattle.listing.specs.Lines.{firstLine, vertexLines, faceLines, keyText}
 use Rattle.listing.proofs.Bounds.{vertices-length}
 use Rattle.listing.proofs.key.key_size.Statement.{statement}
@@ -42,7 +42,7 @@ returns c =
     let n = start .args .n in
     let v = start .args .v in
     let ps = start .args .points .now in
-    let fs = facesOf d (start .args .s) (start .args .table .now) in
+    let fs = tableFaces d (start .args .s) (start .args .table .now) in
     let size = c .before .before .before .faces-size .ensures .0 in
     let first = c .before .before .first-len .ensures .0 ∙ ap (λ (k : ℕ). length (firstLine d n v k)) (size .faces) in
     record {

@@ -1,8 +1,8 @@
 -- `key::put_key` meets its contract: the first line, the vertices, the faces. Assumes nothing.
 use native.Mathlib.Omega.{arith}
-use Rattle.printing.proofs.Placing.{left-fits}
+use Rattle.words.proofs.Writing.{left-fits}
 use Rattle.listing.specs.Lines.{vertexLines}
-use Rattle.listing.proofs.FaceCount.{faces-count}
+use Rattle.boundary.proofs.Sizes.{faces-few}
 use Rattle.listing.proofs.KeyText.{first-fits, vertices-left, faces-left, key-put}
 use borrow.Author.Needs.{needs}
 use Rattle.listing.proofs.key.put_key.Statement.{statement}
@@ -20,7 +20,7 @@ cast-t15 c = search needs
 cast-t16 : tie.Need-cast-t16
 cast-t16 c =
     let start = c .before .before .before in
-    omega (arith, start .pre .2, start .pre .0 .cells, faces-count (start .args .d) (start .args .s) (start .args .table .now) (start .pre .0 .most))
+    omega (arith, start .pre .2, faces-few (start .args .d) (start .args .s) (start .args .table .now) (start .pre .0))
 
 slice-aggregate-first-line : tie.Need-slice-aggregate-first-line
 slice-aggregate-first-line c = search needs

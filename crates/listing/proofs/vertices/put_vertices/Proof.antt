@@ -4,7 +4,7 @@ use native.Mathlib.Omega.{arith}
 use lib.ListN.{drop}
 use borrow.Author.Needs.{needs}
 use Rattle.words.specs.Records.{tabulate, concat}
-use Rattle.printing.proofs.Placing.{Left, left-start, left-step, left-fits, left-done}
+use Rattle.words.proofs.Writing.{Left, left-starts, left-goes, left-fits, left-ends}
 use Rattle.listing.specs.Lines.{vertexLine, vertexLines}
 use Rattle.listing.proofs.Runs.{lines-rest, lines-end, point-within}
 use Rattle.listing.proofs.vertices.put_vertices.Statement.{statement}
@@ -19,7 +19,7 @@ abbrev μ-loop : tie.MeasureT-loop
 loop-holds : tie.Need-loop-holds Inv-loop μ-loop
 loop-holds c =
     let start = c .before .before in
-    (omega arith, left-start (start .args .at) (vertexLines (start .args .n) (start .args .v) (start .args .points .now)) (start .args .buf .now) (start .pre .1))
+    (omega arith, left-starts (start .args .at) (vertexLines (start .args .n) (start .args .v) (start .args .points .now)) (start .args .buf .now) (start .pre .1))
 
 put-vertex-requires : tie.Need-put-vertex-requires Inv-loop μ-loop
 put-vertex-requires c κs =
@@ -46,7 +46,7 @@ loop-again c =
     let p = turn .loop .p in
     let f = vertexLine (start .args .n) (start .args .points .now) in (
       omega arith,
-      left-step (f p) (concat (drop (p + 1) (tabulate v f))) _ _ (rw (lines-rest v f p (c .before .before .before .before .loop-test .taken)) at (turn .loop .inv .1)) (c .before .before .put-vertex .ensures),
+      left-goes (f p) (concat (drop (p + 1) (tabulate v f))) _ _ (rw (lines-rest v f p (c .before .before .before .before .loop-test .taken)) at (turn .loop .inv .1)) (c .before .before .put-vertex .ensures),
     )
 
 same-length : tie.Need-same-length Inv-loop μ-loop
@@ -56,7 +56,7 @@ returns : tie.Need-returns Inv-loop μ-loop
 returns c =
     let start = c .before .before .before .before in
     let f = vertexLine (start .args .n) (start .args .points .now) in
-    left-done (rw (lines-end (start .args .v) f (c .before .loop .p) (c .loop-test .left)) at (c .before .loop .inv .1))
+    left-ends (rw (lines-end (start .args .v) f (c .before .loop .p) (c .loop-test .left)) at (c .before .loop .inv .1))
 
 pub put-vertices-spec : {M : Type 1} → statement M
 put-vertices-spec =

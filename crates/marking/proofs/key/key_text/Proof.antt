@@ -6,7 +6,7 @@ use native.Mathlib.Omega.{arith}
 use borrow.Author.Needs.{needs}
 use lib.ListN.{length, take}
 use lib.Seq.{length-take-le}
-use Rattle.printing.specs.Put.{Put}
+use Rattle.words.specs.Placed.{Put}
 use Rattle.marking.proofs.Printed.{text-short, text-fits}
 use Rattle.marking.proofs.key.key_text.Statement.{statement}
 use Rattle.marking.proofs.key.key_text.Tie as tie

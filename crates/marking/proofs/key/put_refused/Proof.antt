@@ -7,7 +7,7 @@ use lib.ListN.{length-append}
 use Rattle.words.specs.Text.{ascii}
 use Rattle.printing.specs.Decimal.{digits}
 use Rattle.printing.proofs.Digits.{digits-length}
-use Rattle.printing.proofs.Placing.{Left, left-start, left-step, left-last, left-fits}
+use Rattle.words.proofs.Writing.{Left, left-starts, left-goes, left-last, left-fits}
 use Rattle.marking.proofs.key.put_refused.Statement.{statement}
 use Rattle.marking.proofs.key.put_refused.Tie as tie
 
@@ -19,7 +19,7 @@ rest s = digits (s .args .k) ++ ascii "\n"
 
 -- the whole line is to be written
 all : (s : tie.Start) → Left 0 (word ++ rest s) (s .args .page .now) 0 (word ++ rest s) (s .args .page .now)
-all s = left-start 0 (word ++ rest s) (s .args .page .now) (omega (arith, s .pre, length-append (digits (s .args .k)) (ascii "\n"), digits-length (s .args .k)))
+all s = left-starts 0 (word ++ rest s) (s .args .page .now) (omega (arith, s .pre, length-append (digits (s .args .k)) (ascii "\n"), digits-length (s .args .k)))
 
 slice-aggregate-put-text : tie.Need-slice-aggregate-put-text
 slice-aggregate-put-text c = search needs
@@ -31,7 +31,7 @@ put-number-requires : tie.Need-put-number-requires
 put-number-requires c κs =
     let t = c .before .before .before in
     let s = t .before .before .before .before in
-    let one = left-step word (rest s) _ _ (all s) (t .put-text .ensures) in
+    let one = left-goes word (rest s) _ _ (all s) (t .put-text .ensures) in
     left-fits (digits (s .args .k)) (ascii "\n") one
 
 put-byte-requires : tie.Need-put-byte-requires
@@ -39,8 +39,8 @@ put-byte-requires c κs =
     let n = c .before .before .before in
     let t = n .before .before .before .before in
     let s = t .before .before .before .before in
-    let one = left-step word (rest s) _ _ (all s) (t .put-text .ensures) in
-    let two = left-step (digits (s .args .k)) (ascii "\n") _ _ one (n .put-number .ensures) in
+    let one = left-goes word (rest s) _ _ (all s) (t .put-text .ensures) in
+    let two = left-goes (digits (s .args .k)) (ascii "\n") _ _ one (n .put-number .ensures) in
     omega (arith, two .room)
 
 same-length : tie.Need-same-length
@@ -52,8 +52,8 @@ returns c =
     let n = b .before .before .before .before in
     let t = n .before .before .before .before in
     let s = t .before .before .before .before in
-    let one = left-step word (rest s) _ _ (all s) (t .put-text .ensures) in
-    let two = left-step (digits (s .args .k)) (ascii "\n") _ _ one (n .put-number .ensures) in
+    let one = left-goes word (rest s) _ _ (all s) (t .put-text .ensures) in
+    let two = left-goes (digits (s .args .k)) (ascii "\n") _ _ one (n .put-number .ensures) in
     left-last (ascii "\n") _ _ two (b .put-byte .ensures)
 
 pub put-refused-spec : {M : Type 1} → statement M

@@ -1,23 +1,29 @@
 -- `all_stay` answers `allStay`. The invariant: the points before k stay in range. Assumes nothing.
-use mathlib.Core.Path.{ap, sym, _∙_, _≡_}
-use mathlib.Core.Bool.{true}
-use Prim.Native.Nat.{_-_, _+_, ℕ, _≤_, _<_, _*_}
+use mathlib.Core.Path.{ap, refl, _∙_, _≡_}
+use mathlib.Core.List.{List, []}
+use Prim.Native.Nat.{_-_, _+_, ℕ, _≤_, _*_}
 use native.Mathlib.Nat.{add-sub-cancel-left}
 use native.Mathlib.Omega.{arith}
+use lib.Ieee.{Float}
+use lib.ListN.{drop}
 use denote.Ref.{now}
-use borrow.Author.Count.{below-none, below-more}
 use borrow.Author.Needs.{needs}
 use borrow.Author.Tests.{not-true, not-false}
-use Rattle.words.specs.Records.{part}
-use Rattle.points.specs.Stay.{staysIn}
-use Rattle.points.proofs.AllOf.{allOf-tabulate, allOf-tabulate-false}
-use Rattle.points.proofs.Copies.{record-fits}
+use Rattle.words.specs.Records.{tabulate, part, allOf}
+use Rattle.words.proofs.Loops.{all-goes, all-stops, all-ends}
+use Rattle.points.specs.Stay.{staysIn, allStay}
+use Rattle.words.proofs.Records.{record-fits, tabulate-length, tabulate-at}
 use Rattle.points.proofs.LevelLaws.{loaded}
 use Rattle.points.proofs.levels.all_stay.Statement.{statement}
 use Rattle.points.proofs.levels.all_stay.Tie as tie
 
+-- the points, one by one
+abbrev each : ℕ → ℕ → List Float → List (List Float)
+each n v points = tabulate v (λ k. part n k points)
+
 abbrev Inv-loop : tie.InvT-loop
-Inv-loop step n v h points k₀ k = (k ≤ v) × ((j : ℕ) → j < k → staysIn step n h (part n j points) ≡ true)
+Inv-loop step n v h points k₀ k =
+    (k ≤ v) × (allStay step n v h points ≡ allOf (staysIn step n h) (drop k (each n v points)))
 
 abbrev μ-loop : tie.MeasureT-loop
 μ-loop step n v h points k₀ k = v - k
@@ -41,53 +47,30 @@ answered c =
     (loaded (a .n) (a .v) k _ (now (a .points)) (c .before .load .result) (add-sub-cancel-left (k * a .n) (a .n)) (t .loop-test .taken) (s .pre .1) (c .before .load .ensures))
 
 loop-holds : tie.Need-loop-holds Inv-loop μ-loop
-loop-holds c = (search needs, below-none _)
-
-mul-a : tie.Need-mul-a Inv-loop μ-loop
-mul-a c = omega (arith, fits c)
-
-add-load : tie.Need-add-load Inv-loop μ-loop
-add-load c = omega (arith, fits c)
-
-mul-load : tie.Need-mul-load Inv-loop μ-loop
-mul-load c = omega (arith, fits c)
-
-sub-load : tie.Need-sub-load Inv-loop μ-loop
-sub-load c = search needs
-
-part-load-start : tie.Need-part-load-start Inv-loop μ-loop
-part-load-start c = search needs
-
-part-load-end : tie.Need-part-load-end Inv-loop μ-loop
-part-load-end c = omega (arith, fits c)
-
-load-requires : tie.Need-load-requires Inv-loop μ-loop
-load-requires c κs = search needs
-
-stays-requires : tie.Need-stays-requires Inv-loop μ-loop
-stays-requires c κs = search needs
+loop-holds c = (search needs, refl)
 
 returns : tie.Need-returns Inv-loop μ-loop
 returns c =
     let t = c .before .before .before .before in
     let a = start t .args in
-    sym
-    (allOf-tabulate-false (staysIn (a .step) (a .n) (a .h)) (a .v) (λ k. part (a .n) k (now (a .points))) (t .before .loop .k) (t .loop-test .taken)
-    (sym (answered (c .before)) ∙ not-true _ (c .if1 .taken)))
-
-add-k : tie.Need-add-k Inv-loop μ-loop
-add-k c = search needs
-
-loop-less : tie.Need-loop-less Inv-loop μ-loop
-loop-less c = search needs
+    let k = t .before .loop .k in
+    all-stops (staysIn (a .step) (a .n) (a .h)) [] (each (a .n) (a .v) (a .points .now)) (a .v) k (tabulate-length _ _) (t .loop-test .taken)
+    _ (tabulate-at _ _ k [] (t .loop-test .taken)) _ (cc (answered (c .before), not-true (c .before .stays .result) (c .if1 .taken))) (t .before .loop .inv .1)
 
 loop-again : tie.Need-loop-again Inv-loop μ-loop
-loop-again c = (omega arith, below-more _ _ (c .before .before .before .before .before .loop .inv .1) (sym (answered (c .before)) ∙ not-false _ (c .if1 .left)))
+loop-again c =
+    let t = c .before .before .before .before in
+    let a = start t .args in
+    let k = t .before .loop .k in (
+      omega arith,
+      all-goes (staysIn (a .step) (a .n) (a .h)) [] (each (a .n) (a .v) (a .points .now)) (a .v) k (tabulate-length _ _) (t .loop-test .taken)
+          _ (tabulate-at _ _ k [] (t .loop-test .taken)) _ (cc (answered (c .before), not-false (c .before .stays .result) (c .if1 .left))) (t .before .loop .inv .1),
+    )
 
 returns-2 : tie.Need-returns-2 Inv-loop μ-loop
 returns-2 c =
     let a = c .before .before .before .args in
-    sym (allOf-tabulate (staysIn (a .step) (a .n) (a .h)) (a .v) (λ k. part (a .n) k (now (a .points))) (λ k l. c .before .loop .inv .1 k (omega arith)))
+    all-ends (staysIn (a .step) (a .n) (a .h)) [] (each (a .n) (a .v) (a .points .now)) (a .v) (c .before .loop .k) (tabulate-length _ _) (omega arith) _ (c .before .loop .inv .1)
 
 pub all-stay-spec : {M : Type 1} → statement M
 all-stay-spec =
@@ -96,16 +79,16 @@ all-stay-spec =
     Inv-loop
     μ-loop
     loop-holds
-    mul-a
-    add-load
-    mul-load
-    sub-load
-    part-load-start
-    part-load-end
-    load-requires
-    stays-requires
+    (λ c. omega (arith, fits c))
+    (λ c. omega (arith, fits c))
+    (λ c. omega (arith, fits c))
+    (λ c. search needs)
+    (λ c. search needs)
+    (λ c. omega (arith, fits c))
+    (λ c κs. search needs)
+    (λ c κs. search needs)
     returns
-    add-k
-    loop-less
+    (λ c. search needs)
+    (λ c. search needs)
     loop-again
     returns-2)

@@ -1,63 +1,46 @@
 -- `copy_up` copies within a buffer. The invariant: j floats are copied, and nothing else is written. Assumes nothing.
-use mathlib.Core.Path.{refl, _≡_}
-use Prim.Native.Nat.{_≤_, _-_}
+use mathlib.Core.Path.{_≡_, sym, _∙_}
+use mathlib.Core.List.{List}
+use Prim.Native.Nat.{ℕ, _≤_, _-_, _+_}
+use native.Mathlib.Nat.{add-zero}
 use native.Mathlib.Omega.{arith}
-use lib.Ieee.{nan}
-use lib.ListN.{length-set, take, drop, length}
-use lib.Seq.{paste-zero, paste}
-use denote.Ref.{now}
+use lib.Ieee.{Float, nan}
+use lib.ListN.{length, take, drop, length-drop}
+use lib.Seq.{length-take-le, getD-take, getD-drop}
 use borrow.Author.Needs.{needs}
-use Rattle.points.proofs.Copies.{move-up}
+use Rattle.words.proofs.Writing.{Left, left-starts, left-next, left-none, left-before}
 use Rattle.points.proofs.levels.copy_up.Statement.{statement}
 use Rattle.points.proofs.levels.copy_up.Tie as tie
 
+abbrev copied : ℕ → ℕ → List Float → List Float
+copied w from out = take w (drop from out)
+
 abbrev Inv-loop : tie.InvT-loop
-Inv-loop w from to out₀ j₀ out j = (j ≤ w) × (length out ≡ length out₀) × (out ≡ paste out₀ to (take w (drop from out₀)) j)
+Inv-loop w from to out₀ j₀ out j = (j ≤ w) × Left to (copied w from out₀) out₀ (to + j) (drop j (copied w from out₀)) out
 
 abbrev μ-loop : tie.MeasureT-loop
 μ-loop w from to out₀ j₀ out j = w - j
 
+long : (c : tie.Start Inv-loop μ-loop) → length (copied (c .args .w) (c .args .from) (c .args .out .now)) ≡ c .args .w
+long c = length-take-le _ (drop (c .args .from) (c .args .out .now)) (omega (arith, length-drop (c .args .from) (c .args .out .now)))
+
 loop-holds : tie.Need-loop-holds Inv-loop μ-loop
-loop-holds c = (search needs, refl, paste-zero (now (c .args .out)) (c .args .to) (take (c .args .w) (drop (c .args .from) (now (c .args .out)))))
-
-add-out : tie.Need-add-out Inv-loop μ-loop
-add-out c = search needs
-
-mul-out : tie.Need-mul-out Inv-loop μ-loop
-mul-out c = search needs
-
-slice-read-out : tie.Need-slice-read-out Inv-loop μ-loop
-slice-read-out c = search needs
-
-add-out-2 : tie.Need-add-out-2 Inv-loop μ-loop
-add-out-2 c = search needs
-
-mul-out-2 : tie.Need-mul-out-2 Inv-loop μ-loop
-mul-out-2 c = search needs
-
-slice-write-out : tie.Need-slice-write-out Inv-loop μ-loop
-slice-write-out c = search needs
-
-add-j : tie.Need-add-j Inv-loop μ-loop
-add-j c = search needs
-
-loop-less : tie.Need-loop-less Inv-loop μ-loop
-loop-less c = search needs
+loop-holds c = (search needs, rw add-zero (left-starts (c .args .to) _ (c .args .out .now) (omega (arith, long c))))
 
 loop-again : tie.Need-loop-again Inv-loop μ-loop
 loop-again c =
     let l = c .before .before in
-    let a = l .before .args in (
-      omega arith,
-      simp length-set (l .loop .inv .1),
-      move-up (now (a .out)) (l .loop .out) (a .w) (a .from) (a .to) (l .loop .j) nan (l .before .pre .0) (l .before .pre .1) (c .before .loop-test .taken) (l .loop .inv .2),
-    )
-
-same-length : tie.Need-same-length Inv-loop μ-loop
-same-length c = search needs
+    let a = l .before .args in
+    let j = l .loop .j in
+    let read = left-before _ (l .loop .inv .1) (a .from + j) nan (omega arith) (omega arith) in
+    let here = getD-take (a .w) (drop (a .from) (a .out .now)) j nan (c .before .loop-test .taken) ∙ getD-drop (a .from) (a .out .now) j nan in
+    (omega arith, left-next nan (copied (a .w) (a .from) (a .out .now)) j _ _ (omega (arith, long (l .before))) (read ∙ sym here) (omega arith) (l .loop .inv .1))
 
 returns : tie.Need-returns Inv-loop μ-loop
-returns c = let all : c .before .loop .j ≡ c .before .before .args .w = omega arith in rw all at (c .before .loop .inv .2)
+returns c =
+    let l = c .before in
+    let a = l .before .args in
+    left-none (copied (a .w) (a .from) (a .out .now)) (l .loop .j) (omega (arith, long (l .before))) (l .loop .inv .1) .content
 
 pub copy-up-spec : {M : Type 1} → statement M
 copy-up-spec =
@@ -66,14 +49,14 @@ copy-up-spec =
     Inv-loop
     μ-loop
     loop-holds
-    add-out
-    mul-out
-    slice-read-out
-    add-out-2
-    mul-out-2
-    slice-write-out
-    add-j
-    loop-less
+    (λ c. search needs)
+    (λ c. search needs)
+    (λ c. search needs)
+    (λ c. search needs)
+    (λ c. search needs)
+    (λ c. search needs)
+    (λ c. search needs)
+    (λ c. search needs)
     loop-again
-    same-length
+    (λ c. search needs)
     returns)

@@ -1,21 +1,15 @@
 -- `move_level` moves the points of a level. The invariant: k of them are moved, and nothing else is written. Assumes nothing.
-use mathlib.Core.Path.{refl, ap, _∙_, _≡_}
 use Prim.Native.Nat.{_≤_, _-_, _+_, _*_}
-use native.Mathlib.Nat.{zero-mul, add-sub-cancel-left}
+use native.Mathlib.Nat.{add-sub-cancel-left}
 use native.Mathlib.Omega.{arith}
-use lib.ListN.{take, drop, length}
-use lib.Seq.{paste-zero, paste}
-use denote.Ref.{now}
 use borrow.Author.Needs.{needs}
-use Rattle.points.specs.Levels.{movedAll}
-use Rattle.points.proofs.Copies.{record-fits}
-use Rattle.points.proofs.Writing.{level-more, level-length}
+use Rattle.words.proofs.Records.{record-fits}
+use Rattle.points.proofs.Writing.{Moving, moving-starts, moving-goes, moving-ends}
 use Rattle.points.proofs.levels.move_level.Statement.{statement}
 use Rattle.points.proofs.levels.move_level.Tie as tie
 
 abbrev Inv-loop : tie.InvT-loop
-Inv-loop step n v at out₀ k₀ out k =
-    (k ≤ v) × (length out ≡ length out₀) × (out ≡ paste out₀ at (movedAll step n v (take (v * n) (drop at out₀))) (k * n))
+Inv-loop step n v at out₀ k₀ out k = (k ≤ v) × Moving step n v at out₀ k out
 
 abbrev μ-loop : tie.MeasureT-loop
 μ-loop step n v at out₀ k₀ out k = v - k
@@ -27,56 +21,22 @@ fits : (c : tie.In-loop Inv-loop μ-loop) → c .before .loop .k * start c .args
 fits c = record-fits (start c .args .n) (start c .args .v) (c .before .loop .k) (c .loop-test .taken)
 
 loop-holds : tie.Need-loop-holds Inv-loop μ-loop
-loop-holds c =
-    let a = c .before .args in
-    (search needs, refl, rw zero-mul (paste-zero (now (a .out)) (a .at) (movedAll (a .step) (a .n) (a .v) (take (a .v * a .n) (drop (a .at) (now (a .out)))))))
-
-mul-a : tie.Need-mul-a Inv-loop μ-loop
-mul-a c = omega (arith, fits c)
-
-add-a : tie.Need-add-a Inv-loop μ-loop
-add-a c = omega (arith, fits c)
-
-add-move-point : tie.Need-add-move-point Inv-loop μ-loop
-add-move-point c = omega (arith, fits c)
-
-mul-move-point : tie.Need-mul-move-point Inv-loop μ-loop
-mul-move-point c = omega (arith, fits c)
-
-sub-move-point : tie.Need-sub-move-point Inv-loop μ-loop
-sub-move-point c = search needs
-
-part-move-point-start : tie.Need-part-move-point-start Inv-loop μ-loop
-part-move-point-start c = search needs
-
-part-move-point-end : tie.Need-part-move-point-end Inv-loop μ-loop
-part-move-point-end c = omega (arith, fits c)
-
-move-point-requires : tie.Need-move-point-requires Inv-loop μ-loop
-move-point-requires c κs = search needs
-
-add-k : tie.Need-add-k Inv-loop μ-loop
-add-k c = search needs
-
-loop-less : tie.Need-loop-less Inv-loop μ-loop
-loop-less c = search needs
+loop-holds c = let a = c .before .args in (search needs, moving-starts (a .step) (a .n) (a .v) (a .at) (a .out .now) (c .before .pre .1))
 
 loop-again : tie.Need-loop-again Inv-loop μ-loop
 loop-again c =
     let t = c .before .before .before .before in
     let s = start t in
     let a = s .args in
-    let k = t .before .loop .k in
-    let next =
-    level-more (a .step) (a .n) (a .v) (a .at) (now (a .out)) (s .pre .1) k (t .before .loop .out) (c .before .before .move-point .last .1 .1 .0) _
-    (add-sub-cancel-left (a .at + k * a .n) (a .n)) (t .loop-test .taken) (t .before .loop .inv .2) (c .before .before .move-point .ensures) in
-    (omega arith, ap length next ∙ level-length (a .step) (a .n) (a .v) (a .at) (now (a .out)) (s .pre .1) (k + 1) (omega arith), next)
-
-same-length : tie.Need-same-length Inv-loop μ-loop
-same-length c = search needs
+    let l = t .before .loop in
+    let moves = moving-goes (a .step) (a .n) (a .v) (a .at) (a .out .now) (s .pre .1) (l .k) (l .out) in
+    (omega arith, moves (c .before .before .move-point .last .1 .1 .0) _ (add-sub-cancel-left (a .at + l .k * a .n) (a .n)) (t .loop-test .taken) (l .inv .1) (c .before .before .move-point .ensures))
 
 returns : tie.Need-returns Inv-loop μ-loop
-returns c = let all : c .before .loop .k ≡ c .before .before .before .args .v = omega arith in rw all at (c .before .loop .inv .2)
+returns c =
+    let s = c .before .before .before in
+    let a = s .args in
+    moving-ends (a .step) (a .n) (a .v) (a .at) (a .out .now) (s .pre .1) (c .before .loop .k) _ (omega arith) (c .before .loop .inv .1)
 
 pub move-level-spec : {M : Type 1} → statement M
 move-level-spec =
@@ -85,16 +45,16 @@ move-level-spec =
     Inv-loop
     μ-loop
     loop-holds
-    mul-a
-    add-a
-    add-move-point
-    mul-move-point
-    sub-move-point
-    part-move-point-start
-    part-move-point-end
-    move-point-requires
-    add-k
-    loop-less
+    (λ c. omega (arith, fits c))
+    (λ c. omega (arith, fits c))
+    (λ c. omega (arith, fits c))
+    (λ c. omega (arith, fits c))
+    (λ c. search needs)
+    (λ c. search needs)
+    (λ c. omega (arith, fits c))
+    (λ c κs. search needs)
+    (λ c. search needs)
+    (λ c. search needs)
     loop-again
-    same-length
+    (λ c. search needs)
     returns)

@@ -43,12 +43,6 @@ one c =
     let a = l .before .args in
     l .loop .inv .1 ∙ stays-one (a .step) (a .n) (l .loop .left) (take (a .n) (l .loop .q)) (c .before .before .loop-test .taken) ∙ rw (row c .1) refl
 
-loop-holds : tie.Need-loop-holds Inv-loop μ-loop
-loop-holds c = search needs
-
-array-borrow-prefix-q : tie.Need-array-borrow-prefix-q Inv-loop μ-loop
-array-borrow-prefix-q c = search needs
-
 slice-aggregate-move-point : tie.Need-slice-aggregate-move-point Inv-loop μ-loop
 slice-aggregate-move-point c = sym (length-take-le _ (c .before .before .loop .q) (omega (arith, c .before .before .loop .inv .0)))
 
@@ -61,17 +55,8 @@ array-share-prefix-q c = omega (arith, row (c .before) .0, c .before .before .be
 slice-aggregate-all-in-range : tie.Need-slice-aggregate-all-in-range Inv-loop μ-loop
 slice-aggregate-all-in-range c = sym (length-take-le (c .before .before .before .before .before .before .args .n) (c .before .before .move-point .last .1 .1 .0 ++ drop (c .before .before .before .before .before .before .args .n) (c .before .before .before .before .before .loop .q)) (omega (arith, row (c .before .before) .0, c .before .before .before .before .before .before .pre .0)))
 
-all-in-range-requires : tie.Need-all-in-range-requires Inv-loop μ-loop
-all-in-range-requires c κs = search needs
-
 returns : tie.Need-returns Inv-loop μ-loop
 returns c = sym (one (c .before .before .before .before) ∙ rw (sym (c .before .all-in-range .ensures) ∙ not-true (c .before .all-in-range .result) (c .if1 .taken)) refl)
-
-sub-left : tie.Need-sub-left Inv-loop μ-loop
-sub-left c = search needs
-
-loop-less : tie.Need-loop-less Inv-loop μ-loop
-loop-less c = search needs
 
 loop-again : tie.Need-loop-again Inv-loop μ-loop
 loop-again c = (row (c .before .before .before .before) .0, one (c .before .before .before .before) ∙ rw (sym (c .before .all-in-range .ensures) ∙ not-false (c .before .all-in-range .result) (c .if1 .left)) refl)
@@ -87,15 +72,15 @@ stays-spec =
     (tie.spec
     Inv-loop
     μ-loop
-    loop-holds
-    array-borrow-prefix-q
+    (λ c. search needs)
+    (λ c. search needs)
     slice-aggregate-move-point
     move-point-requires
     array-share-prefix-q
     slice-aggregate-all-in-range
-    all-in-range-requires
+    (λ c κs. search needs)
     returns
-    sub-left
-    loop-less
+    (λ c. search needs)
+    (λ c. search needs)
     loop-again
     returns-2)

@@ -1,37 +1,21 @@
 -- `write_level` writes the moved points of a level: a copy that is then moved. Assumes nothing.
-use mathlib.Core.Path.{ap, _∙_}
-use mathlib.Core.List.{List}
-use Prim.Native.Nat.{_*_}
-use lib.Ieee.{Float}
-use lib.ListN.{take, drop}
-use lib.Seq.{paste}
-use denote.Ref.{now}
+use mathlib.Core.Path.{_∙_}
 use borrow.Author.Needs.{needs}
-use Rattle.points.specs.Levels.{movedAll}
 use Rattle.points.proofs.Writing.{level-copied}
 use Rattle.points.proofs.levels.write_level.Statement.{statement}
 use Rattle.points.proofs.levels.write_level.Tie as tie
 
-mul-w : tie.Need-mul-w
-mul-w c = search needs
-
-copy-up-requires : tie.Need-copy-up-requires
-copy-up-requires c κs = search needs
-
-move-level-requires : tie.Need-move-level-requires
-move-level-requires c κs = search needs
-
-same-length : tie.Need-same-length
-same-length c = search needs
+abbrev start : tie.After-copy-up → tie.Start
+start c = c .before .before .before
 
 returns : tie.Need-returns
 returns c =
-    let s = c .before .before .before .before .before .before .before .before .before in
+    let m = c .before .before in
+    let copy = m .before .before .before .before in
+    let s = start copy in
     let a = s .args in
-    c .before .before .move-level .ensures
-    ∙ ap (λ (x : List Float). paste x (a .to) (movedAll (a .step) (a .n) (a .v) (take (a .v * a .n) (drop (a .to) x))) (a .v * a .n)) (c .before .before .before .before .before .before .copy-up .ensures)
-    ∙ level-copied (a .step) (a .n) (a .v) (a .from) (a .to) (now (a .out)) (s .pre .1 .0) (s .pre .1 .1)
+    (rw (copy .copy-up .ensures) at (m .move-level .ensures)) ∙ (level-copied (a .step) (a .n) (a .v) (a .from) (a .to) (a .out .now) (s .pre .1 .0) (s .pre .1 .1))
 
 pub write-level-spec : {M : Type 1} → statement M
 write-level-spec =
-    tie.close (tie.spec mul-w copy-up-requires move-level-requires same-length returns)
+    tie.close (tie.spec (λ c. search needs) (λ c κs. search needs) (λ c κs. search needs) (λ c. search needs) returns)

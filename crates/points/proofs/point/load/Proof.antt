@@ -4,14 +4,8 @@ use borrow.Author.Needs.{needs}
 use Rattle.points.proofs.point.load.Statement.{statement}
 use Rattle.points.proofs.point.load.Tie as tie
 
-slice-aggregate-put : tie.Need-slice-aggregate-put
-slice-aggregate-put c = search needs
-
-put-requires : tie.Need-put-requires
-put-requires c κs = search needs
-
 returns : tie.Need-returns
 returns c = rw (c .before .put .ensures) (take-append-seam _ _)
 
 pub load-spec : {M : Type 1} → statement M
-load-spec = tie.close (tie.spec slice-aggregate-put put-requires returns)
+load-spec = tie.close (tie.spec (λ c. search needs) (λ c κs. search needs) returns)

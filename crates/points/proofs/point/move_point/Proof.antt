@@ -7,23 +7,14 @@ use Rattle.points.proofs.Moved.{fits-slide, fits-slant, fits-turn}
 use Rattle.points.proofs.point.move_point.Statement.{statement}
 use Rattle.points.proofs.point.move_point.Tie as tie
 
-enum-known-step : tie.Need-enum-known-step
-enum-known-step c = search needs
-
 add-at-requires : tie.Need-add-at-requires
 add-at-requires c κs = let l = fits-slide _ _ _ (rw (c .before .before .step .given .1) at (c .before .before .before .before .before .pre .1)) in omega (arith, c .before .before .before .before .before .pre .0)
-
-enum-known-step-2 : tie.Need-enum-known-step-2
-enum-known-step-2 c = search needs
 
 add-at-requires-2 : tie.Need-add-at-requires-2
 add-at-requires-2 c κs = let l = fits-slant _ _ _ _ _ (rw (c .before .before .step2 .given .1) at (c .before .before .before .before .before .pre .1)) in omega (arith, c .before .before .before .before .before .pre .0)
 
 add-at-requires-3 : tie.Need-add-at-requires-3
 add-at-requires-3 c κs = let l = fits-slant _ _ _ _ _ (rw (c .before .before .before .before .before .before .step2 .given .1) at (c .before .before .before .before .before .before .before .before .before .pre .1)) in omega (arith, c .before .before .before .before .before .before .before .before .before .pre .0, c .before .before .before .add-at2 .kept .1 .1 .0)
-
-enum-known-step-3 : tie.Need-enum-known-step-3
-enum-known-step-3 c = search needs
 
 sub-last : tie.Need-sub-last
 sub-last c = let l = fits-turn _ _ (rw (c .before .step3 .given .1) at (c .before .before .before .before .pre .1)) in omega (arith, c .before .before .before .before .pre .0)
@@ -34,22 +25,13 @@ turn-requires c κs = let l = fits-turn _ _ (rw (c .before .before .step3 .given
 add-at-requires-4 : tie.Need-add-at-requires-4
 add-at-requires-4 c κs = let l = fits-turn _ _ (rw (c .before .before .before .before .before .before .step3 .given .1) at (c .before .before .before .before .before .before .before .before .before .pre .1)) in omega (arith, c .before .before .before .before .before .before .before .before .before .pre .0, c .before .before .before .turn .kept .1 .0)
 
-same-length : tie.Need-same-length
-same-length c = search needs
-
 returns : tie.Need-returns
 unfolding movedPoint
 returns c = rw (c .before .before .before .before .before .step .given .1) (c .before .before .add-at .ensures)
 
-same-length-2 : tie.Need-same-length-2
-same-length-2 c = search needs
-
 returns-2 : tie.Need-returns-2
 unfolding movedPoint
 returns-2 c = rw (c .before .before .before .before .before .before .before .before .before .step2 .given .1, sym (c .before .before .before .before .before .before .add-at2 .ensures)) (c .before .before .add-at3 .ensures)
-
-same-length-3 : tie.Need-same-length-3
-same-length-3 c = search needs
 
 returns-3 : tie.Need-returns-3
 unfolding movedPoint
@@ -59,18 +41,18 @@ pub move-point-spec : {M : Type 1} → statement M
 move-point-spec =
     tie.close
     (tie.spec
-    enum-known-step
+    (λ c. search needs)
     add-at-requires
-    enum-known-step-2
+    (λ c. search needs)
     add-at-requires-2
     add-at-requires-3
-    enum-known-step-3
+    (λ c. search needs)
     sub-last
     turn-requires
     add-at-requires-4
-    same-length
+    (λ c. search needs)
     returns
-    same-length-2
+    (λ c. search needs)
     returns-2
-    same-length-3
+    (λ c. search needs)
     returns-3)

@@ -1,62 +1,30 @@
 -- `put` writes a copy of a list. The invariant: the first i elements are copied. Assumes nothing.
-use mathlib.Core.Path.{refl, _∙_, ap, _≡_}
-use mathlib.Core.List.{List, _++_}
+use mathlib.Core.Path.{refl}
 use Prim.Native.Nat.{_≤_, _-_}
-use native.Mathlib.Numerals.{add-one}
 use native.Mathlib.Omega.{arith}
-use lib.Ieee.{Float, nan}
-use lib.ListN.{length-set, take, drop, length, getD, set}
-use lib.Seq.{take-length}
-use denote.Ref.{now}
+use lib.Ieee.{nan}
+use lib.ListN.{length, drop}
 use borrow.Author.Needs.{needs}
-use Rattle.points.proofs.Copies.{copy-more}
+use Rattle.words.proofs.Writing.{Left, left-starts, left-next, left-none, put-first}
 use Rattle.points.proofs.point.put.Statement.{statement}
 use Rattle.points.proofs.point.put.Tie as tie
 
 abbrev Inv-loop : tie.InvT-loop
-Inv-loop xs out₀ i₀ out i = (i ≤ length xs) × (length out ≡ length out₀) × (out ≡ take i xs ++ drop i out₀)
+Inv-loop xs out₀ i₀ out i = (i ≤ length xs) × Left 0 xs out₀ i (drop i xs) out
 
 abbrev μ-loop : tie.MeasureT-loop
 μ-loop xs out₀ i₀ out i = length xs - i
 
 loop-holds : tie.Need-loop-holds Inv-loop μ-loop
-loop-holds c = (search needs, search needs, refl)
-
-mul-out : tie.Need-mul-out Inv-loop μ-loop
-mul-out c = search needs
-
-shared-slice-read-out : tie.Need-shared-slice-read-out Inv-loop μ-loop
-shared-slice-read-out c = search needs
-
-mul-out-2 : tie.Need-mul-out-2 Inv-loop μ-loop
-mul-out-2 c = search needs
-
-slice-write-out : tie.Need-slice-write-out Inv-loop μ-loop
-slice-write-out c = search needs
-
-add-i : tie.Need-add-i Inv-loop μ-loop
-add-i c = search needs
-
-loop-less : tie.Need-loop-less Inv-loop μ-loop
-loop-less c = search needs
+loop-holds c = (search needs, left-starts 0 _ _ (omega arith))
 
 loop-again : tie.Need-loop-again Inv-loop μ-loop
 loop-again c =
-    let d = now (c .before .before .before .args .out) in
-    let xs = now (c .before .before .before .args .xs) in
-    let i = c .before .before .loop .i in (
-      omega arith,
-      simp length-set (c .before .before .loop .inv .1),
-      ap (λ (l : List Float). set l i (getD xs i nan)) (c .before .before .loop .inv .2) ∙ rw add-one (copy-more d xs i nan (omega arith) (omega arith)),
-    )
-
-same-length : tie.Need-same-length Inv-loop μ-loop
-same-length c = search needs
+    let l = c .before .before in
+    (omega arith, left-next nan (l .before .args .xs .now) (l .loop .i) _ _ (c .before .loop-test .taken) refl refl (l .loop .inv .1))
 
 returns : tie.Need-returns Inv-loop μ-loop
-returns c =
-    let all : c .before .loop .i ≡ length (now (c .before .before .args .xs)) = omega arith in
-    c .before .loop .inv .2 ∙ rw (all, take-length)
+returns c = let l = c .before in put-first (left-none (l .before .args .xs .now) (l .loop .i) (omega arith) (l .loop .inv .1))
 
 pub put-spec : {M : Type 1} → statement M
 put-spec =
@@ -65,12 +33,12 @@ put-spec =
     Inv-loop
     μ-loop
     loop-holds
-    mul-out
-    shared-slice-read-out
-    mul-out-2
-    slice-write-out
-    add-i
-    loop-less
+    (λ c. search needs)
+    (λ c. search needs)
+    (λ c. search needs)
+    (λ c. search needs)
+    (λ c. search needs)
+    (λ c. search needs)
     loop-again
-    same-length
+    (λ c. search needs)
     returns)

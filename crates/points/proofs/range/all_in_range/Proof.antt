@@ -1,52 +1,42 @@
--- `all_in_range` tests each element. The invariant: those before i are in range. Assumes nothing.
-use mathlib.Core.Path.{sym, _∙_, _≡_}
-use mathlib.Core.Bool.{true}
-use Prim.Native.Nat.{ℕ, _≤_, _<_, _-_}
+-- `all_in_range` tests each element: those from i on decide. Assumes nothing.
+use mathlib.Core.Path.{_≡_, refl}
+use mathlib.Core.List.{List}
+use Prim.Native.Nat.{_≤_, _-_}
 use native.Mathlib.Omega.{arith}
-use lib.Ieee.{nan}
-use lib.ListN.{length, getD}
-use denote.Ref.{now}
-use borrow.Author.Count.{below-none, below-more}
+use lib.Ieee.{Float, nan}
+use lib.ListN.{length, drop}
 use borrow.Author.Needs.{needs}
 use borrow.Author.Tests.{not-true, not-false}
+use Rattle.words.specs.Records.{allOf}
+use Rattle.words.proofs.Loops.{all-goes, all-stops, all-ends}
 use Rattle.points.specs.Step.{inRange}
-use Rattle.points.proofs.AllOf.{allOf-true, allOf-false}
 use Rattle.points.proofs.range.all_in_range.Statement.{statement}
 use Rattle.points.proofs.range.all_in_range.Tie as tie
 
 abbrev Inv-loop : tie.InvT-loop
-Inv-loop xs i₀ i = (i ≤ length xs) × ((k : ℕ) → k < i → inRange (getD xs k nan) ≡ true)
+Inv-loop xs i₀ i = (i ≤ length xs) × (allOf inRange xs ≡ allOf inRange (drop i xs))
 
 abbrev μ-loop : tie.MeasureT-loop
 μ-loop xs i₀ i = length xs - i
 
+abbrev floats : tie.At-loop Inv-loop μ-loop → List Float
+floats l = l .before .before .args .xs .now
+
 loop-holds : tie.Need-loop-holds Inv-loop μ-loop
-loop-holds c = (search needs, below-none _)
-
-mul-in-range : tie.Need-mul-in-range Inv-loop μ-loop
-mul-in-range c = search needs
-
-shared-slice-read-in-range : tie.Need-shared-slice-read-in-range Inv-loop μ-loop
-shared-slice-read-in-range c = search needs
-
-in-range-requires : tie.Need-in-range-requires Inv-loop μ-loop
-in-range-requires c κs = search needs
+loop-holds c = (search needs, refl)
 
 returns : tie.Need-returns Inv-loop μ-loop
 returns c =
-    sym (allOf-false inRange nan (now (c .before .before .before .before .before .before .args .xs)) (c .before .before .before .before .loop .i) (c .before .before .before .loop-test .taken) (sym (c .before .in-range .ensures) ∙ not-true _ (c .if1 .taken)))
-
-add-i : tie.Need-add-i Inv-loop μ-loop
-add-i c = search needs
-
-loop-less : tie.Need-loop-less Inv-loop μ-loop
-loop-less c = search needs
+    let l = c .before .before .before .before in
+    all-stops inRange nan (floats l) _ (l .loop .i) refl (omega arith) _ refl _ (cc (not-true (c .before .in-range .result) (c .if1 .taken))) (l .loop .inv .1)
 
 loop-again : tie.Need-loop-again Inv-loop μ-loop
-loop-again c = (omega arith, below-more _ _ (c .before .before .before .before .loop .inv .1) (sym (c .before .in-range .ensures) ∙ not-false _ (c .if1 .left)))
+loop-again c =
+    let l = c .before .before .before .before in
+    (omega arith, all-goes inRange nan (floats l) _ (l .loop .i) refl (omega arith) _ refl _ (cc (not-false (c .before .in-range .result) (c .if1 .left))) (l .loop .inv .1))
 
 returns-2 : tie.Need-returns-2 Inv-loop μ-loop
-returns-2 c = sym (allOf-true inRange nan (now (c .before .before .before .args .xs)) (λ k l. c .before .loop .inv .1 k (omega arith)))
+returns-2 c = let l = c .before in all-ends inRange nan (floats l) _ (l .loop .i) refl (omega arith) _ (l .loop .inv .1)
 
 pub all-in-range-spec : {M : Type 1} → statement M
 all-in-range-spec =
@@ -55,11 +45,11 @@ all-in-range-spec =
     Inv-loop
     μ-loop
     loop-holds
-    mul-in-range
-    shared-slice-read-in-range
-    in-range-requires
+    (λ c. search needs)
+    (λ c. search needs)
+    (λ c κs. search needs)
     returns
-    add-i
-    loop-less
+    (λ c. search needs)
+    (λ c. search needs)
     loop-again
     returns-2)

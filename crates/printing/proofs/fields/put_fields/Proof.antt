@@ -5,7 +5,7 @@ use lib.ListN.{length, drop, getD, drop-of-length-le}
 use borrow.Author.Needs.{needs}
 use Rattle.words.proofs.Loops.{drop-next}
 use Rattle.printing.specs.Fields.{field, fields}
-use Rattle.printing.proofs.Placing.{Left, left-start, left-step, left-fits, left-done}
+use Rattle.words.proofs.Writing.{Left, left-starts, left-goes, left-fits, left-ends}
 use Rattle.printing.proofs.fields.put_fields.Statement.{statement}
 use Rattle.printing.proofs.fields.put_fields.Tie as tie
 
@@ -18,16 +18,7 @@ abbrev μ-loop : tie.MeasureT-loop
 loop-holds : tie.Need-loop-holds Inv-loop μ-loop
 loop-holds c =
     let start = c .before .before in
-    (omega arith, left-start (start .args .at) (fields (start .args .words .now)) (start .args .buf .now) (start .pre))
-
-mul-wide : tie.Need-mul-wide Inv-loop μ-loop
-mul-wide c = search needs
-
-shared-slice-read-wide : tie.Need-shared-slice-read-wide Inv-loop μ-loop
-shared-slice-read-wide c = search needs
-
-wide-requires : tie.Need-wide-requires Inv-loop μ-loop
-wide-requires c κs = search needs
+    (omega arith, left-starts (start .args .at) (fields (start .args .words .now)) (start .args .buf .now) (start .pre))
 
 put-field-requires : tie.Need-put-field-requires Inv-loop μ-loop
 put-field-requires c κs =
@@ -38,12 +29,6 @@ put-field-requires c κs =
     let rest = rw (drop-next 0 ws i (c .before .before .before .loop-test .taken)) at (turn .loop .inv .1) in
     rw (c .wide .ensures .0) (left-fits (field (getD ws i 0)) (fields (drop (i + 1) ws)) rest)
 
-add-i : tie.Need-add-i Inv-loop μ-loop
-add-i c = search needs
-
-loop-less : tie.Need-loop-less Inv-loop μ-loop
-loop-less c = search needs
-
 loop-again : tie.Need-loop-again Inv-loop μ-loop
 loop-again c =
     let start = c .before .before .before .before .before .before .before .before .before .before in
@@ -52,13 +37,13 @@ loop-again c =
     let i = turn .loop .i in
     let rest = rw (drop-next 0 ws i (c .before .before .before .before .before .before .loop-test .taken)) at (turn .loop .inv .1) in
     let put = rw (c .before .before .before .wide .ensures .0) at (c .before .before .put-field .ensures) in
-    (omega arith, left-step (field (getD ws i 0)) (fields (drop (i + 1) ws)) _ _ rest put)
+    (omega arith, left-goes (field (getD ws i 0)) (fields (drop (i + 1) ws)) _ _ rest put)
 
 same-length : tie.Need-same-length Inv-loop μ-loop
 same-length c = c .before .loop .inv .1 .same
 
 returns : tie.Need-returns Inv-loop μ-loop
-returns c = left-done (rw (drop-of-length-le (c .before .before .before .before .args .words .now) (c .loop-test .left)) at (c .before .loop .inv .1))
+returns c = left-ends (rw (drop-of-length-le (c .before .before .before .before .args .words .now) (c .loop-test .left)) at (c .before .loop .inv .1))
 
 pub put-fields-spec : {M : Type 1} → statement M
 put-fields-spec =
@@ -67,12 +52,12 @@ put-fields-spec =
     Inv-loop
     μ-loop
     loop-holds
-    mul-wide
-    shared-slice-read-wide
-    wide-requires
+    (λ c. search needs)
+    (λ c. search needs)
+    (λ c κs. search needs)
     put-field-requires
-    add-i
-    loop-less
+    (λ c. search needs)
+    (λ c. search needs)
     loop-again
     same-length
     returns)

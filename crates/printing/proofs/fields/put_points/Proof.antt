@@ -7,7 +7,7 @@ use borrow.Author.Needs.{needs}
 use Rattle.words.proofs.Loops.{all-at, drop-next}
 use Rattle.points.specs.Step.{inRange}
 use Rattle.printing.specs.Fields.{pointField, pointFields}
-use Rattle.printing.proofs.Placing.{Left, left-start, left-step, left-fits, left-done}
+use Rattle.words.proofs.Writing.{Left, left-starts, left-goes, left-fits, left-ends}
 use Rattle.printing.proofs.fields.put_points.Statement.{statement}
 use Rattle.printing.proofs.fields.put_points.Tie as tie
 
@@ -20,13 +20,7 @@ abbrev μ-loop : tie.MeasureT-loop
 loop-holds : tie.Need-loop-holds Inv-loop μ-loop
 loop-holds c =
     let start = c .before .before in
-    (omega arith, left-start (start .args .at) (pointFields (start .args .points .now)) (start .args .buf .now) (start .pre .1))
-
-mul-put-point : tie.Need-mul-put-point Inv-loop μ-loop
-mul-put-point c = search needs
-
-shared-slice-read-put-point : tie.Need-shared-slice-read-put-point Inv-loop μ-loop
-shared-slice-read-put-point c = search needs
+    (omega arith, left-starts (start .args .at) (pointFields (start .args .points .now)) (start .args .buf .now) (start .pre .1))
 
 put-point-requires : tie.Need-put-point-requires Inv-loop μ-loop
 put-point-requires c κs =
@@ -37,12 +31,6 @@ put-point-requires c κs =
     let rest = rw (drop-next nan xs i (c .before .before .loop-test .taken)) at (turn .loop .inv .1) in
     (all-at inRange nan xs i (start .pre .0) (c .before .before .loop-test .taken), left-fits (pointField (getD xs i nan)) (pointFields (drop (i + 1) xs)) rest)
 
-add-i : tie.Need-add-i Inv-loop μ-loop
-add-i c = search needs
-
-loop-less : tie.Need-loop-less Inv-loop μ-loop
-loop-less c = search needs
-
 loop-again : tie.Need-loop-again Inv-loop μ-loop
 loop-again c =
     let start = c .before .before .before .before .before .before .before .before .before in
@@ -50,13 +38,13 @@ loop-again c =
     let xs = start .args .points .now in
     let i = turn .loop .i in
     let rest = rw (drop-next nan xs i (c .before .before .before .before .before .loop-test .taken)) at (turn .loop .inv .1) in
-    (omega arith, left-step (pointField (getD xs i nan)) (pointFields (drop (i + 1) xs)) _ _ rest (c .before .before .put-point .ensures))
+    (omega arith, left-goes (pointField (getD xs i nan)) (pointFields (drop (i + 1) xs)) _ _ rest (c .before .before .put-point .ensures))
 
 same-length : tie.Need-same-length Inv-loop μ-loop
 same-length c = c .before .loop .inv .1 .same
 
 returns : tie.Need-returns Inv-loop μ-loop
-returns c = left-done (rw (drop-of-length-le (c .before .before .before .before .args .points .now) (c .loop-test .left)) at (c .before .loop .inv .1))
+returns c = left-ends (rw (drop-of-length-le (c .before .before .before .before .args .points .now) (c .loop-test .left)) at (c .before .loop .inv .1))
 
 pub put-points-spec : {M : Type 1} → statement M
 put-points-spec =
@@ -65,11 +53,11 @@ put-points-spec =
     Inv-loop
     μ-loop
     loop-holds
-    mul-put-point
-    shared-slice-read-put-point
+    (λ c. search needs)
+    (λ c. search needs)
     put-point-requires
-    add-i
-    loop-less
+    (λ c. search needs)
+    (λ c. search needs)
     loop-again
     same-length
     returns)

@@ -11,18 +11,6 @@ use Rattle.printing.proofs.Digits.{digits-length}
 use Rattle.printing.proofs.lengths.coordinate_len.Statement.{statement}
 use Rattle.printing.proofs.lengths.coordinate_len.Tie as tie
 
-thousandths-of-requires : tie.Need-thousandths-of-requires
-thousandths-of-requires c κs = search needs
-
-is-negative-requires : tie.Need-is-negative-requires
-is-negative-requires c κs = search needs
-
-minus-len-requires : tie.Need-minus-len-requires
-minus-len-requires c κs = search needs
-
-digits-len-requires : tie.Need-digits-len-requires
-digits-len-requires c κs = search needs
-
 add-result : tie.Need-add-result
 add-result c = omega (arith, c .before .minus-len .ensures, c .digits-len .ensures, digits-length (c .before .before .before .thousandths-of .result / 1000), minus-short (c .before .before .is-negative .result) (c .before .before .before .thousandths-of .result))
 
@@ -42,10 +30,10 @@ pub coordinate-len-spec : {M : Type 1} → statement M
 coordinate-len-spec =
     tie.close
     (tie.spec
-    thousandths-of-requires
-    is-negative-requires
-    minus-len-requires
-    digits-len-requires
+    (λ c κs. search needs)
+    (λ c κs. search needs)
+    (λ c κs. search needs)
+    (λ c κs. search needs)
     add-result
     add-result-2
     returns)

@@ -15,14 +15,8 @@ Inv-loop n rest₀ k₀ rest k = (k + length (digits rest) ≡ 1 + length (digit
 abbrev μ-loop : tie.MeasureT-loop
 μ-loop n rest₀ k₀ rest k = rest
 
-loop-holds : tie.Need-loop-holds Inv-loop μ-loop
-loop-holds c = omega arith
-
 add-k : tie.Need-add-k Inv-loop μ-loop
 add-k c = omega (arith, digits-length (c .before .before .args .n))
-
-loop-less : tie.Need-loop-less Inv-loop μ-loop
-loop-less c = omega arith
 
 loop-again : tie.Need-loop-again Inv-loop μ-loop
 loop-again c = let rest = c .before .loop .rest in
@@ -33,4 +27,4 @@ returns c = omega (arith, ap length (digits-one (c .before .loop .rest) (omega a
 
 pub digits-len-spec : {M : Type 1} → statement M
 digits-len-spec =
-    tie.close (tie.spec Inv-loop μ-loop loop-holds add-k loop-less loop-again returns)
+    tie.close (tie.spec Inv-loop μ-loop (λ c. omega arith) add-k (λ c. omega arith) loop-again returns)

@@ -31,7 +31,7 @@ use denote.Triple.Entry.{onEntry}
 use denote.Triple.Spec.{Meets, tripleOf}
 use denote.Triple.Table.{entered, cited}
 use denote.Triple.Walked.{says, needs, Stays, stay-dropped, walkOf, goes-dropped, ends-at, walked, walk-meets}
-use Rattle.printing.specs.Put.{Put}
+use Rattle.words.specs.Placed.{Put}
 use Rattle.printing.specs.Advanced.{writerAt}
 use Rattle.printing.proofs.Held.{machine, handed}
 use Rattle.printing.proofs.Lending.{valueOf, bytesAt, bytesOwn, Puts, puts}
@@ -78,7 +78,7 @@ module _ {M : Type 1} (𝓤 : URA M) (H : Heap 𝓤) (A : Atoms 𝓤) (W : Given
         qed W (‵ (bytesOwn κ (x zs) s) ∷ ‵ (flft κ q) ∷ ‵ (flft κ′ q′) ∷ []) ∵
         suffices ! _ (ends-at 𝓤 H A begin.ended stayed (begin.clauses 𝓤 H A mem run) W bound (machine s r) (writerAt (x zs) r)
         (tt, (tt, (tt, tt))) (tt, (tt, (tt, tt)))) $
-        says ! (λ i. writerAt (x (e .bytes i)) (e .place i)) $ by ! (handed 𝓤 H A W κ κ′ q q′ (x zs) r r-fits s 3)
+        says ! (λ i. writerAt (x (e .content i)) (e .place i)) $ by ! (handed 𝓤 H A W κ κ′ q q′ (x zs) r r-fits s 3)
 
     walk : Room u8 (length ys) → n < 2 ^ 64 → length (y .now) < 2 ^ 64 → n + length (y .now) ≤ length ys
         → ent 𝓤 (onEntry 𝓤 H A begin.signature (κ, (κ′, tt)) (q, (q′, tt)) a vals)

@@ -39,7 +39,7 @@ use denote.Triple.Statement.{Contract, Triple}
 use denote.Triple.Table.{entered, cited}
 use denote.Triple.Walked.{says, needs, Stays, walkOf, ends-at, walked, walk-meets}
 use Rattle.printing.specs.declared.line_writer.LineWriter.{LineWriter}
-use Rattle.printing.specs.Put.{Put}
+use Rattle.words.specs.Placed.{Put}
 use Rattle.printing.proofs.Held.{lifetime, writer, machine, writer-gave, writer-gave-goes}
 use Rattle.printing.proofs.Lending.{valueOf, bytesOwn}
 use Rattle.printing.proofs.Locals.{alloc3, cell, cells, free-cell, free3}

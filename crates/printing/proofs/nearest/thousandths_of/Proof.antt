@@ -20,17 +20,8 @@ returns c = thousandths-zero (c .before .args .x) (c .before .good .0 .1) (c .be
 sub-k : tie.Need-sub-k
 sub-k c = omega (arith, field-in-range (c .before .args .x) (c .before .good .0 .1) (c .before .pre) (c .if1 .left))
 
-add-m : tie.Need-add-m
-add-m c = search needs
-
-mul-result : tie.Need-mul-result
-mul-result c = search needs
-
 sub-result : tie.Need-sub-result
 sub-result c = omega (arith, field-in-range (c .before .args .x) (c .before .good .0 .1) (c .before .pre) (c .if1 .left))
-
-shl-result : tie.Need-shl-result
-shl-result c = search needs
 
 -- half a unit is below 2^63
 half-below : (y : ℕ) → 1012 ≤ y → 2 ^ (1075 - y - 1) ≤ 4611686018427387904
@@ -41,9 +32,6 @@ shift-is y l = let h = half-below y l in mod-eq-of-lt (omega arith) ∙ omega ar
 
 add-result : tie.Need-add-result
 add-result c = let y = fieldOf (c .before .args .x) in omega (arith, half-below y (c .if1 .left), shift-is y (c .if1 .left))
-
-shr-result : tie.Need-shr-result
-shr-result c = search needs
 
 returns-2 : tie.Need-returns-2
 returns-2 c =
@@ -61,10 +49,10 @@ thousandths-of-spec =
     float-to-bits-b
     returns
     sub-k
-    add-m
-    mul-result
+    (λ c. search needs)
+    (λ c. search needs)
     sub-result
-    shl-result
+    (λ c. search needs)
     add-result
-    shr-result
+    (λ c. search needs)
     returns-2)

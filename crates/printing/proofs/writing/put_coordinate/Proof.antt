@@ -4,15 +4,9 @@ use Prim.Native.Nat.{_/_, _-_, _+_}
 use borrow.Author.Needs.{needs}
 use Rattle.printing.specs.Fields.{decimalsText}
 use Rattle.printing.specs.Decimal.{digits, coordinate, thousandths, minusOf}
-use Rattle.printing.proofs.Placing.{left-start, left-step, left-last, left-fits}
+use Rattle.words.proofs.Writing.{left-starts, left-goes, left-last, left-fits}
 use Rattle.printing.proofs.writing.put_coordinate.Statement.{statement}
 use Rattle.printing.proofs.writing.put_coordinate.Tie as tie
-
-thousandths-of-requires : tie.Need-thousandths-of-requires
-thousandths-of-requires c κs = search needs
-
-is-negative-requires : tie.Need-is-negative-requires
-is-negative-requires c κs = search needs
 
 put-minus-requires : tie.Need-put-minus-requires
 unfolding coordinate
@@ -20,7 +14,7 @@ put-minus-requires c κs =
     let start = c .before .before .before .before in
     let x = start .args .x in
     rw (c .is-negative .ensures, c .before .before .thousandths-of .ensures)
-    (left-fits (minusOf x) (digits (thousandths x / 1000) ++ decimalsText (thousandths x)) (left-start (start .args .at) (coordinate (start .args .x)) (start .args .buf .now) (start .pre .1)))
+    (left-fits (minusOf x) (digits (thousandths x / 1000) ++ decimalsText (thousandths x)) (left-starts (start .args .at) (coordinate (start .args .x)) (start .args .buf .now) (start .pre .1)))
 
 put-number-requires : tie.Need-put-number-requires
 unfolding coordinate
@@ -29,7 +23,7 @@ put-number-requires c κs =
     let x = start .args .x in
     let t = thousandths x in
     let sign = rw (c .before .before .before .before .is-negative .ensures, c .before .before .before .before .before .before .thousandths-of .ensures) at (c .before .before .before .put-minus .ensures) in
-    let number = left-step (minusOf x) (digits (t / 1000) ++ decimalsText t) _ _ (left-start (start .args .at) (coordinate (start .args .x)) (start .args .buf .now) (start .pre .1)) sign in
+    let number = left-goes (minusOf x) (digits (t / 1000) ++ decimalsText t) _ _ (left-starts (start .args .at) (coordinate (start .args .x)) (start .args .buf .now) (start .pre .1)) sign in
     rw (c .before .before .before .before .before .before .thousandths-of .ensures) (left-fits (digits (t / 1000)) (decimalsText t) number)
 
 put-decimals-requires : tie.Need-put-decimals-requires
@@ -40,11 +34,8 @@ put-decimals-requires c κs =
     let t = thousandths x in
     let sign = rw (c .before .before .before .before .before .before .before .before .is-negative .ensures, c .before .before .before .before .before .before .before .before .before .before .thousandths-of .ensures) at (c .before .before .before .before .before .before .before .put-minus .ensures) in
     let whole = rw (c .before .before .before .before .before .before .before .before .before .before .thousandths-of .ensures) at (c .before .before .before .put-number .ensures) in
-    let number = left-step (minusOf x) (digits (t / 1000) ++ decimalsText t) _ _ (left-start (start .args .at) (coordinate (start .args .x)) (start .args .buf .now) (start .pre .1)) sign in
-    left-step (digits (t / 1000)) (decimalsText t) _ _ number whole .room
-
-same-length : tie.Need-same-length
-same-length c = search needs
+    let number = left-goes (minusOf x) (digits (t / 1000) ++ decimalsText t) _ _ (left-starts (start .args .at) (coordinate (start .args .x)) (start .args .buf .now) (start .pre .1)) sign in
+    left-goes (digits (t / 1000)) (decimalsText t) _ _ number whole .room
 
 returns : tie.Need-returns
 unfolding coordinate
@@ -54,17 +45,17 @@ returns c =
     let t = thousandths x in
     let sign = rw (c .before .before .before .before .before .before .before .before .before .before .before .is-negative .ensures, c .before .before .before .before .before .before .before .before .before .before .before .before .before .thousandths-of .ensures) at (c .before .before .before .before .before .before .before .before .before .before .put-minus .ensures) in
     let whole = rw (c .before .before .before .before .before .before .before .before .before .before .before .before .before .thousandths-of .ensures) at (c .before .before .before .before .before .before .put-number .ensures) in
-    let number = left-step (minusOf x) (digits (t / 1000) ++ decimalsText t) _ _ (left-start (start .args .at) (coordinate (start .args .x)) (start .args .buf .now) (start .pre .1)) sign in
-    left-last (decimalsText t) _ _ (left-step (digits (t / 1000)) (decimalsText t) _ _ number whole) (rw (c .before .before .before .before .before .before .before .before .before .before .before .before .before .thousandths-of .ensures) at (c .before .before .put-decimals .ensures))
+    let number = left-goes (minusOf x) (digits (t / 1000) ++ decimalsText t) _ _ (left-starts (start .args .at) (coordinate (start .args .x)) (start .args .buf .now) (start .pre .1)) sign in
+    left-last (decimalsText t) _ _ (left-goes (digits (t / 1000)) (decimalsText t) _ _ number whole) (rw (c .before .before .before .before .before .before .before .before .before .before .before .before .before .thousandths-of .ensures) at (c .before .before .put-decimals .ensures))
 
 pub put-coordinate-spec : {M : Type 1} → statement M
 put-coordinate-spec =
     tie.close
     (tie.spec
-    thousandths-of-requires
-    is-negative-requires
+    (λ c κs. search needs)
+    (λ c κs. search needs)
     put-minus-requires
     put-number-requires
     put-decimals-requires
-    same-length
+    (λ c. search needs)
     returns)

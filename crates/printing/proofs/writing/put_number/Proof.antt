@@ -6,10 +6,9 @@ use native.Mathlib.Omega.{arith}
 use lib.ListN.{length-append, length-set, length, set}
 use borrow.Author.Needs.{needs}
 use Rattle.words.specs.Placed.{placed}
-use Rattle.words.proofs.Placed.{placed-one}
+use Rattle.words.proofs.Placed.{placed-one, placed-last}
 use Rattle.printing.specs.Decimal.{digit, digits}
 use Rattle.printing.proofs.Digits.{digits-one, digits-more, digits-some}
-use Rattle.printing.proofs.Placing.{placed-last}
 use Rattle.printing.proofs.writing.put_number.Statement.{statement}
 use Rattle.printing.proofs.writing.put_number.Tie as tie
 
@@ -18,9 +17,6 @@ Inv-loop buf₀ at n end i₀ rest₀ buf i rest = (i ≡ at + length (digits re
 
 abbrev μ-loop : tie.MeasureT-loop
 μ-loop buf₀ at n end i₀ rest₀ buf i rest = rest
-
-digits-len-requires : tie.Need-digits-len-requires Inv-loop μ-loop
-digits-len-requires c κs = search needs
 
 add-end : tie.Need-add-end Inv-loop μ-loop
 add-end c = omega (arith, c .digits-len .ensures, c .before .before .pre)
@@ -31,16 +27,10 @@ loop-holds c = (omega (arith, c .digits-len .ensures), omega arith, refl, omega 
 sub-i : tie.Need-sub-i Inv-loop μ-loop
 sub-i c = omega (arith, digits-some (c .before .loop .rest) (omega (arith, c .before .loop .inv .3)), c .before .loop .inv .0)
 
-digit-byte-requires : tie.Need-digit-byte-requires Inv-loop μ-loop
-digit-byte-requires c κs = search needs
-
 slice-write-buf : tie.Need-slice-write-buf Inv-loop μ-loop
 slice-write-buf c =
     let turn = c .before .before in
     omega (arith, digits-some (turn .loop .rest) (omega (arith, turn .loop .inv .3)), turn .loop .inv .0, turn .loop .inv .1, turn .loop .inv .2, c .before .before .before .digits-len .ensures, c .before .before .before .before .before .pre)
-
-loop-less : tie.Need-loop-less Inv-loop μ-loop
-loop-less c = omega arith
 
 loop-again : tie.Need-loop-again Inv-loop μ-loop
 loop-again c =
@@ -65,9 +55,6 @@ loop-again c =
           ∙ turn .loop .inv .4,
     )
 
-digit-byte-requires-2 : tie.Need-digit-byte-requires-2 Inv-loop μ-loop
-digit-byte-requires-2 c κs = search needs
-
 slice-write-buf-2 : tie.Need-slice-write-buf-2 Inv-loop μ-loop
 slice-write-buf-2 c =
     let turn = c .before .before in
@@ -88,7 +75,7 @@ returns c =
     let room : at < length buf = omega (arith, digits-some (start .args .n) (omega arith), turn .loop .inv .2, start .pre) in
     record {
       place = omega (arith, c .before .before .before .digits-len .ensures);
-      bytes =
+      content =
           ap (set buf at) (c .digit-byte2 .ensures)
           ∙ placed-one at (digit rest) buf room
           ∙ ap (λ (l : List ℕ). placed at l buf) (sym (digits-one rest (omega arith)))
@@ -101,15 +88,15 @@ put-number-spec =
     (tie.spec
     Inv-loop
     μ-loop
-    digits-len-requires
+    (λ c κs. search needs)
     add-end
     loop-holds
     sub-i
-    digit-byte-requires
+    (λ c κs. search needs)
     slice-write-buf
-    loop-less
+    (λ c. omega arith)
     loop-again
-    digit-byte-requires-2
+    (λ c κs. search needs)
     slice-write-buf-2
     same-length
     returns)

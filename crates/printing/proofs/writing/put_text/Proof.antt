@@ -5,7 +5,7 @@ use native.Mathlib.Omega.{arith}
 use lib.ListN.{drop, length, getD, drop-of-length-le}
 use borrow.Author.Needs.{needs}
 use Rattle.words.proofs.Loops.{drop-next}
-use Rattle.printing.proofs.Placing.{Left, left-start, left-step, left-done}
+use Rattle.words.proofs.Writing.{Left, left-starts, left-goes, left-ends}
 use Rattle.printing.proofs.writing.put_text.Statement.{statement}
 use Rattle.printing.proofs.writing.put_text.Tie as tie
 
@@ -18,10 +18,7 @@ abbrev μ-loop : tie.MeasureT-loop
 loop-holds : tie.Need-loop-holds Inv-loop μ-loop
 loop-holds c =
     let start = c .before .before in
-    (omega arith, left-start (start .args .at) (start .args .text .now) (start .args .buf .now) (start .pre))
-
-shared-slice-read-put-byte : tie.Need-shared-slice-read-put-byte Inv-loop μ-loop
-shared-slice-read-put-byte c = search needs
+    (omega arith, left-starts (start .args .at) (start .args .text .now) (start .args .buf .now) (start .pre))
 
 put-byte-requires : tie.Need-put-byte-requires Inv-loop μ-loop
 put-byte-requires c κs =
@@ -29,24 +26,18 @@ put-byte-requires c κs =
     let rest = rw (drop-next 0 (c .before .before .before .before .before .before .args .text .now) (turn .loop .i) (c .before .before .loop-test .taken)) at (turn .loop .inv .1) in
     omega (arith, rest .room)
 
-add-i : tie.Need-add-i Inv-loop μ-loop
-add-i c = search needs
-
-loop-less : tie.Need-loop-less Inv-loop μ-loop
-loop-less c = search needs
-
 loop-again : tie.Need-loop-again Inv-loop μ-loop
 loop-again c =
     let turn = c .before .before .before .before .before .before in
     let text = c .before .before .before .before .before .before .before .before .before .args .text .now in
     let i = turn .loop .i in
-    (omega arith, left-step (getD text i 0 ∷ []) (drop (i + 1) text) _ _ (rw (drop-next 0 text i (c .before .before .before .before .before .loop-test .taken)) at (turn .loop .inv .1)) (c .before .before .put-byte .ensures))
+    (omega arith, left-goes (getD text i 0 ∷ []) (drop (i + 1) text) _ _ (rw (drop-next 0 text i (c .before .before .before .before .before .loop-test .taken)) at (turn .loop .inv .1)) (c .before .before .put-byte .ensures))
 
 same-length : tie.Need-same-length Inv-loop μ-loop
 same-length c = c .before .loop .inv .1 .same
 
 returns : tie.Need-returns Inv-loop μ-loop
-returns c = left-done (rw (drop-of-length-le (c .before .before .before .before .args .text .now) (c .loop-test .left)) at (c .before .loop .inv .1))
+returns c = left-ends (rw (drop-of-length-le (c .before .before .before .before .args .text .now) (c .loop-test .left)) at (c .before .loop .inv .1))
 
 pub put-text-spec : {M : Type 1} → statement M
 put-text-spec =
@@ -55,10 +46,10 @@ put-text-spec =
     Inv-loop
     μ-loop
     loop-holds
-    shared-slice-read-put-byte
+    (λ c. search needs)
     put-byte-requires
-    add-i
-    loop-less
+    (λ c. search needs)
+    (λ c. search needs)
     loop-again
     same-length
     returns)

@@ -1,22 +1,18 @@
--- `vertex` reads vertex k of cell p. Assumes nothing.
+-- `vertex` is the table's, as the sweep names it. Assumes nothing.
 use mathlib.Core.Path.{_∙_, sym}
-use Prim.Native.Nat.{_+_}
 use native.Mathlib.Omega.{arith}
-use Rattle.complex.specs.Layout.{recordSize}
-use Rattle.sweeping.proofs.TableWords.{inside, solid-vertex}
+use borrow.Author.Needs.{needs}
+use Rattle.sweeping.proofs.TableWords.{solid-vertex}
 use Rattle.sweeping.proofs.reading.vertex.Statement.{statement}
 use Rattle.sweeping.proofs.reading.vertex.Tie as tie
 
-add-word : tie.Need-add-word
-add-word c = omega (arith, inside (c .before .args .s) (recordSize (c .before .args .d)) (c .before .args .p) (c .before .args .k + 1) (c .before .pre .1) (omega arith))
-
-word-requires : tie.Need-word-requires
-word-requires c κs = (c .before .pre .0, c .before .pre .1, omega arith)
+vertex-requires : tie.Need-vertex-requires
+vertex-requires c κs = search needs
 
 returns : tie.Need-returns
 returns c =
     let a = c .before .before .args in
-    c .word .ensures ∙ sym (solid-vertex (a .d) (a .s) (a .table .now) (a .p) (c .before .before .pre .1) (a .k) (c .before .before .pre .2))
+    c .vertex .ensures ∙ sym (solid-vertex (a .d) (a .s) (a .table .now) (a .p) (omega arith) (a .k))
 
 pub vertex-spec : {M : Type 1} → statement M
-vertex-spec = tie.close (tie.spec add-word word-requires returns)
+vertex-spec = tie.close (tie.spec vertex-requires returns)

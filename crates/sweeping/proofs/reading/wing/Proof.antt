@@ -1,30 +1,18 @@
--- `wing` reads wing a of cell p. Assumes nothing.
+-- `wing` is the table's, as the sweep names it. Assumes nothing.
 use mathlib.Core.Path.{_∙_, sym}
-use Prim.Native.Nat.{_+_, _*_, _<_}
 use native.Mathlib.Omega.{arith}
-use Rattle.complex.specs.Layout.{recordSize}
-use lib.ListN.{length}
-use Rattle.sweeping.proofs.TableWords.{inside, solid-wing}
+use borrow.Author.Needs.{needs}
+use Rattle.sweeping.proofs.TableWords.{solid-wing}
 use Rattle.sweeping.proofs.reading.wing.Statement.{statement}
 use Rattle.sweeping.proofs.reading.wing.Tie as tie
 
-index : (c : tie.Start) → c .args .p * recordSize (c .args .d) + (c .args .d + 2 + c .args .a) < length (c .args .table .now)
-index c = omega (arith, c .pre .0, inside (c .args .s) (recordSize (c .args .d)) (c .args .p) (c .args .d + 2 + c .args .a) (c .pre .1) (omega arith))
-
-add-word : tie.Need-add-word
-add-word c = omega (arith, index (c .before))
-
-add-word-2 : tie.Need-add-word-2
-add-word-2 c = omega (arith, index (c .before))
-
-word-requires : tie.Need-word-requires
-word-requires c κs = (c .before .pre .0, c .before .pre .1, omega arith)
+wing-requires : tie.Need-wing-requires
+wing-requires c κs = search needs
 
 returns : tie.Need-returns
 returns c =
     let a = c .before .before .args in
-    c .word .ensures
-    ∙ sym (solid-wing (a .d) (a .s) (a .table .now) (a .p) (c .before .before .pre .1) (a .a) (c .before .before .pre .2) (c .before .before .pre .0))
+    c .wing .ensures ∙ sym (solid-wing (a .d) (a .s) (a .table .now) (a .p) (omega arith) (a .a))
 
 pub wing-spec : {M : Type 1} → statement M
-wing-spec = tie.close (tie.spec add-word add-word-2 word-requires returns)
+wing-spec = tie.close (tie.spec wing-requires returns)

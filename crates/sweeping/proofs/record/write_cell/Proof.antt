@@ -84,21 +84,26 @@ signed c =
     let a = start .args in
     placed-start (a .at) _ (words start) (a .out .now) (omega (arith, long start)) (room start)
     (c .turned .ensures ∙ ap (λ (w : ℕ). turnedSign w (a .k * a .d)) (c .before .sign .ensures)
-    ∙ sym (word-sign (a .d) (a .v) (a .s) (a .h) (a .table .now) (a .i) (a .p) (a .k) (start .pre .0 .long) (start .pre .1 .0 .1) (start .pre .1 .0 .2)))
+    ∙ sym (word-sign (a .d) (a .v) (a .s) (a .h) (a .table .now) (a .i) (a .p)
+    (a .k) (start .pre .0 .long) (start .pre .1 .0 .1) (start .pre .1 .0 .2)))
 
 lowered : (c : tie.After-write-vertices) (E : List ℕ) → let start = c .before .before .before .before .before .before in let a = start .args in
-    E ≡ placed (a .at + 1) (tabulate (a .d + 1 - a .k) (liftedFrom (a .d) (a .v) (a .s) (a .table .now) (a .i) (a .p) (a .k))) (set (a .out .now) (a .at) (c .before .before .turned .result)) →
+    E ≡ placed (a .at + 1) (tabulate (a .d + 1 - a .k) (liftedFrom (a .d) (a .v) (a .s) (a .table .now) (a .i) (a .p) (a .k)))
+    (set (a .out .now) (a .at) (c .before .before .turned .result)) →
     E ≡ placed (a .at) (take (1 + (a .d + 1 - a .k)) (words start)) (a .out .now)
 lowered c E e =
     let start = c .before .before .before .before .before .before in
     let a = start .args in
-    placed-piece (a .at) 1 (a .d + 1 - a .k) (a .at + 1) (liftedFrom (a .d) (a .v) (a .s) (a .table .now) (a .i) (a .p) (a .k)) (words start) (a .out .now) _ _
+    placed-piece (a .at) 1 (a .d + 1 - a .k) (a .at + 1)
+    (liftedFrom (a .d) (a .v) (a .s) (a .table .now) (a .i) (a .p) (a .k)) (words start) (a .out .now) _ _
     (omega (arith, long start)) (room start)
-    (λ j l. sym (word-lower (a .d) (a .v) (a .s) (a .h) (a .table .now) (a .i) (a .p) (a .k) (start .pre .0 .long) (start .pre .1 .0 .1) (start .pre .1 .0 .2) (1 + j) j (omega arith) (omega arith)))
+    (λ j l. sym (word-lower (a .d) (a .v) (a .s) (a .h) (a .table .now) (a .i) (a .p) (a .k)
+    (start .pre .0 .long) (start .pre .1 .0 .1) (start .pre .1 .0 .2) (1 + j) j (omega arith) (omega arith)))
     (omega arith) (signed (c .before .before)) e
 
 -- and the upper ones
-whole : (c : tie.After-write-vertices2) (old E : List ℕ) → let start = c .before .before .before .before .before .before .before .before .before .before in let a = start .args in
+whole : (c : tie.After-write-vertices2) (old E : List ℕ) → let start =
+    c .before .before .before .before .before .before .before .before .before .before in let a = start .args in
     old ≡ placed (a .at) (take (1 + (a .d + 1 - a .k)) (words start)) (a .out .now) →
     E ≡ placed (a .at + a .d + 2 - a .k) (tabulate (a .k + 1) (liftedFrom (a .d) (a .v) (a .s) (a .table .now) (a .i + 1) (a .p) 0)) old →
     E ≡ placed (a .at) (take (a .d + 3) (words start)) (a .out .now)
@@ -106,9 +111,11 @@ whole c old E eo e =
     let start = c .before .before .before .before .before .before .before .before .before .before in
     let a = start .args in
     let all : 1 + (a .d + 1 - a .k) + (a .k + 1) ≡ a .d + 3 = omega arith in
-    placed-piece (a .at) (1 + (a .d + 1 - a .k)) (a .k + 1) (a .at + a .d + 2 - a .k) (liftedFrom (a .d) (a .v) (a .s) (a .table .now) (a .i + 1) (a .p) 0) (words start) (a .out .now) _ _
+    placed-piece (a .at) (1 + (a .d + 1 - a .k)) (a .k + 1) (a .at + a .d + 2 - a .k)
+    (liftedFrom (a .d) (a .v) (a .s) (a .table .now) (a .i + 1) (a .p) 0) (words start) (a .out .now) _ _
     (omega (arith, long start)) (room start)
-    (λ j l. sym (word-upper (a .d) (a .v) (a .s) (a .h) (a .table .now) (a .i) (a .p) (a .k) (start .pre .0 .long) (start .pre .1 .0 .1) (start .pre .1 .0 .2) (1 + (a .d + 1 - a .k) + j) j (omega arith) (omega arith)))
+    (λ j l. sym (word-upper (a .d) (a .v) (a .s) (a .h) (a .table .now) (a .i) (a .p) (a .k) (start .pre .0 .long)
+    (start .pre .1 .0 .1) (start .pre .1 .0 .2) (1 + (a .d + 1 - a .k) + j) j (omega arith) (omega arith)))
     (omega arith) eo e
     ∙ ap (λ (n : ℕ). placed (a .at) (take n (words start)) (a .out .now)) all
 

@@ -27,21 +27,26 @@ long c =
 
 -- a buffer with some of the words is as long as before
 kept : (c : tie.Start) (n : ℕ) (E : List ℕ) → E ≡ placed (c .args .at) (take n (words c)) (c .args .out .now) → length E ≡ length (c .args .out .now)
-kept c n E e = ap length e ∙ placed-length (c .args .at) (take n (words c)) (c .args .out .now) (omega (arith, c .pre .1 .1 .1, length-take n (words c)))
+kept c n E e =
+    ap length e ∙ placed-length (c .args .at) (take n (words c)) (c .args .out .now) (omega (arith, c .pre .1 .1 .1, length-take n (words c)))
 
 -- behind the cell, the wings
 whole : (c : tie.Start) (old E : List ℕ) → let a = c .args in
     old ≡ placed (a .at) (take (a .d + 3) (words c)) (a .out .now) →
-    E ≡ placed (a .at + a .d + 3) (tabulate (a .d + 2) (wingWord (a .d) (a .s) (a .h) (a .firsts .now) (a .rows .now) (a .cells .now) (a .i) (a .p) (a .k))) old →
+    E ≡ placed (a .at + a .d + 3)
+    (tabulate (a .d + 2) (wingWord (a .d) (a .s) (a .h) (a .firsts .now) (a .rows .now) (a .cells .now) (a .i) (a .p) (a .k))) old →
     E ≡ placed (a .at) (words c) (a .out .now)
 whole c old E eo e =
     let a = c .args in
     let all : a .d + 3 + (a .d + 2) ≡ length (words c) = omega (arith, long c) in
-    placed-piece (a .at) (a .d + 3) (a .d + 2) (a .at + a .d + 3) (wingWord (a .d) (a .s) (a .h) (a .firsts .now) (a .rows .now) (a .cells .now) (a .i) (a .p) (a .k)) (words c) (a .out .now) _ _
+    placed-piece (a .at) (a .d + 3) (a .d + 2) (a .at + a .d + 3)
+    (wingWord (a .d) (a .s) (a .h) (a .firsts .now) (a .rows .now) (a .cells .now) (a .i) (a .p) (a .k)) (words c) (a .out .now) _ _
     (omega (arith, long c)) (c .pre .1 .1 .1)
-    (λ j l. wing-word (a .d) (a .v) (a .s) (a .h) (a .table .now) (c .pre .0) (a .i) (a .p) (c .pre .1 .0 .0) (c .pre .1 .0 .1) (a .firsts .now) (a .rows .now) (a .cells .now) (c .pre .1 .1 .0)
+    (λ j l. wing-word (a .d) (a .v) (a .s) (a .h) (a .table .now) (c .pre .0) (a .i) (a .p)
+    (c .pre .1 .0 .0) (c .pre .1 .0 .1) (a .firsts .now) (a .rows .now) (a .cells .now) (c .pre .1 .1 .0)
     (a .k) j (c .pre .1 .0 .2) (omega arith)
-    ∙ sym (word-wing (a .d) (a .v) (a .s) (a .h) (a .table .now) (a .i) (a .p) (a .k) (c .pre .0 .long) (c .pre .1 .0 .1) (c .pre .1 .0 .2) j (omega arith)))
+    ∙ sym (word-wing (a .d) (a .v) (a .s) (a .h) (a .table .now) (a .i) (a .p) (a .k)
+    (c .pre .0 .long) (c .pre .1 .0 .1) (c .pre .1 .0 .2) j (omega arith)))
     (omega arith) eo e
     ∙ ap (λ (l : List ℕ). placed (a .at) l (a .out .now)) (ap (λ (n : ℕ). take n (words c)) all ∙ take-length (words c))
 
@@ -61,7 +66,8 @@ write-wings-requires c κs =
     let cell = c .before .before .before in
     let start = cell .before .before .before .before in
     let a = start .args in (
-      sides-fit (a .d) (a .v) (a .s) (a .h) (a .table .now) (start .pre .0) (a .i) (a .p) (start .pre .1 .0 .0) (start .pre .1 .0 .1) (a .firsts .now) (a .rows .now) (a .cells .now) (start .pre .1 .1 .0),
+      sides-fit (a .d) (a .v) (a .s) (a .h) (a .table .now) (start .pre .0) (a .i) (a .p) (start .pre .1 .0 .0)
+          (start .pre .1 .0 .1) (a .firsts .now) (a .rows .now) (a .cells .now) (start .pre .1 .1 .0),
       (
         (start .pre .0 .dimension, start .pre .0 .cells, start .pre .1 .0 .0, start .pre .1 .0 .1, start .pre .1 .0 .2),
         omega (arith, start .pre .1 .1 .1, long start, kept start (start .args .d + 3) _ (cell .write-cell .ensures)),

@@ -38,8 +38,11 @@ side-word-requires c κs =
     let at = c .before in
     let start = at .before .before in
     let a = start .args in
-    let l-low = start .pre .1 .0 .2 (omega arith) in
-    (omega arith, start .pre .0 .reach (a .a + at .loop .j) (a .l) (omega arith) l-low, start .pre .0 .fits (a .a + at .loop .j) (a .l) (omega arith) l-low)
+    let l-low = start .pre .1 .0 .2 (omega arith) in (
+      omega arith,
+      start .pre .0 .reach (a .a + at .loop .j) (a .l) (omega arith) l-low,
+      start .pre .0 .fits (a .a + at .loop .j) (a .l) (omega arith) l-low,
+    )
 
 add-out : tie.Need-add-out Inv-loop μ-loop
 add-out c = search needs

@@ -75,7 +75,8 @@ loop-again c =
       length-set (at .loop .out) _ _ ∙ at .loop .inv .1,
       placed-word (a .at) (at .loop .j) _ (words start) (a .out .now) (at .loop .out)
           (omega (arith, long start)) (omega (arith, long start)) (at .loop .inv .2)
-          (c .lift .ensures ∙ ap (atLevel (a .v) (a .i)) (c .before .wide .ensures ∙ c .before .before .vertex .ensures) ∙ sym (tabulate-at (a .n) f (at .loop .j) 0 (omega arith))),
+          (c .lift .ensures ∙ ap (atLevel (a .v) (a .i)) (c .before .wide .ensures ∙ c .before .before .vertex .ensures)
+          ∙ sym (tabulate-at (a .n) f (at .loop .j) 0 (omega arith))),
     )
 
 same-length : tie.Need-same-length Inv-loop μ-loop

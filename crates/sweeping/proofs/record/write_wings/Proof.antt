@@ -46,7 +46,8 @@ first c =
 
 -- then the sides over the faces from k + 1,
 lowered : (c : tie.After-write-sides) (E : List ℕ) → let start = c .before .before .before .before in let a = start .args in
-    E ≡ placed (a .at + 1) (tabulate (a .d - a .k) (λ j. sideOf start (a .k + 1 + j) (a .k))) (set (a .out .now) (a .at) (c .before .before .wing-above .result)) →
+    E ≡ placed (a .at + 1) (tabulate (a .d - a .k) (λ j. sideOf start (a .k + 1 + j) (a .k)))
+    (set (a .out .now) (a .at) (c .before .before .wing-above .result)) →
     E ≡ placed (a .at) (take (1 + (a .d - a .k)) (words start)) (a .out .now)
 lowered c E e =
     let start = c .before .before .before .before in
@@ -54,11 +55,13 @@ lowered c E e =
     placed-piece (a .at) 1 (a .d - a .k) (a .at + 1) (λ j. sideOf start (a .k + 1 + j) (a .k)) (words start) (a .out .now) _ _
     (omega (arith, long start)) (room start)
     (λ j l. sym (tabulate-at (a .d + 2) (wingOf start) (1 + j) 0 (omega arith)
-    ∙ wing-low (a .d) (a .s) (a .h) (a .firsts .now) (a .rows .now) (a .cells .now) (a .i) (a .p) (a .k) (1 + j) (a .k + 1 + j) (omega arith) (omega arith) (omega arith)))
+    ∙ wing-low (a .d) (a .s) (a .h) (a .firsts .now) (a .rows .now) (a .cells .now) (a .i)
+    (a .p) (a .k) (1 + j) (a .k + 1 + j) (omega arith) (omega arith) (omega arith)))
     (omega arith) (first (c .before .before)) e
 
 -- over the faces from 0,
-raised : (c : tie.After-write-sides2) (old E : List ℕ) → let start = c .before .before .before .before .before .before .before .before .before in let a = start .args in
+raised : (c : tie.After-write-sides2) (old E : List ℕ) → let start = c .before .before .before .before .before .before .before .before .before in
+    let a = start .args in
     old ≡ placed (a .at) (take (1 + (a .d - a .k)) (words start)) (a .out .now) →
     E ≡ placed (a .at + a .d + 1 - a .k) (tabulate (a .k) (λ j. sideOf start (0 + j) (c .before .before .less-one .result))) old →
     E ≡ placed (a .at) (take (a .d + 1) (words start)) (a .out .now)
@@ -67,17 +70,21 @@ raised c old E eo e =
     let start = less .before .before .before .before .before .before .before in
     let a = start .args in
     let all : 1 + (a .d - a .k) + a .k ≡ a .d + 1 = omega arith in
-    placed-piece (a .at) (1 + (a .d - a .k)) (a .k) (a .at + a .d + 1 - a .k) (λ j. sideOf start (0 + j) (less .less-one .result)) (words start) (a .out .now) _ _
+    placed-piece (a .at) (1 + (a .d - a .k)) (a .k) (a .at + a .d + 1 - a .k)
+    (λ j. sideOf start (0 + j) (less .less-one .result)) (words start) (a .out .now) _ _
     (omega (arith, long start)) (room start)
     (λ j l. ap (λ (n : ℕ). sideOf start (0 + j) n) (less .less-one .ensures)
     ∙ sym (tabulate-at (a .d + 2) (wingOf start) (1 + (a .d - a .k) + j) 0 (omega arith)
-    ∙ wing-high (a .d) (a .s) (a .h) (a .firsts .now) (a .rows .now) (a .cells .now) (a .i) (a .p) (a .k) (1 + (a .d - a .k) + j) (0 + j) (omega arith) (omega arith) (omega arith) (omega arith)))
+    ∙ wing-high (a .d) (a .s) (a .h) (a .firsts .now) (a .rows .now) (a .cells .now) (a .i) (a .p)
+    (a .k) (1 + (a .d - a .k) + j) (0 + j) (omega arith) (omega arith) (omega arith) (omega arith)))
     (omega arith) eo e
     ∙ ap (λ (n : ℕ). placed (a .at) (take n (words start)) (a .out .now)) all
 
 -- and the wing below
-last : (c : tie.After-wing-below) (E : List ℕ) → let start = c .before .before .before .before .before .before .before .before .before .before .before .before in let a = start .args in
-    E ≡ placed (a .at) (take (a .d + 1) (words start)) (a .out .now) → set E (a .at + a .d + 1) (c .wing-below .result) ≡ placed (a .at) (words start) (a .out .now)
+last : (c : tie.After-wing-below) (E : List ℕ) → let start =
+    c .before .before .before .before .before .before .before .before .before .before .before .before in let a = start .args in
+    E ≡ placed (a .at) (take (a .d + 1) (words start)) (a .out .now) →
+    set E (a .at + a .d + 1) (c .wing-below .result) ≡ placed (a .at) (words start) (a .out .now)
 last c E e =
     let start = c .before .before .before .before .before .before .before .before .before .before .before .before in
     let a = start .args in
@@ -111,8 +118,10 @@ add-write-sides-2 c = search needs
 write-sides-requires : tie.Need-write-sides-requires
 write-sides-requires c κs =
     let start = c .before .before .before in
-    let a = start .args in
-    (start .pre .0, ((start .pre .1 .0 .0, omega arith, λ l. omega arith), omega (arith, length-set (a .out .now) (a .at) (c .before .wing-above .result))))
+    let a = start .args in (
+      start .pre .0,
+      ((start .pre .1 .0 .0, omega arith, λ l. omega arith), omega (arith, length-set (a .out .now) (a .at) (c .before .wing-above .result))),
+    )
 
 less-one-requires : tie.Need-less-one-requires
 less-one-requires c κs = search needs
@@ -163,7 +172,11 @@ slice-write-out-2 c =
     let second = c .before .before .before in
     let sides = second .before .before .before .before .before in
     let start = sides .before .before .before .before in
-    omega (arith, start .pre .1 .1, kept start (start .args .d + 1) _ (raised second _ _ (lowered sides _ (sides .write-sides .ensures)) (second .write-sides2 .ensures)))
+    omega (
+      arith,
+      start .pre .1 .1,
+      kept start (start .args .d + 1) _ (raised second _ _ (lowered sides _ (sides .write-sides .ensures)) (second .write-sides2 .ensures)),
+    )
 
 same-length : tie.Need-same-length
 same-length c =

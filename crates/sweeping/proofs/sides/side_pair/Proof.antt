@@ -17,7 +17,8 @@ abbrev pair : ℕ → ℕ → SidePair
 pair k j = record { cell = k; position = j }
 
 -- the pair at i, the index of the pair at place l over face a
-found : (d a l i k j : ℕ) → d ≤ maxSource → a ≤ d → l < d → i ≡ sideIndex d a l → k ≡ getD allSides i 0 → j ≡ getD allSides (i + 1) 0 → pair k j ≡ sidePairOf d a l
+found : (d a l i k j : ℕ) → d ≤ maxSource → a ≤ d → l < d → i ≡ sideIndex d a l →
+    k ≡ getD allSides i 0 → j ≡ getD allSides (i + 1) 0 → pair k j ≡ sidePairOf d a l
 unfolding sidePairOf
 found d a l i k j hd ha hl at ek ej =
     simp (le-leb d maxSource hd, le-leb a d ha, lt-ltb l d hl)
@@ -56,7 +57,8 @@ side-number-requires-2 c κs = inside (c .before)
 returns-4 : tie.Need-returns-4
 returns-4 c =
     let start = c .before .before .before .before .before .before in
-    found (start .args .d) (start .args .a) (start .args .l) _ _ _ (omega arith) (omega arith) (omega arith) (c .before .before .side-index .ensures) (c .before .side-number .ensures) (c .side-number2 .ensures)
+    found (start .args .d) (start .args .a) (start .args .l) _ _ _ (omega arith) (omega arith) (omega arith)
+    (c .before .before .side-index .ensures) (c .before .side-number .ensures) (c .side-number2 .ensures)
 
 pub side-pair-spec : {M : Type 1} → statement M
 side-pair-spec =

@@ -1,13 +1,10 @@
 -- The search for the position back. The loop has found no such position below b. Assumes nothing.
 use mathlib.Core.Path.{_≡_, _∙_, sym}
-use Prim.Native.Nat.{_+_, _-_, _≤_, _<_}
+use Prim.Native.Nat.{_+_, _-_, _≤_}
 use native.Mathlib.Omega.{arith}
 use borrow.Author.Needs.{needs}
-use lib.ListN.{length}
-use Rattle.complex.specs.Layout.{recordSize}
 use Rattle.prism.specs.Wings.{backFrom, backTo}
 use Rattle.sweeping.specs.Written.{solidWing}
-use Rattle.sweeping.proofs.TableWords.{inside}
 use Rattle.sweeping.proofs.WingWords.{back-here, back-next, back-end, back-start}
 use Rattle.sweeping.proofs.wings.back.Statement.{statement}
 use Rattle.sweeping.proofs.wings.back.Tie as tie
@@ -17,10 +14,6 @@ Inv-loop d s table p q b₀ b = (b ≤ d + 1) × (backTo (solidWing d s table) p
 
 abbrev μ-loop : tie.MeasureT-loop
 μ-loop d s table p q b₀ b = d + 1 - b
-
-small : (c : tie.Start Inv-loop μ-loop) → c .args .d < length (c .args .table .now)
-small c =
-    omega (arith, c .pre .0, inside (c .args .s) (recordSize (c .args .d)) (c .args .q) (c .args .d) (c .pre .1) (omega arith))
 
 loop-holds : tie.Need-loop-holds Inv-loop μ-loop
 loop-holds c =
@@ -42,7 +35,7 @@ returns c =
     (sym (c .before .before .wing .ensures) ∙ sym (c .before .wide .ensures) ∙ c .if1 .taken))
 
 add-b : tie.Need-add-b Inv-loop μ-loop
-add-b c = omega (arith, small (c .before .before .before .before .before .before))
+add-b c = search needs
 
 loop-less : tie.Need-loop-less Inv-loop μ-loop
 loop-less c = search needs
@@ -52,8 +45,11 @@ loop-again c =
     let at = c .before .before .before .before in
     let a = at .before .before .args in
     let b = at .loop .b in
-    let n : solidWing (a .d) (a .s) (a .table .now) (a .q) b ≡ a .p → ⊥ = λ e. c .if1 .left (c .before .wide .ensures ∙ c .before .before .wing .ensures ∙ e) in
-    (omega arith, at .loop .inv .1 ∙ back-next (solidWing (a .d) (a .s) (a .table .now)) (a .p) (a .q) (a .d) b (c .before .before .before .loop-test .taken) n)
+    let n : solidWing (a .d) (a .s) (a .table .now) (a .q) b ≡ a .p → ⊥ =
+    λ e. c .if1 .left (c .before .wide .ensures ∙ c .before .before .wing .ensures ∙ e) in (
+      omega arith,
+      at .loop .inv .1 ∙ back-next (solidWing (a .d) (a .s) (a .table .now)) (a .p) (a .q) (a .d) b (c .before .before .before .loop-test .taken) n,
+    )
 
 returns-2 : tie.Need-returns-2 Inv-loop μ-loop
 returns-2 c =

@@ -8,7 +8,8 @@ use Rattle.sweeping.proofs.Bounds.{number-inside, level-inside, prism-i
 use Rattle.sweeping.proofs.wings.cell_number.Statement.{statement}
 use Rattle.sweeping.proofs.wings.cell_number.Tie as tie
 
-below : (c : tie.Start) → cellNumber (c .args .d) (c .args .s) (c .args .i) (c .args .p) (c .args .k) < sweptCells (c .args .d) (c .args .s) (c .args .h)
+below : (c : tie.Start) →
+    cellNumber (c .args .d) (c .args .s) (c .args .i) (c .args .p) (c .args .k) < sweptCells (c .args .d) (c .args .s) (c .args .h)
 below c = number-inside (c .args .d) (c .args .s) (c .args .h) (c .args .i) (c .args .p) (c .args .k) (c .pre .1) (c .pre .2) (c .pre .3)
 
 level : (c : tie.Start) → c .args .s * suc (c .args .d) ≤ sweptCells (c .args .d) (c .args .s) (c .args .h)

@@ -4,7 +4,7 @@ use Prim.Native.Nat.{ℕ, _*_, _<_}
 use native.Mathlib.Omega.{arith}
 use borrow.Author.Needs.{needs}
 use borrow.Author.Tests.{eq-eqb, ne-eqb}
-use Rattle.rules.specs.Limits.{empty}
+use Rattle.records.specs.Layout.{empty}
 use Rattle.prism.specs.Wings.{cellNumber}
 use Rattle.sweeping.specs.Written.{solidWing}
 use Rattle.sweeping.proofs.wings.face_first.Statement.{statement}

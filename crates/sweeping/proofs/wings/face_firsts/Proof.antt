@@ -41,7 +41,8 @@ loop-again c =
     let a = at .before .before .args in (
       omega arith,
       length-set (at .loop .firsts) _ _ ∙ at .loop .inv .1,
-      holds-more (at .loop .a) _ (faceFirst (a .d) (a .s) (solidWing (a .d) (a .s) (a .table .now)) (a .i) (a .p)) (at .loop .firsts) (omega arith) (at .loop .inv .2) (c .face-first .ensures),
+      holds-more (at .loop .a) _ (faceFirst (a .d) (a .s) (solidWing (a .d) (a .s) (a .table .now)) (a .i) (a .p))
+          (at .loop .firsts) (omega arith) (at .loop .inv .2) (c .face-first .ensures),
     )
 
 returns : tie.Need-returns Inv-loop μ-loop

@@ -4,7 +4,7 @@ use Prim.Native.Nat.{ℕ, _*_, _<_}
 use native.Mathlib.Omega.{arith}
 use borrow.Author.Needs.{needs}
 use borrow.Author.Tests.{eq-eqb, ne-eqb}
-use Rattle.rules.specs.Limits.{empty}
+use Rattle.records.specs.Layout.{empty}
 use Rattle.prism.specs.Wings.{backTo}
 use Rattle.sweeping.specs.Written.{solidWing}
 use Rattle.sweeping.proofs.wings.face_row.Statement.{statement}
@@ -35,11 +35,15 @@ wide-requires : tie.Need-wide-requires
 wide-requires c κs = search needs
 
 back-requires : tie.Need-back-requires
-back-requires c κs = (c .before .before .before .before .pre .0 .long, low c)
+back-requires c κs =
+    let ready = c .before .before .before .before .pre .0 in
+    record { table = record { dimension = omega (arith, ready .dimension); cells = ready .count; long = ready .long }; number = low c }
 
 back-is : (c : tie.After-back) →
-    c .back .result ≡ backTo (solidWing (c .before .before .before .before .before .args .d) (c .before .before .before .before .before .args .s) (c .before .before .before .before .before .args .table .now))
-    (c .before .before .before .before .before .args .p) (wingHere (c .before .before .before .before .before)) (c .before .before .before .before .before .args .d)
+    c .back .result ≡ backTo (solidWing (c .before .before .before .before .before .args .d)
+    (c .before .before .before .before .before .args .s) (c .before .before .before .before .before .args .table .now))
+    (c .before .before .before .before .before .args .p) (wingHere (c .before .before .before .before .before))
+    (c .before .before .before .before .before .args .d)
 back-is c =
     let a = c .before .before .before .before .before .args in
     c .back .ensures ∙ ap (λ (q : ℕ). backTo (solidWing (a .d) (a .s) (a .table .now)) (a .p) q (a .d)) (across (c .before))
@@ -47,7 +51,12 @@ back-is c =
 mul-result : tie.Need-mul-result
 mul-result c =
     let start = c .before .before .before .before .before in
-    omega (arith, back-is c, start .pre .0 .dimension, start .pre .0 .back (start .args .p) (start .args .a) (start .pre .1 .0) (start .pre .1 .1) (full (c .before .before)))
+    omega (
+      arith,
+      back-is c,
+      start .pre .0 .dimension,
+      start .pre .0 .back (start .args .p) (start .args .a) (start .pre .1 .0) (start .pre .1 .1) (full (c .before .before)),
+    )
 
 returns-2 : tie.Need-returns-2
 returns-2 c = rw (ne-eqb _ _ (full (c .before .before))) (ap (λ (b : ℕ). b * 8) (back-is c))

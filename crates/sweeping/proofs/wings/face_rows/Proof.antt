@@ -41,7 +41,8 @@ loop-again c =
     let a = at .before .before .args in (
       omega arith,
       length-set (at .loop .rows) _ _ ∙ at .loop .inv .1,
-      holds-more (at .loop .a) _ (faceRow (a .d) (solidWing (a .d) (a .s) (a .table .now)) (a .p)) (at .loop .rows) (omega arith) (at .loop .inv .2) (c .face-row .ensures),
+      holds-more (at .loop .a) _ (faceRow (a .d) (solidWing (a .d) (a .s) (a .table .now)) (a .p))
+          (at .loop .rows) (omega arith) (at .loop .inv .2) (c .face-row .ensures),
     )
 
 returns : tie.Need-returns Inv-loop μ-loop

@@ -38,7 +38,8 @@ returns-3 : tie.Need-returns-3
 returns-3 c =
     let a = c .before .before .before .args in
     let more : suc (a .i) ≡ a .h → ⊥ = λ e. c .before .if2 .left (omega arith) in
-    rw (le-ltb _ _ (c .before .before .if1 .left), ne-eqb (suc (a .i)) (a .h) more) (c .cell-number2 .ensures ∙ ap (λ (n : ℕ). cellNumber (a .d) (a .s) n (a .p) 0) (add-one (a .i)))
+    rw (le-ltb _ _ (c .before .before .if1 .left), ne-eqb (suc (a .i)) (a .h) more)
+    (c .cell-number2 .ensures ∙ ap (λ (n : ℕ). cellNumber (a .d) (a .s) n (a .p) 0) (add-one (a .i)))
 
 pub wing-above-spec : {M : Type 1} → statement M
 wing-above-spec =

@@ -22,7 +22,8 @@ abbrev μ-loop : tie.MeasureT-loop
 μ-loop d v s h table i cells at out₀ next₀ p₀ out next p = s - p
 
 room : (c : tie.Start Inv-loop μ-loop) →
-    c .args .at + length (concat (tabulate (c .args .s) (prismWords (c .args .d) (c .args .v) (c .args .s) (c .args .h) (c .args .table .now) (c .args .i))))
+    c .args .at
+    + length (concat (tabulate (c .args .s) (prismWords (c .args .d) (c .args .v) (c .args .s) (c .args .h) (c .args .table .now) (c .args .i))))
     ≤ length (c .args .out .now)
 room c =
     let a = c .args in
@@ -41,7 +42,13 @@ write-prism-requires c κs =
         start .pre .1 .0,
         (
           (start .pre .1 .1 .0, c .before .loop-test .taken),
-          omega (arith, room start, at .loop .inv .1, at .loop .inv .2, concat-fits (a .s) (at .loop .p) (prismWords (a .d) (a .v) (a .s) (a .h) (a .table .now) (a .i)) (c .before .loop-test .taken)),
+          omega (
+            arith,
+            room start,
+            at .loop .inv .1,
+            at .loop .inv .2,
+            concat-fits (a .s) (at .loop .p) (prismWords (a .d) (a .v) (a .s) (a .h) (a .table .now) (a .i)) (c .before .loop-test .taken),
+          ),
         ),
       ),
     )
@@ -59,8 +66,10 @@ loop-again c =
     let a = start .args in
     let call = c .before .before .write-prism in
     let more =
-    placed-record (a .s) (a .at) (at .loop .p) (at .loop .next) (call .result) (prismWords (a .d) (a .v) (a .s) (a .h) (a .table .now) (a .i)) (a .out .now) (at .loop .out) _
-    (omega (arith, c .before .before .before .before .loop-test .taken)) (room start) (at .loop .inv .1) (at .loop .inv .3) (call .ensures .0) (call .ensures .1) in
+    placed-record (a .s) (a .at) (at .loop .p) (at .loop .next) (call .result)
+    (prismWords (a .d) (a .v) (a .s) (a .h) (a .table .now) (a .i)) (a .out .now) (at .loop .out) _
+    (omega (arith, c .before .before .before .before .loop-test .taken)) (room start)
+    (at .loop .inv .1) (at .loop .inv .3) (call .ensures .0) (call .ensures .1) in
     (omega arith, more .place, more .long, more .words)
 
 same-length : tie.Need-same-length Inv-loop μ-loop
@@ -71,7 +80,8 @@ returns c =
     let at = c .before in
     let a = at .before .before .before .args in
     let all : at .loop .p ≡ a .s = omega arith in
-    let words = ap (λ (m : ℕ). concat (tabulate m (prismWords (a .d) (a .v) (a .s) (a .h) (a .table .now) (a .i)))) all ∙ sym (level-is (a .d) (a .v) (a .s) (a .h) (a .table .now) (a .i)) in
+    let words = ap (λ (m : ℕ). concat (tabulate m (prismWords (a .d) (a .v) (a .s) (a .h) (a .table .now) (a .i)))) all
+    ∙ sym (level-is (a .d) (a .v) (a .s) (a .h) (a .table .now) (a .i)) in
     (at .loop .inv .1 ∙ ap (λ (l : List ℕ). a .at + length l) words, at .loop .inv .3 ∙ ap (λ (l : List ℕ). placed (a .at) l (a .out .now)) words)
 
 pub write-level-spec : {M : Type 1} → statement M

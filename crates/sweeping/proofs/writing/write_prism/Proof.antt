@@ -22,7 +22,8 @@ abbrev μ-loop : tie.MeasureT-loop
 μ-loop d v s h table i p cells at out₀ firsts rows next₀ k₀ out next k = d + 1 - k
 
 room : (c : tie.Start Inv-loop μ-loop) →
-    c .args .at + length (concat (tabulate (c .args .d + 1) (recordWords (c .args .d) (c .args .v) (c .args .s) (c .args .h) (c .args .table .now) (c .args .i) (c .args .p))))
+    c .args .at + length (concat
+    (tabulate (c .args .d + 1) (recordWords (c .args .d) (c .args .v) (c .args .s) (c .args .h) (c .args .table .now) (c .args .i) (c .args .p))))
     ≤ length (c .args .out .now)
 room c =
     let a = c .args in
@@ -35,7 +36,8 @@ face-rows-requires : tie.Need-face-rows-requires Inv-loop μ-loop
 face-rows-requires c κs = search needs
 
 loop-holds : tie.Need-loop-holds Inv-loop μ-loop
-loop-holds c = let a = c .before .before .before .before .before .before .args in (omega arith, omega arith, omega arith, sym (placed-none (a .at) (a .out .now)))
+loop-holds c = let a = c .before .before .before .before .before .before .args in
+    (omega arith, omega arith, omega arith, sym (placed-none (a .at) (a .out .now)))
 
 write-record-requires : tie.Need-write-record-requires Inv-loop μ-loop
 write-record-requires c κs =
@@ -52,7 +54,8 @@ write-record-requires c κs =
             room start,
             at .loop .inv .1,
             at .loop .inv .2,
-            concat-fits (a .d + 1) (at .loop .k) (recordWords (a .d) (a .v) (a .s) (a .h) (a .table .now) (a .i) (a .p)) (omega (arith, c .before .before .before .loop-test .taken)),
+            concat-fits (a .d + 1) (at .loop .k) (recordWords (a .d) (a .v) (a .s) (a .h) (a .table .now) (a .i) (a .p))
+                (omega (arith, c .before .before .before .loop-test .taken)),
           ),
         ),
       ),
@@ -71,8 +74,10 @@ loop-again c =
     let a = start .args in
     let call = c .before .before .write-record in
     let more =
-    placed-record (a .d + 1) (a .at) (at .loop .k) (at .loop .next) (call .result) (recordWords (a .d) (a .v) (a .s) (a .h) (a .table .now) (a .i) (a .p)) (a .out .now) (at .loop .out) _
-    (omega (arith, c .before .before .before .before .before .before .loop-test .taken)) (room start) (at .loop .inv .1) (at .loop .inv .3) (call .ensures .0) (call .ensures .1) in
+    placed-record (a .d + 1) (a .at) (at .loop .k) (at .loop .next) (call .result)
+    (recordWords (a .d) (a .v) (a .s) (a .h) (a .table .now) (a .i) (a .p)) (a .out .now) (at .loop .out) _
+    (omega (arith, c .before .before .before .before .before .before .loop-test .taken))
+    (room start) (at .loop .inv .1) (at .loop .inv .3) (call .ensures .0) (call .ensures .1) in
     (omega (arith, c .before .before .before .before .before .before .loop-test .taken), more .place, more .long, more .words)
 
 same-length : tie.Need-same-length Inv-loop μ-loop
@@ -83,7 +88,8 @@ returns c =
     let at = c .before in
     let a = at .before .before .before .before .before .before .before .args in
     let all : at .loop .k ≡ a .d + 1 = omega arith in
-    let words = ap (λ (m : ℕ). concat (tabulate m (recordWords (a .d) (a .v) (a .s) (a .h) (a .table .now) (a .i) (a .p)))) all ∙ sym (prism-is (a .d) (a .v) (a .s) (a .h) (a .table .now) (a .i) (a .p)) in
+    let words = ap (λ (m : ℕ). concat (tabulate m (recordWords (a .d) (a .v) (a .s) (a .h) (a .table .now) (a .i) (a .p)))) all
+    ∙ sym (prism-is (a .d) (a .v) (a .s) (a .h) (a .table .now) (a .i) (a .p)) in
     (at .loop .inv .1 ∙ ap (λ (l : List ℕ). a .at + length l) words, at .loop .inv .3 ∙ ap (λ (l : List ℕ). placed (a .at) l (a .out .now)) words)
 
 pub write-prism-spec : {M : Type 1} → statement M

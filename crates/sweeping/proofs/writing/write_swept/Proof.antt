@@ -22,7 +22,8 @@ abbrev μ-loop : tie.MeasureT-loop
 μ-loop d v s h table out₀ cells next₀ i₀ out next i = h - i
 
 room : (c : tie.Start Inv-loop μ-loop) →
-    0 + length (concat (tabulate (c .args .h) (levelWords (c .args .d) (c .args .v) (c .args .s) (c .args .h) (c .args .table .now)))) ≤ length (c .args .out .now)
+    0 + length (concat (tabulate (c .args .h) (levelWords (c .args .d) (c .args .v) (c .args .s) (c .args .h) (c .args .table .now))))
+    ≤ length (c .args .out .now)
 room c =
     let a = c .args in
     omega (arith, c .pre .1, ap length (all-is (a .d) (a .v) (a .s) (a .h) (a .table .now)))
@@ -43,7 +44,13 @@ write-level-requires c κs =
         at .before .side-cells .ensures,
         (
           c .before .before .loop-test .taken,
-          omega (arith, room start, at .loop .inv .1, at .loop .inv .2, concat-fits (a .h) (at .loop .i) (levelWords (a .d) (a .v) (a .s) (a .h) (a .table .now)) (c .before .before .loop-test .taken)),
+          omega (
+            arith,
+            room start,
+            at .loop .inv .1,
+            at .loop .inv .2,
+            concat-fits (a .h) (at .loop .i) (levelWords (a .d) (a .v) (a .s) (a .h) (a .table .now)) (c .before .before .loop-test .taken),
+          ),
         ),
       ),
     )
@@ -61,8 +68,10 @@ loop-again c =
     let a = start .args in
     let call = c .before .before .write-level in
     let more =
-    placed-record (a .h) (0) (at .loop .i) (at .loop .next) (call .result) (levelWords (a .d) (a .v) (a .s) (a .h) (a .table .now)) (a .out .now) (at .loop .out) _
-    (omega (arith, c .before .before .before .before .before .loop-test .taken)) (room start) (at .loop .inv .1) (at .loop .inv .3) (call .ensures .0) (call .ensures .1) in
+    placed-record (a .h) (0) (at .loop .i) (at .loop .next) (call .result)
+    (levelWords (a .d) (a .v) (a .s) (a .h) (a .table .now)) (a .out .now) (at .loop .out) _
+    (omega (arith, c .before .before .before .before .before .loop-test .taken)) (room start)
+    (at .loop .inv .1) (at .loop .inv .3) (call .ensures .0) (call .ensures .1) in
     (omega arith, more .place, more .long, more .words)
 
 same-length : tie.Need-same-length Inv-loop μ-loop
@@ -73,7 +82,8 @@ returns c =
     let at = c .before in
     let a = at .before .before .before .before .args in
     let all : at .loop .i ≡ a .h = omega arith in
-    let words = ap (λ (m : ℕ). concat (tabulate m (levelWords (a .d) (a .v) (a .s) (a .h) (a .table .now)))) all ∙ sym (all-is (a .d) (a .v) (a .s) (a .h) (a .table .now)) in
+    let words = ap (λ (m : ℕ). concat (tabulate m (levelWords (a .d) (a .v) (a .s) (a .h) (a .table .now)))) all
+    ∙ sym (all-is (a .d) (a .v) (a .s) (a .h) (a .table .now)) in
     (omega (arith, at .loop .inv .1, ap length words), at .loop .inv .3 ∙ ap (λ (l : List ℕ). placed (0) l (a .out .now)) words)
 
 pub write-swept-spec : {M : Type 1} → statement M

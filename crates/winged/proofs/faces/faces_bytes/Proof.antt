@@ -13,7 +13,7 @@ use mir.ValLaws.{toZ-ofZ}
 use Rattle.words.specs.Bytes.{words16}
 use Rattle.rules.specs.Limits.{maxDimension}
 use Rattle.rules.specs.Shapes.{shapeOk}
-use Rattle.complex.specs.Layout.{tableLength}
+use Rattle.records.specs.Layout.{tableLength}
 use Rattle.rules.proofs.InLimits.{limits-are}
 use Rattle.winged.specs.Sent.{tableRoom, facesAnswer, facesAfter}
 use Rattle.winged.proofs.Inward.{decoded-front, table-fits}

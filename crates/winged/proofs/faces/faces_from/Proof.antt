@@ -15,15 +15,17 @@ use mir.ValLaws.{toZ-pos, toZ-ofZ}
 use Rattle.words.specs.Bytes.{bytesOf}
 use Rattle.words.specs.Records.{concat}
 use Rattle.words.proofs.Bytes.{bytes-length}
-use Rattle.complex.specs.Layout.{tableLength, cellWords}
+use Rattle.records.specs.Layout.{tableLength, facesWords}
+use Rattle.records.specs.Inside.{Table}
 use Rattle.boundary.specs.Faces.{FacesInput, boundaryCells, facesLength}
-use Rattle.boundary.specs.Written.{tableFaces, allWords}
-use Rattle.boundary.proofs.Counting.{boundary-is, words-are, words-long}
+use Rattle.boundary.specs.Walk.{tableFaces}
+use Rattle.boundary.proofs.Sizes.{words-long}
 use Rattle.rules.specs.Limits.{maxDimension}
 use Rattle.rules.proofs.InLimits.{Limits, limits-are}
 use Rattle.boundary.proofs.Outcomes.{rightLength, isSound, refused-at-14, refused-at-15, accepted-with}
 use Rattle.words.proofs.Placed.{placed-first}
-use Rattle.winged.specs.Sent.{facesIn}
+use Rattle.winged.specs.Sent.{facesIn, facesBytes}
+use Rattle.winged.proofs.FaceBytes.{bytes-faces}
 use Rattle.winged.proofs.FaceOutcomes.{told-refused, told-accepted}
 use Rattle.winged.proofs.faces.faces_from.Statement.{statement}
 use Rattle.winged.proofs.faces.faces_from.Tie as tie
@@ -43,16 +45,15 @@ right c = eq-eqb (length (c .args .table .now)) (tableLength (c .args .d) (c .ar
 whole : (c : tie.Else1) → isSound (input (start (c .before))) ≡ true
 whole c = sym (c .before .is-sound .ensures) ∙ not-false _ (c .if1 .left)
 
--- the boundary by cell and position, and the words that it takes
-cells : (c : tie.Start) → boundaryCells (input c) ≡ tableFaces (c .args .d) (c .args .s) (c .args .table .now)
-unfolding boundaryCells
-cells c = boundary-is (c .args .d) (c .args .s) (c .args .table .now) (c .pre .1)
+table : (c : tie.Start) → Table (c .args .d) (c .args .s) (c .args .table .now)
+table c = record { dimension = limits c .dimension; cells = limits c .cells; long = c .pre .1 }
 
 abbrev from : tie.After-count-faces → tie.Start
 from c = start (c .before .before)
 
 needed : (c : tie.After-count-faces) → c .count-faces .result * (from c .args .d + 1) ≡ facesLength (input (from c))
-needed c = ap₂ _*_ (c .count-faces .ensures .0 ∙ sym (ap length (cells (from c)))) (add-one (from c .args .d))
+unfolding boundaryCells
+needed c = ap₂ _*_ (c .count-faces .ensures .0) (add-one (from c .args .d))
 
 few : (c : tie.After-count-faces) → c .count-faces .result * (from c .args .d + 1) ≤ 262144
 few c =
@@ -73,7 +74,7 @@ returns c =
     (toZ-ofZ w64 _ (search needs) ∙ c .minus .ensures ∙ told .0, told .1)
 
 count-faces-requires : tie.Need-count-faces-requires
-count-faces-requires c κs = let s = start (c .before) in (limits s .dimension, limits s .cells, s .pre .1)
+count-faces-requires c κs = table (start (c .before))
 
 add-n : tie.Need-add-n
 add-n c = omega (arith, limits (from c) .dimension)
@@ -99,16 +100,11 @@ write-bytes-requires : tie.Need-write-bytes-requires
 write-bytes-requires c κs =
     let n = c .before .before in
     let s = from n in
-    let a = s .args in (
-      (limits s .dimension, limits s .cells, s .pre .1),
-      omega (
-        arith,
-        c .before .if2 .left,
-        ap (λ k. k * (a .d + 1)) (n .count-faces .ensures .0),
-        words-long (a .d) (a .s) (a .table .now) (s .pre .1),
-        bytes-length (allWords (a .d) (a .s) (a .table .now)),
-      ),
-    )
+    let a = s .args in
+    let fs = tableFaces (a .d) (a .s) (a .table .now) in
+    let count = ap (λ k. k * (a .d + 1)) (n .count-faces .ensures .0) in
+    let words = rw (← add-one (a .d)) at (words-long (a .d) (a .s) (a .table .now) (table s)) in
+    (table s, omega (arith, c .before .if2 .left, ap length (bytes-faces fs), bytes-length (facesWords fs)))
 
 cast-result : tie.Need-cast-result
 cast-result c = search needs
@@ -117,6 +113,7 @@ same-length : tie.Need-same-length
 same-length c = search needs
 
 returns-3 : tie.Need-returns-3
+unfolding boundaryCells
 returns-3 c =
     let two = c .before .before .before .before in
     let n = two .before in
@@ -126,10 +123,9 @@ returns-3 c =
     accepted-with (input s) (s .pre .0) (right s) (whole (n .before))
     (le-ltb (input s .room) (facesLength (input s)) (omega (arith, two .if2 .left, needed n))) in
     let told = told-accepted (a .d) (a .v) (a .s) (a .table .now) (a .out .now) (length (boundaryCells (input s))) o in
-    let words = ap (λ cs. concat (map cellWords cs)) (cells s) ∙ words-are (a .d) (a .s) (a .table .now) in (
+    let fs = tableFaces (a .d) (a .s) (a .table .now) in (
       toZ-pos w64 (n .count-faces .result * (a .d + 1)) (omega (arith, few n)) ∙ ap pos (needed n) ∙ told .0,
-      c .before .before .write-bytes .ensures ∙ placed-first (bytesOf (allWords (a .d) (a .s) (a .table .now))) (a .out .now)
-          ∙ ap (λ (l : List ℕ). bytesOf l ++ drop (length (bytesOf l)) (a .out .now)) (sym words) ∙ told .1,
+      rw (bytes-faces fs) (c .before .before .write-bytes .ensures ∙ placed-first (facesBytes fs) (a .out .now)) ∙ told .1,
     )
 
 pub faces-from-spec : {M : Type 1} → statement M

@@ -12,7 +12,7 @@ use lib.Seq.{length-take-le}
 use Rattle.words.specs.Bytes.{words16}
 use Rattle.rules.specs.Limits.{maxSource, stepsOk}
 use Rattle.rules.specs.Shapes.{shapeOk}
-use Rattle.complex.specs.Layout.{recordSize}
+use Rattle.records.specs.Layout.{recordSize}
 use Rattle.sweep.specs.Sweep.{sweepOutcome, sweepBuffer, sweepInput}
 use Rattle.rules.proofs.InLimits.{sweep-limits-are}
 use Rattle.winged.proofs.Inward.{decoded-front, sweep-after, sweep-large, sweep-outside, sweep-wrong, sweep-right}

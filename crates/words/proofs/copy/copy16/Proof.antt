@@ -1,66 +1,41 @@
 -- `copy16` stores the numbers: in each turn one more of those that are left is stored. Assumes nothing.
-use mathlib.Core.Path.{_≡_, refl, sym, ap, _∙_}
+use mathlib.Core.Path.{_≡_, refl}
 use Prim.Native.Nat.{_≤_, _-_, _+_, _*_}
 use native.Mathlib.Omega.{arith}
-use lib.Seq.{sets}
-use lib.ListN.{length, set, length-set}
+use lib.ListN.{length, length-set}
 use borrow.Author.Needs.{needs}
-use Rattle.words.specs.Bytes.{wordsFrom}
-use Rattle.words.proofs.Bytes.{copy-step}
+use Rattle.words.specs.Bytes.{wordsFrom, word16}
+use Rattle.words.proofs.Bytes.{words-next, words-length}
+use Rattle.words.proofs.Writing.{Left, left-starts, left-word, left-ends}
 use Rattle.words.proofs.copy.copy16.Statement.{statement}
 use Rattle.words.proofs.copy.copy16.Tie as tie
 
 abbrev Inv-loop : tie.InvT-loop
 Inv-loop b at m out₀ to from₀ k₀ left₀ out from k left =
-    (from + left * 2 ≤ length b) × (k + left ≤ length out) × (length out ≡ length out₀) × (sets out₀ to (wordsFrom b at m) ≡ sets out k (wordsFrom b from left))
+    (from + left * 2 ≤ length b) × (k + left ≤ length out) × Left to (wordsFrom b at m) out₀ k (wordsFrom b from left) out
 
 abbrev μ-loop : tie.MeasureT-loop
 μ-loop b at m out₀ to from₀ k₀ left₀ out from k left = left
 
+abbrev start : tie.At-loop Inv-loop μ-loop → tie.Start Inv-loop μ-loop
+start c = c .before .before .before
+
 loop-holds : tie.Need-loop-holds Inv-loop μ-loop
-loop-holds c = (search needs, search needs, refl, refl)
-
-word16-requires : tie.Need-word16-requires Inv-loop μ-loop
-word16-requires c κs = search needs
-
-mul-out : tie.Need-mul-out Inv-loop μ-loop
-mul-out c = search needs
-
-slice-write-out : tie.Need-slice-write-out Inv-loop μ-loop
-slice-write-out c = search needs
-
-add-from : tie.Need-add-from Inv-loop μ-loop
-add-from c = search needs
-
-add-k : tie.Need-add-k Inv-loop μ-loop
-add-k c = search needs
-
-sub-left : tie.Need-sub-left Inv-loop μ-loop
-sub-left c = search needs
-
-loop-less : tie.Need-loop-less Inv-loop μ-loop
-loop-less c = search needs
+loop-holds c =
+    let a = c .before .before .args in
+    (search needs, search needs, left-starts _ _ _ (omega (arith, words-length (a .b .now) (a .at) (a .m))))
 
 loop-again : tie.Need-loop-again Inv-loop μ-loop
 loop-again c =
     let l = c .before .before .loop in
-    let a = c .before .before .before .before .before .args in (
-      omega arith,
-      simp length-set (omega arith),
-      length-set (l .out) _ _ ∙ l .inv .2,
-      l .inv .3 ∙ copy-step (a .b .now) (l .from) (l .left) (l .out) (l .k) (c .before .loop-test .taken)
-          ∙ ap (λ w. sets (set (l .out) (l .k) w) (l .k + 1) (wordsFrom (a .b .now) (l .from + 2) (l .left - 1))) (sym (c .word16 .ensures)),
-    )
-
-same-length : tie.Need-same-length Inv-loop μ-loop
-same-length c = search needs
+    let b = start (c .before .before) .args .b .now in
+    let next = words-next b (l .from) (l .left) (c .before .loop-test .taken) in
+    (omega arith, simp length-set (omega arith), rw (c .word16 .ensures) (left-word (word16 b (l .from)) (wordsFrom b (l .from + 2) (l .left - 1)) _ refl (rw next at (l .inv .2))))
 
 returns : tie.Need-returns Inv-loop μ-loop
 returns c =
-    let l = c .before .loop in
-    let a = c .before .before .before .before .args in
-    let none : l .left ≡ 0 = omega arith in
-    sym (l .inv .3 ∙ ap (λ m. sets (l .out) (l .k) (wordsFrom (a .b .now) (l .from) m)) none)
+    let none : c .before .loop .left ≡ 0 = omega arith in
+    left-ends (rw none at (c .before .loop .inv .2)) .content
 
 pub copy16-spec : {M : Type 1} → statement M
 copy16-spec =
@@ -69,13 +44,13 @@ copy16-spec =
     Inv-loop
     μ-loop
     loop-holds
-    word16-requires
-    mul-out
-    slice-write-out
-    add-from
-    add-k
-    sub-left
-    loop-less
+    (λ c κs. search needs)
+    (λ c. search needs)
+    (λ c. search needs)
+    (λ c. search needs)
+    (λ c. search needs)
+    (λ c. search needs)
+    (λ c. search needs)
     loop-again
-    same-length
+    (λ c. search needs)
     returns)

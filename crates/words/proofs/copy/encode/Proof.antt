@@ -1,73 +1,41 @@
 -- `encode` stores the bytes: in each turn the two of the next number. Assumes nothing.
-use mathlib.Core.Path.{_≡_, refl, sym, ap, _∙_}
-use Prim.Native.Nat.{ℕ, _≤_, _-_, _*_}
+use mathlib.Core.Path.{_≡_, refl, _∙_}
+use mathlib.Core.List.{_∷_}
+use Prim.Native.Nat.{ℕ, _≤_, _+_, _-_, _*_, _/_, _%_}
 use native.Mathlib.Omega.{arith}
-use lib.Seq.{sets}
-use lib.ListN.{length, drop, length-set, drop-of-length-le}
+use lib.ListN.{length, drop, getD, length-set, drop-of-length-le}
 use borrow.Author.Needs.{needs, below-set}
 use Rattle.words.specs.Bytes.{bytesOf}
-use Rattle.words.proofs.Bytes.{bytes-step, encoded}
+use Rattle.words.proofs.Bytes.{bytes-length}
+use Rattle.words.proofs.Loops.{drop-next}
+use Rattle.words.proofs.Writing.{Left, left-starts, left-word, left-ends, put-first}
 use Rattle.words.proofs.copy.encode.Statement.{statement}
 use Rattle.words.proofs.copy.encode.Tie as tie
 
 abbrev Inv-loop : tie.InvT-loop
 Inv-loop words out₀ p₀ out p =
-    (p ≤ length words) × (length out ≡ length out₀) × (sets out₀ 0 (bytesOf words) ≡ sets out (p * 2) (bytesOf (drop p words)))
+    (p ≤ length words) × (length out ≡ length out₀) × Left 0 (bytesOf words) out₀ (p * 2) (bytesOf (drop p words)) out
 
 abbrev μ-loop : tie.MeasureT-loop
 μ-loop words out₀ p₀ out p = length words - p
 
 loop-holds : tie.Need-loop-holds Inv-loop μ-loop
-loop-holds c = (search needs, refl, refl)
-
-mul-w : tie.Need-mul-w Inv-loop μ-loop
-mul-w c = search needs
-
-shared-slice-read-w : tie.Need-shared-slice-read-w Inv-loop μ-loop
-shared-slice-read-w c = search needs
-
-cast-out : tie.Need-cast-out Inv-loop μ-loop
-cast-out c = search needs
-
-mul-out : tie.Need-mul-out Inv-loop μ-loop
-mul-out c = search needs
-
-slice-write-out : tie.Need-slice-write-out Inv-loop μ-loop
-slice-write-out c = search needs
-
-cast-out-2 : tie.Need-cast-out-2 Inv-loop μ-loop
-cast-out-2 c = search needs
-
-mul-out-2 : tie.Need-mul-out-2 Inv-loop μ-loop
-mul-out-2 c = search needs
-
-add-out : tie.Need-add-out Inv-loop μ-loop
-add-out c = search needs
-
-slice-write-out-2 : tie.Need-slice-write-out-2 Inv-loop μ-loop
-slice-write-out-2 c = below-set ℕ (c .before .before .loop .out) _ _ _ (omega arith)
-
-add-p : tie.Need-add-p Inv-loop μ-loop
-add-p c = search needs
-
-loop-less : tie.Need-loop-less Inv-loop μ-loop
-loop-less c = search needs
+loop-holds c = (search needs, refl, left-starts _ _ _ (omega (arith, bytes-length (c .args .words .now))))
 
 loop-again : tie.Need-loop-again Inv-loop μ-loop
 loop-again c =
     let l = c .before .before .loop in
-    let a = c .before .before .before .args in
-    (omega arith, simp length-set (l .inv .1), l .inv .2 ∙ bytes-step (a .words .now) (l .out) (l .p) (c .before .loop-test .taken))
-
-same-length : tie.Need-same-length Inv-loop μ-loop
-same-length c = search needs
+    let words = c .before .before .before .args .words .now in
+    let w = getD words (l .p) 0 in
+    let rest = bytesOf (drop (l .p + 1) words) in
+    let low = left-word (w % 256) ((w / 256 % 256) ∷ rest) (l .p * 2 + 1) refl (rw (drop-next 0 words (l .p) (c .before .loop-test .taken)) at (l .inv .2)) in
+    (omega arith, simp length-set (l .inv .1), left-word (w / 256 % 256) rest _ (omega arith) low)
 
 returns : tie.Need-returns Inv-loop μ-loop
 returns c =
     let l = c .before .loop in
-    let s = c .before .before in
-    encoded (s .args .words .now) (s .args .out .now) _ (s .pre)
-    (sym (l .inv .2 ∙ ap (λ r. sets (l .out) (l .p * 2) (bytesOf r)) (drop-of-length-le (s .args .words .now) (c .loop-test .left))))
+    let words = c .before .before .args .words .now in
+    put-first (left-ends (rw (drop-of-length-le words (c .loop-test .left)) at (l .inv .2))) ∙ rw (bytes-length words)
 
 pub encode-spec : {M : Type 1} → statement M
 encode-spec =
@@ -76,17 +44,17 @@ encode-spec =
     Inv-loop
     μ-loop
     loop-holds
-    mul-w
-    shared-slice-read-w
-    cast-out
-    mul-out
-    slice-write-out
-    cast-out-2
-    mul-out-2
-    add-out
-    slice-write-out-2
-    add-p
-    loop-less
+    (λ c. search needs)
+    (λ c. search needs)
+    (λ c. search needs)
+    (λ c. search needs)
+    (λ c. search needs)
+    (λ c. search needs)
+    (λ c. search needs)
+    (λ c. search needs)
+    (λ c. below-set ℕ (c .before .before .loop .out) _ _ _ (omega arith))
+    (λ c. search needs)
+    (λ c. search needs)
     loop-again
-    same-length
+    (λ c. search needs)
     returns)

@@ -1,58 +1,25 @@
 -- `Step::fits` answers `stepFits`, by the cases of the step. Assumes nothing.
-use mathlib.Core.Path.{_≡_, refl, _∙_}
+use mathlib.Core.Path.{refl, ap}
+use mathlib.Core.Bool.{_&&_}
+use lib.Dec.{leb}
 use borrow.Author.Needs.{needs}
-use borrow.Author.Tests.{eq-eqb, ne-eqb, lt-ltb, le-ltb, le-leb, lt-leb}
 use Rattle.points.specs.Step.{stepFits}
 use Rattle.points.proofs.step.Step.fits.Statement.{statement}
 use Rattle.points.proofs.step.Step.fits.Tie as tie
 
-enum-known-self : tie.Need-enum-known-self
-enum-known-self c = search needs
-
-enum-known-self-2 : tie.Need-enum-known-self-2
-enum-known-self-2 c = search needs
-
 returns : tie.Need-returns
 unfolding stepFits
-returns c = rw (c .before .before .self2 .given .1, eq-eqb _ _ (c .if1 .taken)) refl
+returns c = rw (c .before .self .given .1) refl
 
 returns-2 : tie.Need-returns-2
 unfolding stepFits
-returns-2 c = rw (c .before .before .before .self2 .given .1, ne-eqb _ _ (c .before .if1 .left), le-ltb _ _ (c .if2 .taken)) refl
-
-enum-known-self-3 : tie.Need-enum-known-self-3
-enum-known-self-3 c = search needs
+returns-2 c = rw (c .before .self2 .given .1) refl
 
 returns-3 : tie.Need-returns-3
 unfolding stepFits
-returns-3 c = rw (c .before .before .self3 .given .1, lt-leb _ _ (c .if3 .taken)) refl
-
-on-circle-requires : tie.Need-on-circle-requires
-on-circle-requires c κs = search needs
-
-returns-4 : tie.Need-returns-4
-unfolding stepFits
-returns-4 c = rw (c .before .self .given .1) refl
-
-returns-5 : tie.Need-returns-5
-unfolding stepFits
-returns-5 c = rw (c .before .before .before .self2 .given .1, ne-eqb _ _ (c .before .if1 .left), lt-ltb _ _ (c .if2 .left)) refl
-
-returns-6 : tie.Need-returns-6
-unfolding stepFits
-returns-6 c = rw (c .before .before .before .self3 .given .1, le-leb _ _ (c .before .if3 .left)) (c .on-circle .ensures)
+returns-3 c = rw (c .before .before .self3 .given .1) (ap (λ b. leb 3 (c .before .before .before .before .args .n) && b) (c .on-circle .ensures))
 
 pub fits-spec : {M : Type 1} → statement M
 fits-spec =
     tie.close
-    (tie.spec
-    enum-known-self
-    enum-known-self-2
-    returns
-    returns-2
-    enum-known-self-3
-    returns-3
-    on-circle-requires
-    returns-4
-    returns-5
-    returns-6)
+    (tie.spec (λ c. search needs) (λ c. search needs) (λ c. search needs) (λ c κs. search needs) returns returns-2 returns-3)

@@ -1,0 +1,44 @@
+// A walk along the boundary faces of a table, by cell and then position.
+ghost use mathlib.Core.Path.{_≡_};
+ghost use Prim.Native.Nat.{_≤_};
+ghost use Rattle.records.specs.Inside.{Table, Inside};
+ghost use Rattle.boundary.specs.Walk.{onBoundary, NextFace};
+use records::reading::wing;
+use records::sizes::EMPTY;
+
+// Position `position` of cell `cell`.
+pub struct Place {
+    pub cell: usize,
+    pub position: usize,
+}
+
+// Whether wing a of cell p is empty; a cell of dimension 0 has no face.
+fn on_boundary(d: usize, s: usize, table: &[u16], p: usize, a: usize) -> bool
+    requires { ⌜ Inside d s p (now table) × (a ≤ d) ⌝ }
+    ensures { λ r. ⌜ r ≡ onBoundary d (now (table .entry)) p a ⌝ }
+{
+    if d == 0 {
+        return false;
+    }
+    wing(d, s, table, p, a) == EMPTY
+}
+
+// The first place on the boundary at position a of cell p or behind it; cell s if there is none.
+pub fn next_face(d: usize, s: usize, table: &[u16], p: usize, a: usize) -> Place
+    requires { ⌜ Table d s (now table) × (p ≤ s) ⌝ }
+    ensures { λ r. ⌜ NextFace d s (now (table .entry)) p a (r .cell) (r .position) ⌝ }
+{
+    let mut cell = p;
+    let mut position = a;
+    while cell < s {
+        if d < position {
+            position = 0;
+            cell += 1;
+        } else if on_boundary(d, s, table, cell, position) {
+            return Place { cell, position };
+        } else {
+            position += 1;
+        }
+    }
+    Place { cell, position }
+}

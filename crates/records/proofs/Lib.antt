@@ -1,0 +1,3 @@
+-- Laws of records: parts of words, and what stands where in a record.
+pub mod Parts
+pub mod Places

@@ -1,0 +1,43 @@
+-- What stands where in a record P, and in record p of a table.
+--   row-long, wings-long      a record has d + 1 vertices and d + 1 wings
+--   sign-at                   its sign word is its first,
+--   vertex-at, wing-at        vertex k is word vertexPlace k, wing a is word wingPlace d a
+--   record-long               record p of a table is a record
+--   entry-at                  entry p of a table is that of record p
+-- Assumes nothing.
+use mathlib.Core.Path.{_≡_, ap, _∙_}
+use mathlib.Core.List.{List}
+use Prim.Native.Nat.{ℕ, _+_, _≤_, _<_, suc}
+use native.Mathlib.Omega.{arith}
+use lib.ListN.{length, getD, take, length-drop}
+use lib.Seq.{getD-take, getD-drop, length-take-le}
+use Rattle.words.specs.Records.{part}
+use Rattle.words.proofs.Records.{tabulate-at}
+use Rattle.simplex.specs.SignWords.{signOf}
+use Rattle.records.specs.Layout.{Entry, empty, listSize, recordSize, vertexPlace, wingPlace, tableLength, entryOf, entryIn, entriesOf}
+use Rattle.records.specs.Inside.{signIn, vertexIn, wingIn}
+use Rattle.records.proofs.Parts.{part-long, default-free}
+
+module _ (d : ℕ) (P : List ℕ) (long : length P ≡ recordSize d) where
+  pub row-long : length (entryOf d P .cell .row) ≡ suc d
+  row-long = length-drop 1 (take (listSize d) P) ∙ omega (arith, length-take-le (listSize d) P (omega (arith, long)))
+
+  pub wings-long : length (entryOf d P .wings) ≡ suc d
+  wings-long = length-drop (listSize d) P ∙ omega (arith, long)
+
+  pub sign-at : entryOf d P .cell .sign ≡ signOf (getD P 0 0)
+  sign-at = ap signOf (getD-take (listSize d) P 0 0 (omega arith))
+
+  pub vertex-at : (k : ℕ) → k ≤ d → getD (entryOf d P .cell .row) k 0 ≡ getD P (vertexPlace k) 0
+  vertex-at k h =
+      let one : 1 + k ≡ vertexPlace k = omega arith in
+      getD-drop 1 (take (listSize d) P) k 0 ∙ getD-take (listSize d) P (1 + k) 0 (omega arith) ∙ ap (λ n. getD P n 0) one
+
+  pub wing-at : (a : ℕ) → a ≤ d → getD (entryOf d P .wings) a empty ≡ getD P (wingPlace d a) 0
+  wing-at a h = getD-drop (listSize d) P a empty ∙ default-free P (wingPlace d a) empty 0 (omega (arith, long))
+
+pub record-long : (d s p : ℕ) (ws : List ℕ) → p < s → length ws ≡ tableLength d s → length (part (recordSize d) p ws) ≡ recordSize d
+record-long d s p ws h e = part-long (recordSize d) p s ws h e
+
+pub entry-at : (d s p : ℕ) (ws : List ℕ) (z : Entry) → p < s → getD (entriesOf d s ws) p z ≡ entryIn d ws p
+entry-at d s p ws z h = tabulate-at s (entryIn d ws) p z h

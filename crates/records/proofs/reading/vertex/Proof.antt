@@ -1,0 +1,25 @@
+-- `vertex` reads vertex k of cell p. Assumes nothing.
+use mathlib.Core.Path.{_∙_, sym}
+use native.Mathlib.Omega.{arith}
+use borrow.Author.Needs.{needs}
+use Rattle.words.specs.Records.{part}
+use Rattle.records.specs.Layout.{recordSize}
+use Rattle.records.proofs.Places.{record-long, vertex-at}
+use Rattle.records.proofs.reading.vertex.Statement.{statement}
+use Rattle.records.proofs.reading.vertex.Tie as tie
+
+add-word : tie.Need-add-word
+add-word c = search needs
+
+word-requires : tie.Need-word-requires
+word-requires c κs = search needs
+
+returns : tie.Need-returns
+returns c =
+    let a = c .before .before .args in
+    c .word .ensures
+    ∙ sym (vertex-at (a .d) (part (recordSize (a .d)) (a .p) (a .table .now))
+    (record-long (a .d) (a .s) (a .p) (a .table .now) (omega arith) (cc)) (a .k) (omega arith))
+
+pub vertex-spec : {M : Type 1} → statement M
+vertex-spec = tie.close (tie.spec add-word word-requires returns)

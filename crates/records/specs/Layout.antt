@@ -1,0 +1,83 @@
+-- Cells, tables and faces as 16-bit words. Paper, sections 3 and 5. All that depends on where a word stands is here.
+--   a list cell       sign word, d + 1 vertices
+--   a table record    sign word, d + 1 ascending vertices, d + 1 wings
+--   a face record     sign word, d vertices: a face of a cell of dimension d
+--   empty             the wing word for no neighbour
+--   Entry             a table record: the cell and its wings
+--   cellsOf d s ws    the s cells of a list of words, as they stand there
+--   entryIn d ws p    entry p of a table's words; entriesOf d s ws are its s entries
+--   ownList d s ws    a table without its wings: the list of its cells
+--   cellWords, entryWords, faceWords       the words of a cell of a list, of an entry, of a face
+--   tableWords, facesWords                 those of a table, and of a list of faces
+use mathlib.Core.List.{List, [], _∷_, _++_, map}
+use Prim.Native.Nat.{ℕ, suc, _+_, _*_}
+use lib.ListN.{take, drop, getD}
+use Rattle.words.specs.Records.{tabulate, part, concat}
+use Rattle.simplex.specs.Cell.{Cell, cell}
+use Rattle.simplex.specs.SignWords.{signOf, signWord}
+
+abbrev pub empty : ℕ
+empty = 65535
+
+-- words of a list cell, of a table record, and of a face record
+abbrev pub listSize : ℕ → ℕ
+listSize d = d + 2
+
+abbrev pub recordSize : ℕ → ℕ
+recordSize d = d + d + 3
+
+abbrev pub faceSize : ℕ → ℕ
+faceSize d = suc d
+
+-- where vertex k and wing a stand in a record
+abbrev pub vertexPlace : ℕ → ℕ
+vertexPlace k = k + 1
+
+abbrev pub wingPlace : ℕ → ℕ → ℕ
+wingPlace d a = d + 2 + a
+
+-- words of a list, and of a table, of s cells
+abbrev pub listLength : ℕ → ℕ → ℕ
+listLength d s = s * listSize d
+
+abbrev pub tableLength : ℕ → ℕ → ℕ
+tableLength d s = s * recordSize d
+
+-- the cell of a sign word and its vertices
+abbrev pub cellOf : List ℕ → Cell
+cellOf r = cell (signOf (getD r 0 0)) (drop 1 r)
+
+abbrev pub cellsOf : ℕ → ℕ → List ℕ → List Cell
+cellsOf d s ws = tabulate s (λ p. cellOf (part (listSize d) p ws))
+
+pub record Entry : Type 0 where
+  pub cell : Cell
+  pub wings : List ℕ
+
+-- a record begins with a list cell
+abbrev pub entryOf : ℕ → List ℕ → Entry
+entryOf d r = record { cell = cellOf (take (listSize d) r); wings = drop (listSize d) r }
+
+abbrev pub entryIn : ℕ → List ℕ → ℕ → Entry
+entryIn d ws p = entryOf d (part (recordSize d) p ws)
+
+abbrev pub entriesOf : ℕ → ℕ → List ℕ → List Entry
+entriesOf d s ws = tabulate s (entryIn d ws)
+
+abbrev pub ownList : ℕ → ℕ → List ℕ → List ℕ
+ownList d s ws = concat (tabulate s (λ p. take (listSize d) (part (recordSize d) p ws)))
+
+abbrev pub cellWords : Cell → List ℕ
+cellWords c = signWord (c .sign) ∷ c .row
+
+abbrev pub entryWords : Entry → List ℕ
+entryWords e = cellWords (e .cell) ++ e .wings
+
+abbrev pub tableWords : List Entry → List ℕ
+tableWords es = concat (map entryWords es)
+
+abbrev pub faceWords : Cell → List ℕ
+faceWords f = signWord (f .sign) ∷ f .row
+
+abbrev pub facesWords : List Cell → List ℕ
+facesWords fs = concat (map faceWords fs)

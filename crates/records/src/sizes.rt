@@ -1,0 +1,52 @@
+// How many words there are to a list cell, a table record and a face record, and to whole lists and tables.
+ghost use mathlib.Core.Path.{_≡_};
+ghost use Prim.Native.Nat.{_≤_};
+ghost use Rattle.rules.specs.Limits.{maxDimension, maxCells};
+ghost use Rattle.records.specs.Layout.{listSize, recordSize, faceSize, listLength, tableLength};
+
+// The wing word for no neighbour.
+pub const EMPTY: u16 = 65535;
+// Words of the largest list of cells, and of the largest table: 4,096 cells of dimension 7.
+pub const LIST_ROOM: usize = 36864;
+
+pub const TABLE_ROOM: usize = 69632;
+// Words of the largest table that can be swept: 4,096 swept points of dimension 0.
+pub const SOLID_ROOM: usize = 12288;
+
+pub fn list_size(d: usize) -> usize
+    requires { ⌜ d ≤ maxDimension ⌝ }
+    ensures { λ r. ⌜ r ≡ listSize d ⌝ }
+{
+    d + 2
+}
+
+pub fn record_size(d: usize) -> usize
+    requires { ⌜ d ≤ maxDimension ⌝ }
+    ensures { λ r. ⌜ r ≡ recordSize d ⌝ }
+{
+    d + d + 3
+}
+
+// Of a face of a cell of dimension d.
+pub fn face_size(d: usize) -> usize
+    requires { ⌜ d ≤ maxDimension ⌝ }
+    ensures { λ r. ⌜ r ≡ faceSize d ⌝ }
+{
+    d + 1
+}
+
+// Words of a list of s cells.
+pub fn list_words(d: usize, s: usize) -> usize
+    requires { ⌜ (d ≤ maxDimension) × (s ≤ maxCells) ⌝ }
+    ensures { λ r. ⌜ r ≡ listLength d s ⌝ }
+{
+    s * list_size(d)
+}
+
+// Words of a table of s cells.
+pub fn table_words(d: usize, s: usize) -> usize
+    requires { ⌜ (d ≤ maxDimension) × (s ≤ maxCells) ⌝ }
+    ensures { λ r. ⌜ r ≡ tableLength d s ⌝ }
+{
+    s * record_size(d)
+}
