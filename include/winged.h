@@ -1,4 +1,4 @@
-/* Winged solids: wing, sweep and faces for a host in C.
+/* Winged solids for a host in C: read, wing, sweep, move, faces and list, and the key of a file.
  *
  * A cell of dimension d is a sign and d + 1 different vertex numbers. A table holds, per cell, its sign, its
  * ascending vertices, and its wings: the numbers of its neighbours, wing i across the face that lacks vertex i.
@@ -7,14 +7,19 @@
  *   a list cell      sign word (0 plus, 1 minus), d + 1 vertices in any order
  *   a table record   sign word, d + 1 ascending vertices, d + 1 wings (65535: none)
  *   a face record    sign word, d ascending vertices
+ * and floats of 64 bits (IEEE 754), by their bits, low byte first:
+ *   points           v points of n axes, one after the other
+ *   levels           the points at level 0 to h of a sweep, one level after the other
  *
- * Each function returns the count of words written, or minus the number of a refusal (enum winged_refusal).
- * The first refusal that applies is returned. A refused call writes nothing; an accepted one writes from the
- * start of the output and no further. Lengths are in bytes. An input must have exactly the length that the
- * numbers say; of an output only whole words count, and it may be longer than needed.
+ * Each function returns the count of what was written (words, floats or bytes, as it says), or minus the number
+ * of a refusal (enum winged_refusal). The first refusal that applies is returned. A refused call writes nothing;
+ * an accepted one writes from the start of each output and no further. Lengths are in bytes. An input must have
+ * exactly the length that the numbers say; of an output only whole words or floats count, and it may be longer
+ * than needed.
  *
- * The input and the output of a call must not overlap. A call uses up to 512 KB of stack, no heap and no
- * global state, so calls on different buffers may run in several threads at once.
+ * The inputs and the outputs of a call must not overlap. A call uses no heap and no global state, so calls on
+ * different buffers may run in several threads at once; winged_list and winged_key use up to 1 MB of stack, the
+ * others up to 512 KB.
  */
 #ifndef WINGED_H
 #define WINGED_H
@@ -32,6 +37,8 @@ extern "C" {
 #define WINGED_MAX_VERTICES 4096
 #define WINGED_MAX_CELLS 4096
 #define WINGED_MAX_STEPS 64
+#define WINGED_MAX_AXES 8
+#define WINGED_MAX_FILE 65536 /* bytes of a file that winged_key takes */
 #define WINGED_EMPTY 65535 /* a wing without a neighbour */
 
 /* Sizes in words. */
@@ -39,27 +46,45 @@ extern "C" {
 #define WINGED_RECORD(d) (2 * (size_t)(d) + 3)
 #define WINGED_FACE(d) ((size_t)(d) + 1)
 
-/* Sizes in bytes: the list of s cells, their table, the table of a sweep in h steps, and room for the boundary
- * faces of a table whatever they are. */
+/* Sizes in bytes: the list of s cells, their table, the table of a sweep in h steps, v points of n axes, their
+ * levels in h steps, what winged_read says of a file, and room for the boundary faces of a table whatever they are. */
 #define WINGED_LIST_BYTES(d, s) (2 * (size_t)(s) * WINGED_LIST_CELL(d))
 #define WINGED_TABLE_BYTES(d, s) (2 * (size_t)(s) * WINGED_RECORD(d))
 #define WINGED_SWEPT_CELLS(d, s, h) ((size_t)(h) * (size_t)(s) * ((size_t)(d) + 1))
 #define WINGED_SWEPT_BYTES(d, s, h) WINGED_TABLE_BYTES((d) + 1, WINGED_SWEPT_CELLS(d, s, h))
+#define WINGED_POINTS_BYTES(n, v) (8 * (size_t)(n) * (size_t)(v))
+#define WINGED_LEVELS_BYTES(n, v, h) (((size_t)(h) + 1) * WINGED_POINTS_BYTES(n, v))
+#define WINGED_HEADER_BYTES 40
 #define WINGED_FACES_BYTES(d, s) (2 * (size_t)(s) * ((size_t)(d) + 1) * WINGED_FACE(d))
 
 enum winged_refusal {
+    WINGED_NOT_OURS = 1,         /* read: under 40 bytes, or mark or version wrong */
     WINGED_OUTSIDE_LIMITS = 2,   /* a number is outside its limits */
-    WINGED_WRONG_LENGTH = 3,     /* the input's length is not what the numbers say */
-    WINGED_BAD_SIGN = 6,         /* wing: a sign word is neither 0 nor 1 */
-    WINGED_BAD_VERTEX = 7,       /* wing: a vertex is v or above */
-    WINGED_VERTEX_TWICE = 8,     /* wing: a cell has a vertex twice */
+    WINGED_WRONG_LENGTH = 3,     /* an input's length is not what the numbers say */
+    WINGED_FLOAT_RANGE = 4,      /* read, move, list: a float is not finite, or of magnitude 1,048,576 or above */
+    WINGED_STEP_UNFIT = 5,       /* read, move: the step does not fit its space, or an unused part is not 0 */
+    WINGED_BAD_SIGN = 6,         /* read, wing: a sign is neither plus nor minus */
+    WINGED_BAD_VERTEX = 7,       /* read, wing: a vertex is v or above */
+    WINGED_VERTEX_TWICE = 8,     /* read, wing: a cell has a vertex twice */
     WINGED_CELL_TWICE = 9,       /* wing: two cells are on the same vertices */
     WINGED_CROWDED_FACE = 10,    /* wing: a face is in three or more cells */
     WINGED_EQUAL_SIGNS = 11,     /* wing: two cells share a face with equal signs */
-    WINGED_SWEPT_TOO_LARGE = 12, /* sweep: over 4,096 vertices or cells */
-    WINGED_UNSOUND = 14,         /* sweep, faces: the table is not that of its own cells */
-    WINGED_NO_ROOM = 15          /* the output is shorter than the answer */
+    WINGED_SWEPT_TOO_LARGE = 12, /* sweep, move: over 4,096 vertices or cells */
+    WINGED_MOVED_OUT = 13,       /* move: a moved coordinate leaves the range */
+    WINGED_UNSOUND = 14,         /* sweep, faces, list: the table is not that of its own cells */
+    WINGED_NO_ROOM = 15          /* an output is shorter than the answer */
 };
+
+/* Kinds of step: a slide adds an amount on one axis, a slant on two axes, a turn rotates the first two axes and
+ * rises on the last. */
+#define WINGED_SLIDE 1
+#define WINGED_SLANT 2
+#define WINGED_TURN 3
+
+/* What a file says. cells gets its list cells (the count of their words is returned), points its points, and header
+ * 40 bytes: eight words d, n, v, s, h, kind, axis, other, then three floats a, b, c, as winged_move takes them. */
+int64_t winged_read(const uint8_t *file, size_t file_len, uint8_t *header, size_t header_len, uint8_t *cells,
+                    size_t cells_len, uint8_t *points, size_t points_len);
 
 /* The table of a list of s cells of dimension d (0 to 7) on v vertices. */
 int64_t winged_wing(uint32_t d, uint32_t v, uint32_t s, const uint8_t *cells, size_t cells_len, uint8_t *table,
@@ -69,9 +94,24 @@ int64_t winged_wing(uint32_t d, uint32_t v, uint32_t s, const uint8_t *cells, si
 int64_t winged_sweep(uint32_t d, uint32_t v, uint32_t s, uint32_t h, const uint8_t *table, size_t table_len,
                      uint8_t *swept, size_t swept_len);
 
+/* The points of levels 0 to h: v points of n axes (1 to 8), moved h times by a step. a, b and c are floats by their
+ * bits: a slide's amount on axis; a slant's amounts on axis and other; a turn's cosine, sine and rise. What a kind
+ * leaves unused is to be 0. Returns the count of floats. */
+int64_t winged_move(uint32_t n, uint32_t v, uint32_t h, uint32_t kind, uint32_t axis, uint32_t other, uint64_t a,
+                    uint64_t b, uint64_t c, const uint8_t *points, size_t points_len, uint8_t *levels,
+                    size_t levels_len);
+
 /* One record for each empty wing of a table, by cell and then position. In dimension 0 there is none. */
 int64_t winged_faces(uint32_t d, uint32_t v, uint32_t s, const uint8_t *table, size_t table_len, uint8_t *faces,
                      size_t faces_len);
+
+/* The key's text of a table of dimension d (0 to 7) and v points of n axes. Returns the count of bytes. */
+int64_t winged_list(uint32_t d, uint32_t n, uint32_t v, uint32_t s, const uint8_t *table, size_t table_len,
+                    const uint8_t *points, size_t points_len, uint8_t *text, size_t text_len);
+
+/* What the program key prints for a file: its key, or the line 'refused' with a number. Returns the count of bytes;
+ * the only refusal is that of a text_len that is too small. 65,536 bytes are always enough. */
+int64_t winged_key(const uint8_t *file, size_t file_len, uint8_t *text, size_t text_len);
 
 #ifdef __cplusplus
 }

@@ -1,6 +1,6 @@
 //! The marked keys and the refusals through the safe functions.
 
-use winged::{faces, sweep, wing, Refusal, EMPTY};
+use winged::{faces, key, list as listed, move_points, read, sweep, wing, Refusal, Step, EMPTY};
 
 /// Words from a sign and vertices for each cell.
 fn list(cells: &[(char, &[u16])]) -> Vec<u16> {
@@ -53,4 +53,39 @@ fn refusals() {
     assert_eq!(sweep(6, 8, 1, 65, &[0; 15]), Err(Refusal::OutsideLimits));
     assert_eq!(faces(2, 3, 1, &[0, 0, 1, 2, 0, E, E]), Err(Refusal::Unsound));
     assert_eq!(Refusal::CrowdedFace.to_string(), "refused 10: a face is in three or more cells");
+}
+
+/// A sample's bytes and its key.
+fn sample(name: &str) -> (Vec<u8>, String) {
+    let folder = concat!(env!("CARGO_MANIFEST_DIR"), "/../examples/");
+    let file = |end| std::fs::read(format!("{folder}{name}.{end}")).unwrap();
+    (file("wng"), String::from_utf8(file("key")).unwrap())
+}
+
+#[test]
+fn a_file_to_its_key() -> Result<(), Refusal> {
+    for name in ["series/3-cube", "series/1-segment"] {
+        let (bytes, text) = sample(name);
+        let f = read(&bytes)?;
+        let swept = sweep(f.d, f.v, f.s, f.h, &wing(f.d, f.v, f.s, &f.cells)?)?;
+        let levels = move_points(f.n, f.v, f.h, f.step, &f.points)?;
+        assert_eq!(listed(f.d + 1, f.n, (f.h + 1) * f.v, f.h * f.s * (f.d + 1), &swept, &levels)?, text);
+        assert_eq!(key(&bytes), text);
+    }
+    assert_eq!(key(b"WNG"), "refused 1\n");
+    Ok(())
+}
+
+#[test]
+fn refusals_of_read_move_and_list() {
+    let slide = |axis, amount| Step::Slide { axis, amount };
+    assert_eq!(read(b"WNG"), Err(Refusal::NotOurs));
+    assert_eq!(read(&[b"WNG\x01\0".as_slice(), &[0; 35]].concat()), Err(Refusal::OutsideLimits));
+    assert_eq!(move_points(1, 1, 1, slide(0, f64::NAN), &[0.0]), Err(Refusal::FloatRange));
+    assert_eq!(move_points(1, 1, 1, slide(1, 1.0), &[0.0]), Err(Refusal::StepUnfit));
+    assert_eq!(move_points(1, 2049, 1, slide(0, 1.0), &[0.0; 2049]), Err(Refusal::SweptTooLarge));
+    assert_eq!(move_points(1, 1, 1, slide(0, 1.0), &[1048575.0]), Err(Refusal::MovedOutOfRange));
+    assert_eq!(move_points(2, 1, 1, Step::Slant { axis: 1, amount: 0.5, other: 0, other_amount: -1.0 }, &[1.0, 2.0]), Ok(vec![1.0, 2.0, 0.0, 2.5]));
+    assert_eq!(listed(0, 1, 1, 1, &[0, 0, E], &[f64::INFINITY]), Err(Refusal::FloatRange));
+    assert_eq!(listed(0, 1, 1, 1, &[0, 0, 0], &[0.0]), Err(Refusal::Unsound));
 }

@@ -1,9 +1,9 @@
-"""Compares the calls read, move and list with the unrelated reference.
+"""Compares the calls read, move and list, called from C, with the unrelated reference.
 
-usage: compare.py SHOW [SEED]
+usage: compare.py DRIVER [SEED]
 
-The program is crates/show; the first lines of its files say what it takes and prints. A case gives the number that it
-is made to be refused with, 0 for accepted, or None where only the reference tells.
+DRIVER is tests/calls/driver.c linked with the library; its first lines say what it takes and prints. A case gives the
+number that it is made to be refused with, 0 for accepted, or None where only the reference tells.
 Last line: 'N passed, M failed'.
 """
 
@@ -16,6 +16,7 @@ import tempfile
 
 TESTS = os.path.dirname(os.path.dirname(os.path.abspath(__file__)))
 sys.path[:0] = [TESTS, os.path.join(TESTS, "reference")]
+import byte_cases  # noqa: E402
 import list_cases  # noqa: E402
 import move_cases  # noqa: E402
 import read_cases  # noqa: E402
@@ -65,11 +66,11 @@ def main():
     program = sys.argv[1]
     seed = int(sys.argv[2]) if len(sys.argv) > 2 else 20262
     tally = Tally(shown=10)
-    for name, cases, last, wanted in (
-            ("read", read_cases.cases, "behind", {0, 1, 2, 3, 4, 5, 6, 7, 8, 15}),
-            ("move", move_cases.cases, "buffer", {0, 2, 3, 4, 5, 12, 13, 15}),
-            ("list", list_cases.cases, "buffer", {0, 2, 3, 4, 14, 15})):
-        compare(name, program, list(cases(random.Random(seed))), last, wanted, tally)
+    for name, cases, more, last, wanted in (
+            ("read", read_cases.cases, byte_cases.reads, "behind", {0, 1, 2, 3, 4, 5, 6, 7, 8, 15}),
+            ("move", move_cases.cases, byte_cases.moves, "buffer", {0, 2, 3, 4, 5, 12, 13, 15}),
+            ("list", list_cases.cases, byte_cases.lists, "buffer", {0, 2, 3, 4, 14, 15})):
+        compare(name, program, [*cases(random.Random(seed)), *more()], last, wanted, tally)
     return tally.finish()
 
 

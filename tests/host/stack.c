@@ -1,4 +1,5 @@
-/* Calls wing, sweep and faces at their largest, to be run with a stack of 512 KB. */
+/* Calls the library at its largest: read, wing, sweep, move and faces, to be run with a stack of 512 KB, and with an
+ * argument list and key, with 1 MB. */
 #include <stdint.h>
 #include <stdio.h>
 
@@ -8,6 +9,10 @@ enum { V = 4096, S = 4089 };
 
 static uint8_t list[WINGED_LIST_BYTES(7, S)];
 static uint8_t table[WINGED_TABLE_BYTES(7, WINGED_MAX_CELLS)];
+static uint8_t file[40 + 8 * 8 * 4096 + 3 * 4096], points[WINGED_POINTS_BYTES(8, 4096)], levels[WINGED_POINTS_BYTES(8, 4096)];
+static uint8_t header[WINGED_HEADER_BYTES], text[1 << 21];
+/* a point slid once on its axis */
+static const uint8_t small[51] = {'W', 'N', 'G', 1, 0, 0, 1, 1, 0, 1, 0, 1, 0, 1, [48] = '+'};
 static uint8_t out[WINGED_FACES_BYTES(7, WINGED_MAX_CELLS)];
 
 /* A strip of s cells of dimension d: cell p is on p, p + 1, .. , p + d. Its bytes. */
@@ -32,10 +37,43 @@ static int refused(const char *call, int64_t answer)
     return 1;
 }
 
-int main(void)
+/* A file of 4,096 points, each a cell, in eight axes. */
+static size_t file_of_points(void)
 {
+    static const uint8_t start[14] = {'W', 'N', 'G', 1, 0, 0, 8, 0, 16, 0, 16, 1, 0, 1};
+
+    for (size_t i = 0; i < sizeof start; i++)
+        file[i] = start[i];
+    for (size_t p = 0; p < 4096; p++) {
+        uint8_t *cell = file + 40 + 8 * 8 * 4096 + 3 * p;
+
+        cell[0] = '+';
+        cell[1] = (uint8_t)(p & 255);
+        cell[2] = (uint8_t)(p >> 8);
+    }
+    return 40 + 8 * 8 * 4096 + 3 * 4096;
+}
+
+static int long_calls(void)
+{
+    size_t n = file_of_points();
+    int64_t words = winged_wing(7, V, S, list, strip(7, S), table, sizeof table);
+
+    if (refused("wing", words) || refused("list", winged_list(7, 8, V, S, table, 2 * (size_t)words, points, sizeof points, text, sizeof text)))
+        return 1;
+    return refused("key", winged_key(file, n, text, sizeof text)) || refused("key", winged_key(small, sizeof small, text, sizeof text));
+}
+
+int main(int count, char **names)
+{
+    (void)names;
+    if (count > 1)
+        return long_calls();
     int64_t n = winged_wing(7, V, S, list, strip(7, S), table, sizeof table);
     if (refused("wing", n) || refused("faces", winged_faces(7, V, S, table, 2 * (size_t)n, out, sizeof out)))
+        return 1;
+    if (refused("read", winged_read(file, file_of_points(), header, sizeof header, table, sizeof table, points, sizeof points)) ||
+        refused("move", winged_move(8, 2048, 1, WINGED_SLIDE, 7, 0, 0, 0, 0, points, sizeof points / 2, levels, sizeof levels)))
         return 1;
     n = winged_wing(6, 2048, 585, list, strip(6, 585), table, sizeof table);
     return refused("wing", n) || refused("sweep", winged_sweep(6, 2048, 585, 1, table, 2 * (size_t)n, out, sizeof out));

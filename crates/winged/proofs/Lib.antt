@@ -1,4 +1,5 @@
 -- Laws of the C interface.
+pub mod Counts
 pub mod Outward
 pub mod Hosting
 pub mod Inward

@@ -1,9 +1,21 @@
 // Winged solids for a host in C: numbers and lent bytes in, a count of words or minus a refusal's number out.
 ghost use mathlib.Core.Path.{_≡_};
-ghost use Rattle.winged.specs.Host.{hostWing, hostWingBuffer, hostSweep, hostSweepBuffer, hostFaces, hostFacesBuffer};
+ghost use Rattle.winged.specs.Host.{hostWing, hostWingBuffer, hostSweep, hostSweepBuffer, hostFaces, hostFacesBuffer, hostAnswer};
+ghost use Prim.Native.Nat.{_/_};
+ghost use lib.ListN.{length};
+ghost use Rattle.hosting.specs.Lists.{hostListOutcome, hostListBuffer};
+ghost use Rattle.hosting.specs.Moves.{moveTold, hostMoveOutcome, hostMoveBuffer};
+ghost use Rattle.hosting.specs.Reads.{hostReadOutcome, hostReadHeader, hostReadCells, hostReadPoints};
+ghost use Rattle.marking.specs.Key.{textOutcome, textBuffer};
 use crate::faces::faces_bytes;
 use crate::host::sweep_bytes;
 use crate::host::wing_bytes;
+use crate::sending::answered;
+use hosting::listing::list_bytes;
+use hosting::moving::move_bytes;
+use hosting::reading::read_bytes;
+use hosting::step_bits::StepBits;
+use marking::key::key_text;
 use records::sizes::TABLE_ROOM;
 
 mod faces;
@@ -51,4 +63,79 @@ pub extern "C" fn winged_faces(d: u32, v: u32, s: u32, table: &[u8], faces: &mut
 {
     let mut words = [0u16; TABLE_ROOM];
     faces_bytes(d as usize, v as usize, s as usize, table, &mut words, faces)
+}
+
+#[no_mangle]
+pub extern "C" fn winged_read(
+    file: &[u8],
+    header: &mut [u8],
+    cells: &mut [u8],
+    points: &mut [u8],
+) -> i64
+    ensures answer { λ r. ⌜ r ≡ hostAnswer (hostReadOutcome (now (file .entry)) (now (header .entry)) (now (cells .entry)) (now (points .entry))) ⌝ }
+    ensures header { λ _. ⌜ now (header .exit) ≡ hostReadHeader (now (file .entry)) (now (header .entry)) (now (cells .entry)) (now (points .entry)) ⌝ }
+    ensures cells { λ _. ⌜ now (cells .exit) ≡ hostReadCells (now (file .entry)) (now (header .entry)) (now (cells .entry)) (now (points .entry)) ⌝ }
+    ensures points { λ _. ⌜ now (points .exit) ≡ hostReadPoints (now (file .entry)) (now (header .entry)) (now (cells .entry)) (now (points .entry)) ⌝ }
+{
+    answered(read_bytes(file, header, cells, points))
+}
+
+#[no_mangle]
+pub extern "C" fn winged_move(
+    n: u32,
+    v: u32,
+    h: u32,
+    kind: u32,
+    axis: u32,
+    other: u32,
+    a: u64,
+    b: u64,
+    c: u64,
+    points: &[u8],
+    levels: &mut [u8],
+) -> i64
+    ensures answer { λ r. ⌜ r ≡ hostAnswer (hostMoveOutcome (moveTold n v h (record { kind = kind; axis = axis; other = other; a = a; b = b; c = c }) (now (points .entry)) (length (now (levels .entry)) / 8))) ⌝ }
+    ensures buffer { λ _. ⌜ now (levels .exit) ≡ hostMoveBuffer (moveTold n v h (record { kind = kind; axis = axis; other = other; a = a; b = b; c = c }) (now (points .entry)) (length (now (levels .entry)) / 8)) (now (levels .entry)) ⌝ }
+{
+    let step = StepBits {
+        kind: kind as usize,
+        axis: axis as usize,
+        other: other as usize,
+        a,
+        b,
+        c,
+    };
+    answered(move_bytes(n as usize, v as usize, h as usize, step, points, levels))
+}
+
+#[no_mangle]
+pub extern "C" fn winged_list(
+    d: u32,
+    n: u32,
+    v: u32,
+    s: u32,
+    table: &[u8],
+    points: &[u8],
+    text: &mut [u8],
+) -> i64
+    ensures answer { λ r. ⌜ r ≡ hostAnswer (hostListOutcome d n v s (now (table .entry)) (now (points .entry)) (now (text .entry))) ⌝ }
+    ensures buffer { λ _. ⌜ now (text .exit) ≡ hostListBuffer d n v s (now (table .entry)) (now (points .entry)) (now (text .entry)) ⌝ }
+{
+    answered(list_bytes(
+        d as usize,
+        n as usize,
+        v as usize,
+        s as usize,
+        table,
+        points,
+        text,
+    ))
+}
+
+#[no_mangle]
+pub extern "C" fn winged_key(file: &[u8], text: &mut [u8]) -> i64
+    ensures answer { λ r. ⌜ r ≡ hostAnswer (textOutcome (now (file .entry)) (length (now (text .entry)))) ⌝ }
+    ensures buffer { λ _. ⌜ now (text .exit) ≡ textBuffer (now (file .entry)) (now (text .entry)) ⌝ }
+{
+    answered(key_text(file, text))
 }

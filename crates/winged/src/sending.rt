@@ -1,6 +1,6 @@
 // What goes back to the host: the room of its buffer, the answer as a number, the words as bytes.
 ghost use mathlib.Core.Path.{_≡_};
-ghost use Prim.Native.Nat.{_*_, _/_, _≤_};
+ghost use Prim.Native.Nat.{_*_, _/_, _<_, _≤_};
 ghost use lib.IntN.{pos, negℤ};
 ghost use lib.ListN.{length};
 ghost use Rattle.rules.specs.Numbers.{outcomeOf};
@@ -26,6 +26,17 @@ pub fn minus(k: u8) -> i64
     ensures { λ r. ⌜ r ≡ negℤ (pos k) ⌝ }
 {
     -(k as i64)
+}
+
+// The count as it is, or minus the refusal's number.
+pub fn answered(a: Answer) -> i64
+    requires { ⌜ countOf (outcomeOf a) < 9223372036854775808 ⌝ }
+    ensures { λ r. ⌜ r ≡ hostAnswer (outcomeOf a) ⌝ }
+{
+    match a {
+        Answer::Written(n) => n as i64,
+        Answer::Refused(r) => minus(number(r)),
+    }
 }
 
 // The words that were written go to the start of the lent bytes; a refusal sends none.

@@ -1,0 +1,90 @@
+-- The call list on bytes, row by row.
+--   list-2, list-3, list-4    a refusal: the answer, and the lent bytes as they were
+--   list-right                the lengths are right: what list answers on what is decoded
+--   list-needs, list-small    what the tests say of the numbers and the lengths
+--   list-decodes              list on what is decoded
+-- Assumes nothing.
+use mathlib.Core.Path.{_≡_, refl, sym, ap}
+use mathlib.Core.Bool.{Bool, true, false, not, _&&_}
+use mathlib.Core.List.{List}
+use Prim.Native.Nat.{ℕ, _+_, _*_, _≤_}
+use native.Mathlib.Nat.{mul-le-mul}
+use native.Mathlib.Omega.{arith}
+use lib.Dec.{eqb}
+use lib.Ieee.{Float}
+use lib.ListN.{length}
+use borrow.Author.Tests.{eq-eqb, eqb-true, not-false}
+use Rattle.words.specs.Bytes.{words16}
+use Rattle.words.specs.Records.{allOf}
+use Rattle.words.proofs.Bytes.{words-count}
+use Rattle.rules.specs.Calls.{Outcome, refused}
+use Rattle.rules.specs.Limits.{maxDimension, axesOk}
+use Rattle.rules.specs.Shapes.{shapeOk}
+use Rattle.rules.proofs.Tests.{and-parts}
+use Rattle.records.specs.Layout.{tableLength}
+use Rattle.points.specs.Step.{inRange}
+use Rattle.list.specs.Listing.{listInput, listRules, listOutcome, listBuffer}
+use Rattle.list.proofs.ListCases.{list-limits}
+use Rattle.hosting.specs.Floats.{floats64}
+use Rattle.hosting.specs.Lists.{hostListInput, hostListOutcome, hostListBuffer}
+use Rattle.hosting.proofs.FloatLaws.{floats-length}
+
+pub list-needs : (d n v s : ℕ) → not (shapeOk maxDimension d v s && axesOk n) ≡ false → (d ≤ 7) × (n ≤ 8) × (v ≤ 4096) × (s ≤ 4096)
+list-needs d n v s a = let l = list-limits d n v s (not-false _ a) in (l .dimension, l .axes, l .vertices, l .cells)
+
+module _ (d n v s : ℕ) (table points out : List ℕ) where
+  abbrev pub Refuses : ℕ → Type 0
+  Refuses k = (refused k ≡ hostListOutcome d n v s table points out) × (out ≡ hostListBuffer d n v s table points out)
+
+  abbrev pub numbers : Bool
+  numbers = shapeOk maxDimension d v s && axesOk n
+
+  abbrev pub lengths : Bool
+  lengths = eqb (length table) (tableLength d s * 2) && eqb (length points) (v * n * 8)
+
+  pub list-2 : not numbers ≡ true → Refuses 2
+  unfolding hostListOutcome hostListBuffer
+  list-2 a = rw a (refl, refl)
+
+  module _ (a : not numbers ≡ false) where
+    pub list-3 : not lengths ≡ true → Refuses 3
+    unfolding hostListOutcome hostListBuffer
+    list-3 b = rw (a, b) (refl, refl)
+
+    module _ (b : not lengths ≡ false) where
+      right : (length table ≡ tableLength d s * 2) × (length points ≡ v * n * 8)
+      right =
+          let both = and-parts (eqb (length table) (tableLength d s * 2)) (eqb (length points) (v * n * 8)) (not-false lengths b) in
+          (eqb-true _ _ (both .0), eqb-true _ _ (both .1))
+
+      pub list-small : not (allOf inRange (floats64 points)) ≡ false →
+          (length table ≤ 139264) × (length points ≤ 262144) × (allOf inRange (floats64 points) ≡ true)
+      list-small c =
+          let l = list-needs d n v s a in
+          let words = mul-le-mul {n₁ = s} {m₁ = d + d + 3} {n₂ = 4096} {m₂ = 17} (l .3) (omega arith) in
+          (omega (arith, right .0, words), omega (arith, right .1, mul-le-mul (l .2) (l .1)), not-false _ c)
+
+      decoded : (eqb (length (words16 table)) (tableLength d s) && eqb (length (floats64 points)) (v * n)) ≡ true
+      decoded =
+          let r = right in
+          rw (
+            eq-eqb (length (words16 table)) (tableLength d s) (omega (arith, words-count table)),
+            eq-eqb (length (floats64 points)) (v * n) (omega (arith, floats-length points)),
+          ) refl
+
+      pub list-4 : not (allOf inRange (floats64 points)) ≡ true → Refuses 4
+      unfolding hostListOutcome hostListBuffer listOutcome listRules
+      list-4 c = rw (a, b, decoded, c) (refl, refl)
+
+      pub list-right : (o : Outcome ℕ) (w : List ℕ) →
+          (o ≡ listOutcome (hostListInput d n v s table points out)) × (w ≡ listBuffer (hostListInput d n v s table points out) out) →
+          (o ≡ hostListOutcome d n v s table points out) × (w ≡ hostListBuffer d n v s table points out)
+      unfolding hostListOutcome hostListBuffer listBuffer
+      list-right o w e = rw (a, b) e
+
+  -- words and floats that were decoded to the fronts of two arrays
+  pub list-decodes : (o : Outcome ℕ) (w ws : List ℕ) (fs : List Float) →
+      (o ≡ listOutcome (listInput d n v s ws fs (length out))) × (w ≡ listBuffer (listInput d n v s ws fs (length out)) out) →
+      ws ≡ words16 table → fs ≡ floats64 points →
+      (o ≡ listOutcome (hostListInput d n v s table points out)) × (w ≡ listBuffer (hostListInput d n v s table points out) out)
+  list-decodes o w ws fs e a b = rw (sym a, sym b) e

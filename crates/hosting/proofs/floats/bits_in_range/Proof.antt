@@ -1,0 +1,22 @@
+-- `bits_in_range`: an exponent field of all ones is in no range, and any other is a number's. Assumes nothing.
+use mathlib.Core.Path.{sym}
+use Rattle.file.proofs.Range.{field-out, field-no-nan}
+use borrow.Author.Needs.{needs}
+use Rattle.hosting.proofs.floats.bits_in_range.Statement.{statement}
+use Rattle.hosting.proofs.floats.bits_in_range.Tie as tie
+
+returns : tie.Need-returns
+returns c = sym (field-out _ (c .if1 .taken))
+
+float-from-bits-in-range : tie.Need-float-from-bits-in-range
+float-from-bits-in-range c = field-no-nan _ (c .if1 .left)
+
+in-range-requires : tie.Need-in-range-requires
+in-range-requires c κs = search needs
+
+returns-2 : tie.Need-returns-2
+returns-2 c = search needs
+
+pub bits-in-range-spec : {M : Type 1} → statement M
+bits-in-range-spec =
+    tie.close (tie.spec returns float-from-bits-in-range in-range-requires returns-2)

@@ -1,0 +1,80 @@
+-- `move_sent`: what move wrote goes to the lent bytes, if they are enough. Assumes nothing.
+use borrow.Author.Needs.{needs}
+use mathlib.Core.Path.{_≡_, refl, sym, ap, _∙_}
+use Prim.Native.Nat.{_≤_}
+use native.Mathlib.Omega.{arith}
+use lib.ListN.{length, take}
+use lib.Seq.{length-take-le}
+use Rattle.rules.specs.Calls.{accepted}
+use Rattle.rules.specs.Numbers.{outcomeOf}
+use Rattle.motion.specs.Move.{MoveInput, moveInput, movedLevels, moveOutcome}
+use Rattle.hosting.specs.Floats.{floats64}
+use Rattle.hosting.specs.Rooms.{floatRoom}
+use Rattle.hosting.proofs.MoveRows.{sent-front, sent-ranged, sent-short, sent-fits, sent-refused}
+use Rattle.hosting.proofs.moving.move_sent.Statement.{statement}
+use Rattle.hosting.proofs.moving.move_sent.Tie as tie
+
+abbrev input : tie.After-m → MoveInput
+input c = let a = c .before .before .before .before .before .before .before .args in moveInput (a .n) (a .v) (a .h) (a .step) (floats64 (a .points .now)) floatRoom
+
+accepts : (c : tie.After-m) → accepted (c .m .given .0 .0) ≡ moveOutcome (input c)
+accepts c = ap outcomeOf (sym (c .m .given .1)) ∙ c .before .before .before .move-decoded .ensures .0
+
+front : (c : tie.After-m) → let w = c .before .before .before .move-decoded .last .1 .1 .1 .1 .1 .0 in
+    (c .m .given .0 .0 ≤ length w) × (take (c .m .given .0 .0) w ≡ movedLevels (input c))
+front c = sent-front (input c) _ _ _ (accepts c) (c .before .before .before .move-decoded .ensures .1)
+
+slice-aggregate-move-decoded : tie.Need-slice-aggregate-move-decoded
+slice-aggregate-move-decoded c = search needs
+
+move-decoded-requires : tie.Need-move-decoded-requires
+move-decoded-requires c κs = search needs
+
+enum-known-m : tie.Need-enum-known-m
+enum-known-m c = search needs
+
+returns : tie.Need-returns
+returns c = (sent-short (input (c .before .before)) _ _ _ (accepts (c .before .before)) (c .before .before .before .before .before .move-decoded .ensures .1) _ (c .if1 .taken), refl)
+
+array-share-prefix-out : tie.Need-array-share-prefix-out
+array-share-prefix-out c = front (c .before .before) .0
+
+slice-aggregate-encode : tie.Need-slice-aggregate-encode
+slice-aggregate-encode c = sym (length-take-le _ _ (front (c .before .before .before) .0))
+
+encode-requires : tie.Need-encode-requires
+encode-requires c κs =
+    let e = c .before .before .before .before in (
+      sent-ranged (input e) _ _ _ (accepts e) (e .before .before .before .move-decoded .ensures .1),
+      omega (arith, length-take-le (e .m .given .0 .0) (e .before .before .before .move-decoded .last .1 .1 .1 .1 .1 .0) (front e .0), c .before .before .if1 .left),
+    )
+
+enum-known-r : tie.Need-enum-known-r
+enum-known-r c = search needs
+
+same-length : tie.Need-same-length
+same-length c = search needs
+
+returns-2 : tie.Need-returns-2
+returns-2 c =
+    let e = c .before .before .before .before .before .before .before in
+    sent-fits (input e) _ _ _ (accepts e) (e .before .before .before .move-decoded .ensures .1) _ _ _ (c .before .before .before .before .before .if1 .left) (c .before .before .encode .ensures)
+
+returns-3 : tie.Need-returns-3
+returns-3 c = (sent-refused _ _ _ (ap outcomeOf (sym (c .before .r .given .1)) ∙ c .before .before .before .before .move-decoded .ensures .0), refl)
+
+pub move-sent-spec : {M : Type 1} → statement M
+move-sent-spec =
+    tie.close
+    (tie.spec
+    slice-aggregate-move-decoded
+    move-decoded-requires
+    enum-known-m
+    returns
+    array-share-prefix-out
+    slice-aggregate-encode
+    encode-requires
+    enum-known-r
+    same-length
+    returns-2
+    returns-3)

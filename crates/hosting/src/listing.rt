@@ -1,0 +1,86 @@
+// The call list on bytes.
+ghost use mathlib.Core.Path.{_≡_};
+ghost use mathlib.Core.Bool.{true, _&&_};
+ghost use Prim.Native.Nat.{_*_, _≤_};
+ghost use lib.Dec.{eqb};
+ghost use lib.ListN.{length};
+ghost use Rattle.words.specs.Records.{allOf};
+ghost use Rattle.rules.specs.Limits.{maxDimension, axesOk};
+ghost use Rattle.rules.specs.Shapes.{shapeOk};
+ghost use Rattle.rules.specs.Numbers.{outcomeOf};
+ghost use Rattle.records.specs.Layout.{tableLength};
+ghost use Rattle.points.specs.Step.{inRange};
+ghost use Rattle.list.specs.Listing.{listOutcome, listBuffer};
+ghost use Rattle.hosting.specs.Floats.{floats64};
+ghost use Rattle.hosting.specs.Lists.{hostListInput, hostListOutcome, hostListBuffer};
+use crate::floats;
+use list::list;
+use rules::limits::Shape;
+use rules::refusal::Answer;
+use rules::refusal::Refusal;
+use words::copy;
+
+// Row 2.
+fn numbers_fit(d: usize, n: usize, v: usize, s: usize) -> bool
+    ensures { λ r. ⌜ r ≡ (shapeOk maxDimension d v s && axesOk n) ⌝ }
+{
+    Shape::within(Shape::MAX_DIMENSION, d, v, s) & ((1 <= n) & (n <= Shape::MAX_AXES))
+}
+
+// Row 3: two bytes for each word of the table, eight for each float of the points.
+fn lengths_fit(d: usize, n: usize, v: usize, s: usize, table: usize, points: usize) -> bool
+    requires { ⌜ (d ≤ 7) × (n ≤ 8) × (v ≤ 4096) × (s ≤ 4096) ⌝ }
+    ensures { λ r. ⌜ r ≡ (eqb table (tableLength d s * 2) && eqb points (v * n * 8)) ⌝ }
+{
+    if table != s * (d + d + 3) * 2 {
+        return false;
+    }
+    points == v * n * 8
+}
+
+// List on bytes of the right lengths, whose floats are in range.
+fn list_decoded(
+    d: usize,
+    n: usize,
+    v: usize,
+    s: usize,
+    table: &[u8],
+    points: &[u8],
+    text: &mut [u8],
+) -> Answer
+    requires { ⌜ (length (now table) ≤ 139264) × (length (now points) ≤ 262144) × (allOf inRange (floats64 (now points)) ≡ true) ⌝ }
+    ensures answer { λ r. ⌜ outcomeOf r ≡ listOutcome (hostListInput d n v s (now (table .entry)) (now (points .entry)) (now (text .entry))) ⌝ }
+    ensures buffer { λ _. ⌜ now (text .exit) ≡ listBuffer (hostListInput d n v s (now (table .entry)) (now (points .entry)) (now (text .entry))) (now (text .entry)) ⌝ }
+{
+    let size = table.len() / 2;
+    let count = points.len() / 8;
+    let mut words = [0u16; 69632];
+    let mut floats = [0.0f64; 32768];
+    copy::decode(table, &mut words);
+    floats::decode(points, &mut floats);
+    list(d, n, v, s, &words[..size], &floats[..count], text)
+}
+
+pub fn list_bytes(
+    d: usize,
+    n: usize,
+    v: usize,
+    s: usize,
+    table: &[u8],
+    points: &[u8],
+    text: &mut [u8],
+) -> Answer
+    ensures answer { λ r. ⌜ outcomeOf r ≡ hostListOutcome d n v s (now (table .entry)) (now (points .entry)) (now (text .entry)) ⌝ }
+    ensures buffer { λ _. ⌜ now (text .exit) ≡ hostListBuffer d n v s (now (table .entry)) (now (points .entry)) (now (text .entry)) ⌝ }
+{
+    if !numbers_fit(d, n, v, s) {
+        return Answer::Refused(Refusal::OutsideLimits);
+    }
+    if !lengths_fit(d, n, v, s, table.len(), points.len()) {
+        return Answer::Refused(Refusal::WrongLength);
+    }
+    if !floats::all_in_range(points) {
+        return Answer::Refused(Refusal::FloatRange);
+    }
+    list_decoded(d, n, v, s, table, points, text)
+}

@@ -1,0 +1,33 @@
+-- `winged_move` answers what `move_bytes` does, as a number. Assumes nothing.
+use mathlib.Core.Path.{_≡_, ap, _∙_}
+use Prim.Native.Nat.{_/_}
+use native.Mathlib.Omega.{arith}
+use borrow.Author.Needs.{needs}
+use lib.ListN.{length}
+use mir.Syntax.{w64}
+use mir.ValLaws.{toZ-ofZ}
+use Rattle.hosting.specs.Moves.{moveTold}
+use Rattle.winged.specs.Host.{hostAnswer}
+use Rattle.winged.specs.Sent.{countOf}
+use Rattle.winged.proofs.Counts.{move-within}
+use Rattle.winged.proofs.winged_move.Statement.{statement}
+use Rattle.winged.proofs.winged_move.Tie as tie
+
+move-bytes-requires : tie.Need-move-bytes-requires
+move-bytes-requires c κs = search needs
+
+answered-requires : tie.Need-answered-requires
+answered-requires c κs =
+    let a = c .before .before .before .before .before .before .args in
+    omega (arith, ap countOf (c .before .before .move-bytes .ensures .0), move-within (moveTold (a .n) (a .v) (a .h) (record { kind = a .kind; axis = a .axis; other = a .other; a = a .a; b = a .b; c = a .c }) (a .points .now) (length (a .levels .now) / 8)))
+
+same-length : tie.Need-same-length
+same-length c = search needs
+
+returns : tie.Need-returns
+returns c =
+    let call = c .before .before .before .move-bytes in
+    (toZ-ofZ w64 _ (search needs) ∙ c .answered .ensures ∙ ap hostAnswer (call .ensures .0), call .ensures .1)
+
+pub winged-move-spec : {M : Type 1} → statement M
+winged-move-spec = tie.close (tie.spec move-bytes-requires answered-requires same-length returns)

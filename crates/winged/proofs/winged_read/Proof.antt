@@ -1,0 +1,27 @@
+-- `winged_read` answers what `read_bytes` does, as a number. Assumes nothing.
+use mathlib.Core.Path.{_≡_, ap, _∙_}
+use native.Mathlib.Omega.{arith}
+use borrow.Author.Needs.{needs}
+use mir.Syntax.{w64}
+use mir.ValLaws.{toZ-ofZ}
+use Rattle.winged.specs.Host.{hostAnswer}
+use Rattle.winged.proofs.Counts.{read-small}
+use Rattle.winged.proofs.winged_read.Statement.{statement}
+use Rattle.winged.proofs.winged_read.Tie as tie
+
+read-bytes-requires : tie.Need-read-bytes-requires
+read-bytes-requires c κs = search needs
+
+answered-requires : tie.Need-answered-requires
+answered-requires c κs = read-small _ _ _ _ _ (c .before .before .before .before .before .before .read-bytes .ensures .0) (omega arith)
+
+same-length : tie.Need-same-length
+same-length c = search needs
+
+returns : tie.Need-returns
+returns c =
+    let call = c .before .before .before .before .before .before .before .read-bytes in
+    (toZ-ofZ w64 _ (search needs) ∙ c .answered .ensures ∙ ap hostAnswer (call .ensures .0), call .ensures .1)
+
+pub winged-read-spec : {M : Type 1} → statement M
+winged-read-spec = tie.close (tie.spec read-bytes-requires answered-requires same-length returns)
