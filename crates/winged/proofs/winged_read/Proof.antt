@@ -15,13 +15,18 @@ read-bytes-requires c κs = search needs
 answered-requires : tie.Need-answered-requires
 answered-requires c κs = read-small _ _ _ _ _ (c .before .before .before .before .before .before .read-bytes .ensures .0) (omega arith)
 
-same-length : tie.Need-same-length
-same-length c = search needs
-
 returns : tie.Need-returns
 returns c =
     let call = c .before .before .before .before .before .before .before .read-bytes in
     (toZ-ofZ w64 _ (search needs) ∙ c .answered .ensures ∙ ap hostAnswer (call .ensures .0), call .ensures .1)
 
 pub winged-read-spec : {M : Type 1} → statement M
-winged-read-spec = tie.close (tie.spec read-bytes-requires answered-requires same-length returns)
+winged-read-spec =
+    tie.close
+    (tie.spec
+    read-bytes-requires
+    answered-requires
+    (λ c. search needs)
+    (λ c. search needs)
+    (λ c. search needs)
+    returns)
