@@ -20,17 +20,17 @@ use Rattle.words.proofs.Bytes.{words-count}
 use Rattle.rules.specs.Calls.{Outcome, refused}
 use Rattle.rules.specs.Limits.{maxDimension, axesOk}
 use Rattle.rules.specs.Shapes.{shapeOk}
+use Rattle.rules.proofs.InLimits.{list-limits-are}
 use Rattle.rules.proofs.Tests.{and-parts}
 use Rattle.records.specs.Layout.{tableLength}
 use Rattle.points.specs.Step.{inRange}
 use Rattle.list.specs.Listing.{listInput, listRules, listOutcome, listBuffer}
-use Rattle.list.proofs.ListCases.{list-limits}
 use Rattle.hosting.specs.Floats.{floats64}
 use Rattle.hosting.specs.Lists.{hostListInput, hostListOutcome, hostListBuffer}
 use Rattle.hosting.proofs.FloatLaws.{floats-length}
 
 pub list-needs : (d n v s : ℕ) → not (shapeOk maxDimension d v s && axesOk n) ≡ false → (d ≤ 7) × (n ≤ 8) × (v ≤ 4096) × (s ≤ 4096)
-list-needs d n v s a = let l = list-limits d n v s (not-false _ a) in (l .dimension, l .axes, l .vertices, l .cells)
+list-needs d n v s a = let l = list-limits-are d n v s a in (l .dimension, l .axes, l .vertices, l .cells)
 
 module _ (d n v s : ℕ) (table points out : List ℕ) where
   abbrev pub Refuses : ℕ → Type 0

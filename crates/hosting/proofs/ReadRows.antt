@@ -58,7 +58,7 @@ module _ (b : List ℕ) where
       let by = none-applies (take 8 readRules) (readInput b 0 0) refl e in
       let rest = (axesOk (axesOf b) && leb (suc (dimensionOf b)) (axesOf b)) && (stepsOk (stepsOf b) && within 1 3 (kindOf b)) in
       let numbers = and-parts (shapeOk maxSource (dimensionOf b) (vertexCountOf b) (cellCountOf b)) rest (not-false (numbersOk b) (by .1 .0)) in
-      let l = limits-are maxSource (dimensionOf b) (vertexCountOf b) (cellCountOf b) (numbers .0) in
+      let l = limits-are maxSource (dimensionOf b) (vertexCountOf b) (cellCountOf b) (ap not (numbers .0)) in
       let both = and-parts (axesOk (axesOf b) && leb (suc (dimensionOf b)) (axesOf b)) (stepsOk (stepsOf b) && within 1 3 (kindOf b)) (numbers .1) in
       let axes = and-parts (leb 1 (axesOf b)) (leb (axesOf b) 8) (and-parts (axesOk (axesOf b)) (leb (suc (dimensionOf b)) (axesOf b)) (both .0) .0) in
       record {

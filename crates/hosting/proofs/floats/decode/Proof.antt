@@ -37,7 +37,7 @@ loop-again c =
     let l = c .before .before .before in
     let b = start l .args .b .now in
     let k = l .loop .k in
-    (omega arith, left-next nan (floats64 b) k (k + 1) _ (omega (arith, floats-length b)) (cc (float-of b k (omega arith))) refl (l .loop .inv .1))
+    (omega arith, left-next nan (floats64 b) k (omega (arith, floats-length b)) (l .loop .inv .1) (k + 1) _ (cc (float-of b k (omega arith))) refl)
 
 returns : tie.Need-returns Inv-loop μ-loop
 returns c =
