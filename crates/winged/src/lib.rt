@@ -11,7 +11,7 @@ use crate::faces::faces_bytes;
 use crate::host::sweep_bytes;
 use crate::host::wing_bytes;
 use crate::sending::answered;
-use hosting::listing::list_bytes;
+use hosting::lists::list_bytes;
 use hosting::moving::move_bytes;
 use hosting::reading::read_bytes;
 use hosting::step_bits::StepBits;

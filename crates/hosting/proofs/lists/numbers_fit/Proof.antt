@@ -1,8 +1,8 @@
 -- `numbers_fit` tests the shape and the axes. Assumes nothing.
 use mathlib.Core.Path.{refl}
 use borrow.Author.Needs.{needs}
-use Rattle.hosting.proofs.listing.numbers_fit.Statement.{statement}
-use Rattle.hosting.proofs.listing.numbers_fit.Tie as tie
+use Rattle.hosting.proofs.lists.numbers_fit.Statement.{statement}
+use Rattle.hosting.proofs.lists.numbers_fit.Tie as tie
 
 within-requires : tie.Need-within-requires
 within-requires c κs = search needs

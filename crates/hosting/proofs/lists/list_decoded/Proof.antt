@@ -5,8 +5,8 @@ use borrow.Author.Needs.{needs}
 use lib.Seq.{length-take-le}
 use Rattle.hosting.proofs.FloatLaws.{words-front, floats-front}
 use Rattle.hosting.proofs.ListRows.{list-decodes}
-use Rattle.hosting.proofs.listing.list_decoded.Statement.{statement}
-use Rattle.hosting.proofs.listing.list_decoded.Tie as tie
+use Rattle.hosting.proofs.lists.list_decoded.Statement.{statement}
+use Rattle.hosting.proofs.lists.list_decoded.Tie as tie
 
 slice-aggregate-decode : tie.Need-slice-aggregate-decode
 slice-aggregate-decode c = search needs

@@ -1,8 +1,8 @@
 -- `list_bytes` meets its contract: each refusal is its row's, and the rest is list's. Assumes nothing.
 use borrow.Author.Needs.{needs}
 use Rattle.hosting.proofs.ListRows.{list-2, list-3, list-4, list-needs, list-right, list-small}
-use Rattle.hosting.proofs.listing.list_bytes.Statement.{statement}
-use Rattle.hosting.proofs.listing.list_bytes.Tie as tie
+use Rattle.hosting.proofs.lists.list_bytes.Statement.{statement}
+use Rattle.hosting.proofs.lists.list_bytes.Tie as tie
 
 numbers-fit-requires : tie.Need-numbers-fit-requires
 numbers-fit-requires c κs = search needs

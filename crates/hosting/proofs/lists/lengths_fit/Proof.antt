@@ -4,8 +4,8 @@ use native.Mathlib.Nat.{mul-le-mul}
 use native.Mathlib.Omega.{arith}
 use borrow.Author.Tests.{eq-eqb, ne-eqb}
 use borrow.Author.Needs.{needs}
-use Rattle.hosting.proofs.listing.lengths_fit.Statement.{statement}
-use Rattle.hosting.proofs.listing.lengths_fit.Tie as tie
+use Rattle.hosting.proofs.lists.lengths_fit.Statement.{statement}
+use Rattle.hosting.proofs.lists.lengths_fit.Tie as tie
 
 -- the largest table and the most floats
 words : (c : tie.Start) → c .args .s * (c .args .d + c .args .d + 3) ≤ 69632
