@@ -1,4 +1,4 @@
-"""Checks that every file of Rattle and antt is in the formatter's layout, and that none is too long.
+"""Checks that every file of Rattle and antt is in the formatter's layout, and that neither it nor a line of it is too long.
 
 One file is not: the table of side pairs, which is written a dimension to a paragraph.
 Last line: 'N passed, M failed'.
@@ -15,6 +15,7 @@ from tally import Tally  # noqa: E402
 
 BY_HAND = {"crates/sweeping/src/sides.rt"}
 MOST_LINES = 300
+LONGEST_LINE = 150
 
 
 def main():
@@ -27,7 +28,9 @@ def main():
     for file in files:
         name = str(file.relative_to(ROOT))
         tally.check(f"{name}: not in the layout of rt fmt", name not in unlaid - BY_HAND)
-        tally.check(f"{name}: over {MOST_LINES} lines", len(file.read_text().splitlines()) <= MOST_LINES)
+        lines = file.read_text().splitlines()
+        tally.check(f"{name}: over {MOST_LINES} lines", len(lines) <= MOST_LINES)
+        tally.check(f"{name}: a line of over {LONGEST_LINE} characters", all(len(line) <= LONGEST_LINE for line in lines))
     return tally.finish()
 
 
