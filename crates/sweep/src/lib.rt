@@ -6,8 +6,8 @@ ghost use Rattle.sweep.specs.Sweep.{sweepOutcome, sweepBuffer, sweepInpu
 use crate::limits::in_limits;
 use crate::limits::swept_words;
 use crate::limits::too_large;
-use adjacency::sizes::table_words;
 use adjacency::sound::is_sound;
+use records::sizes::table_words;
 use rules::compare::differ;
 use rules::compare::less;
 use rules::refusal::Answer;

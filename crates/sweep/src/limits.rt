@@ -7,7 +7,7 @@ ghost use Rattle.rules.specs.Limits.{maxSource, maxVertices, maxCells, stepsOk,
 ghost use Rattle.rules.specs.Shapes.{shapeOk};
 ghost use Rattle.records.specs.Layout.{tableLength};
 ghost use Rattle.prism.specs.Swept.{sweptCells};
-use adjacency::sizes::table_words;
+use records::sizes::table_words;
 use rules::compare::both;
 use rules::compare::either;
 use rules::compare::less;
