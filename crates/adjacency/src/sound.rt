@@ -1,7 +1,7 @@
 // Whether a table is sound: it is the table of its own cells, and those are acceptable.
-use crate::sizes::table_words;
 use crate::table::same;
 use crate::take::take;
+use records::sizes::table_words;
 use rules::compare::differ;
 use rules::limits::Shape;
 use rules::refusal::Verdict;

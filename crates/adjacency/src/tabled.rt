@@ -1,7 +1,7 @@
 // The table of a list of cells, written into lent words.
-use crate::sizes::table_words;
 use crate::table::fill;
 use crate::take::take;
+use records::sizes::table_words;
 use rules::compare::less;
 use rules::refusal::Answer;
 use rules::refusal::Refusal;
