@@ -10,13 +10,9 @@ import sys
 
 ROOT = pathlib.Path(__file__).resolve().parents[2]
 sys.path.insert(0, str(ROOT / "tests"))
+from contracts.calls import CALLS  # noqa: E402
 from tally import Tally  # noqa: E402
 
-CALLS = {
-    ("wing", "wing"), ("sweep", "sweep"), ("boundary", "faces"), ("motion", "move_points"), ("read", "read"), ("list", "list"),
-    ("adjacency", "is_sound"), ("marking", "key_text"), ("simplex", "sort_row"), ("sweeping", "side_pair"),
-    ("winged", "winged_wing"), ("winged", "winged_sweep"), ("winged", "winged_faces"), ("winged", "winged_read"), ("winged", "winged_move"), ("winged", "winged_list"), ("winged", "winged_key"),
-}
 # An array of its caller's that a function works in, and that nobody reads afterwards.
 SCRATCH = {("winged", "words")}
 HEAD = re.compile(r'^ *pub(\(crate\))? (?:extern "C" )?fn (\w+)(?:<[^>]*>)?\((.*?)\)\s*(?:-> ([^\n{]+?))?\s*\n(.*?)^ *\{', re.M | re.S)

@@ -1,4 +1,5 @@
 -- The call faces: it takes a table and writes one record for each boundary face: sign word, d vertices. Paper, sections 5 and 9.
+--   facesInput            what the call is told
 --   boundaryCells i       the boundary of the table
 --   facesTests            its refusals in order, but for row 15
 --   facesRules, facesOutcome (the count of records), facesBuffer
@@ -21,6 +22,9 @@ pub record FacesInput : Type 0 where
   pub s : ℕ
   pub table : List ℕ
   pub room : ℕ
+
+abbrev pub facesInput : ℕ → ℕ → ℕ → List ℕ → ℕ → FacesInput
+facesInput d v s ws room = record { d = d; v = v; s = s; table = ws; room = room }
 
 unfoldable pub boundaryCells : FacesInput → List Cell
 boundaryCells i = boundaryOf (entriesOf (i .d) (i .s) (i .table))

@@ -17,10 +17,6 @@ use Rattle.simplex.specs.Faces.{face, faces, keep}
 use Rattle.records.specs.Layout.{empty, Entry, entryIn, entriesOf}
 use Rattle.records.specs.Inside.{wingIn}
 use Rattle.boundary.specs.Boundary.{atEmpty, boundaryOf}
-use Rattle.boundary.specs.Faces.{FacesInput}
-
-abbrev pub facesInput : ℕ → ℕ → ℕ → List ℕ → ℕ → FacesInput
-facesInput d v s ws room = record { d = d; v = v; s = s; table = ws; room = room }
 
 abbrev pub tableFaces : ℕ → ℕ → List ℕ → List Cell
 tableFaces d s ws = boundaryOf (entriesOf d s ws)

@@ -2,8 +2,7 @@
 ghost use mathlib.Core.Path.{_≡_};
 ghost use lib.ListN.{length};
 ghost use Rattle.rules.specs.Numbers.{outcomeOf};
-ghost use Rattle.boundary.specs.Faces.{facesOutcome, facesBuffer};
-ghost use Rattle.boundary.specs.Walk.{facesInput};
+ghost use Rattle.boundary.specs.Faces.{facesInput, facesOutcome, facesBuffer};
 use crate::counting::count_faces;
 use crate::writing::write_faces;
 use adjacency::sound::is_sound;

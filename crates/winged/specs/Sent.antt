@@ -21,8 +21,7 @@ use Rattle.simplex.specs.Cell.{Cell}
 use Rattle.records.specs.Layout.{faceWords, facesWords}
 use Rattle.wing.specs.Wing.{wingInput, wingOutcome}
 use Rattle.sweep.specs.Sweep.{sweepOutcome, sweepInput}
-use Rattle.boundary.specs.Faces.{FacesInput, boundaryCells, facesOutcome}
-use Rattle.boundary.specs.Walk.{facesInput}
+use Rattle.boundary.specs.Faces.{facesInput, FacesInput, boundaryCells, facesOutcome}
 use Rattle.winged.specs.Host.{hosted, hostAnswer, wordsIn, inWords}
 
 abbrev pub lesser : ℕ → ℕ → ℕ
