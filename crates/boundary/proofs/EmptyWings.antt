@@ -16,10 +16,11 @@ use Rattle.simplex.proofs.Cancel.{loneIn}
 use Rattle.simplex.proofs.Counts.{All}
 use Rattle.simplex.proofs.FaceCounts.{All-both, All-keep, All-map, all-in, faces-filled, facets-same, keep-all, keep-append, keep-ext, total-faces}
 use Rattle.simplex.proofs.Rows.{Long}
-use Rattle.complex.specs.Table.{entriesFrom, tableOf}
-use Rattle.complex.specs.Wings.{hasFace, neighbourFrom, wingsOf}
-use Rattle.complex.proofs.Neighbours.{Wing, faceIn-total, has-filled, neighbour-empty, neighbour-is, othersWith, othersWith-ge, othersWith-pick, total-faceIn}
-use Rattle.complex.proofs.Solid.{Solid, rowAt}
+use Rattle.solids.specs.Table.{entriesFrom, tableOf}
+use Rattle.solids.specs.Wings.{hasFace, neighbourFrom, wingsOf}
+use Rattle.solids.proofs.Neighbours.{Wing, faceIn-total, has-filled, neighbour-empty, neighbour-is, othersWith, othersWith-ge, othersWith-pick}
+use Rattle.solids.proofs.Neighbours.{total-faceIn}
+use Rattle.solids.proofs.Solid.{Solid, rowAt}
 use Rattle.boundary.specs.Boundary.{atEmpty, boundaryOf, ownBoundary}
 
 empty-keep : (g : Row → ℕ) (L : List Cell) → atEmpty L (map (λ f. g (f .row)) L) ≡ keep (λ c. eqb (g (c .row)) 65535) L
@@ -37,34 +38,48 @@ module _ (nv : ℕ) (all : List Cell) (s : Solid nv all) (two : All (λ v. 2 ≤
   lone-eq p w hp hf = go (eqb (neighbourFrom p 0 w all) 65535) refl
     where
       count : othersWith p 0 w all + 1 ≡ total w (allFaces all)
-      count = omega (arith, total-faceIn w all (has-filled w (rowAt all p) hf) (s .asc), faceIn-total w all, othersWith-pick p 0 w all hp, ap (λ m. othersWith m 0 w all) (zero-add p), ap one hf)
+      count = omega (
+        arith,
+        total-faceIn w all (has-filled w (rowAt all p) hf) (s .asc),
+        faceIn-total w all,
+        othersWith-pick p 0 w all hp,
+        ap (λ m. othersWith m 0 w all) (zero-add p),
+        ap one hf,
+      )
 
       far : Wing p 0 w all (neighbourFrom p 0 w all) → 1 ≤ othersWith p 0 w all
       far r = omega (arith, othersWith-ge p 0 (r .0) w all (r .1) (r .3), ap one (r .4))
 
       go : (t : Bool) → eqb (neighbourFrom p 0 w all) 65535 ≡ t → t ≡ loneIn (allFaces all) w
-      go true e = sym (eq-eqb (total w (allFaces all)) 1 (omega (arith, count, neighbour-empty p 0 w all (omega arith) (eqb-true (neighbourFrom p 0 w all) 65535 e))))
-      go false e = sym (ne-eqb (total w (allFaces all)) 1 (λ z. omega (arith, count, far (neighbour-is p 0 w all (eqb-false (neighbourFrom p 0 w all) 65535 e)))))
+      go true e = sym (eq-eqb (total w (allFaces all)) 1
+          (omega (arith, count, neighbour-empty p 0 w all (omega arith) (eqb-true (neighbourFrom p 0 w all) 65535 e))))
+      go false e = sym
+          (ne-eqb (total w (allFaces all)) 1 (λ z. omega (arith, count, far (neighbour-is p 0 w all (eqb-false (neighbourFrom p 0 w all) 65535 e)))))
 
-  bd-from : (p : ℕ) (cs : List Cell) → All (λ v. 2 ≤ length v) cs → p + length cs ≤ length all → ((n : ℕ) → n < length cs → rowAt cs n ≡ rowAt all (p + n)) →
+  bd-from : (p : ℕ) (cs : List Cell) → All (λ v. 2 ≤ length v) cs →
+      p + length cs ≤ length all → ((n : ℕ) → n < length cs → rowAt cs n ≡ rowAt all (p + n)) →
       boundaryOf (entriesFrom all p cs) ≡ keep (λ c. loneIn (allFaces all) (c .row)) (allFaces cs)
   bd-from p [] a l h = refl
   bd-from p (c ∷ cs) a l h =
       ap₂ {C = List Cell} (λ a b. a ++ b)
       (ap (keep (λ f. filled (f .row))) (empty-keep (λ w. neighbourFrom p 0 w all) (faces (c .sign) (c .row)))
-      ∙ keep-all filled (keep (λ f. eqb (neighbourFrom p 0 (f .row) all) 65535) (faces (c .sign) (c .row))) (All-keep (λ w. filled w ≡ true) (λ f. eqb (neighbourFrom p 0 (f .row) all) 65535) (faces (c .sign) (c .row)) (faces-filled (c .sign) (c .row) (a .0)))
-      ∙ keep-ext (λ w. hasFace w (c .row) ≡ true) (λ w. eqb (neighbourFrom p 0 w all) 65535) (loneIn (allFaces all)) (faces (c .sign) (c .row)) (faces-have (c .sign) (c .row) (a .0))
+      ∙ keep-all filled (keep (λ f. eqb (neighbourFrom p 0 (f .row) all) 65535) (faces (c .sign) (c .row))) (All-keep (λ w. filled w ≡ true)
+      (λ f. eqb (neighbourFrom p 0 (f .row) all) 65535) (faces (c .sign) (c .row)) (faces-filled (c .sign) (c .row) (a .0)))
+      ∙ keep-ext (λ w. hasFace w (c .row) ≡ true) (λ w. eqb (neighbourFrom p 0 w all) 65535)
+      (loneIn (allFaces all)) (faces (c .sign) (c .row)) (faces-have (c .sign) (c .row) (a .0))
       (λ w e. lone-eq p w (omega arith) (subst (λ v. hasFace w v ≡ true) (h 0 (omega arith) ∙ ap (rowAt all) (add-zero p)) e)))
       (bd-from (suc p) cs (a .1) (omega arith) (λ n k. h (suc n) (omega arith) ∙ ap (rowAt all) (omega arith)))
       ∙ sym (keep-append (λ c. loneIn (allFaces all) (c .row)) (faces (c .sign) (c .row)) (allFaces cs))
 
   pub boundary-told : boundaryOf (tableOf all) ≡ ownBoundary all
-  boundary-told = bd-from 0 all two (omega arith) (λ n k. ap (rowAt all) (sym (zero-add n))) ∙ ap (λ F. keep (λ c. loneIn F (c .row)) F) (sym (facets-same all two))
+  boundary-told = bd-from 0 all two (omega arith) (λ n k. ap (rowAt all) (sym (zero-add n)))
+      ∙ ap (λ F. keep (λ c. loneIn F (c .row)) F) (sym (facets-same all two))
 
 -- in dimension 0 both are empty
 points-none : (all : List Cell) (p : ℕ) (cs : List Cell) → All (Long 1) cs → boundaryOf (entriesFrom all p cs) ≡ []
 points-none all p [] a = refl
-points-none all p (c ∷ cs) a = ap₂ {C = List Cell} (λ a b. a ++ b) (one-point (c .sign) (c .row) (wingsOf all p c) (a .0)) (points-none all (suc p) cs (a .1))
+points-none all p (c ∷ cs) a =
+    ap₂ {C = List Cell} (λ a b. a ++ b) (one-point (c .sign) (c .row) (wingsOf all p c) (a .0)) (points-none all (suc p) cs (a .1))
   where
     one-point : (s : Sign) (v : Row) (ws : List ℕ) → length v ≡ 1 → keep (λ f. filled (f .row)) (atEmpty (faces s v) ws) ≡ []
     one-point s [] ws e = refl

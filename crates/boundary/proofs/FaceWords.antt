@@ -14,9 +14,9 @@ use Rattle.simplex.specs.Cell.{Row, times, alternating}
 use Rattle.simplex.specs.Faces.{without}
 use Rattle.simplex.specs.SignWords.{signWord, turnedSign}
 use Rattle.records.specs.Layout.{recordSize, faceSize, faceWords, entryIn}
-use Rattle.records.specs.Inside.{Inside, signIn, vertexIn}
+use Rattle.records.specs.Inner.Inside.{Inside, signIn, vertexIn}
 use Rattle.records.proofs.Places.{record-long, row-long, sign-at}
-use Rattle.boundary.specs.Walk.{faceAt}
+use Rattle.boundary.specs.Inner.Walk.{faceAt}
 
 without-long : (a : ℕ) (w : Row) → a < length w → suc (length (without a w)) ≡ length w
 without-long a [] h = absurd (not-suc-le-zero h)

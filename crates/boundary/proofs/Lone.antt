@@ -15,7 +15,14 @@ use Rattle.simplex.proofs.Sums.{plusOn, sumChain}
 -- (3b)
 pub lone-once : (F : List Cell) (w : Row) → total w (keep (λ c. loneIn F (c .row)) F) ≤ 1
 lone-once F w =
-    omega (arith, plus-minus w (keep (λ c. loneIn F (c .row)) F), plus-minus w F, count-keep (loneIn F) w true F, count-keep (loneIn F) w false F, go (loneIn F w) refl)
+    omega (
+      arith,
+      plus-minus w (keep (λ c. loneIn F (c .row)) F),
+      plus-minus w F,
+      count-keep (loneIn F) w true F,
+      count-keep (loneIn F) w false F,
+      go (loneIn F w) refl,
+    )
   where
     go : (t : Bool) → eqb (total w F) 1 ≡ t → cond t (sumChain (plusOn w) true F) 0 + cond t (sumChain (plusOn w) false F) 0 ≤ 1
     go true e = omega (arith, eqb-true (total w F) 1 e, plus-minus w F)

@@ -18,10 +18,10 @@ use Rattle.simplex.proofs.FaceCounts.{All-keep, faces-long}
 use Rattle.simplex.proofs.Faces.{faces-length}
 use Rattle.simplex.proofs.Rows.{Long}
 use Rattle.records.specs.Layout.{Entry, empty, recordSize, faceSize, entryIn, faceWords, facesWords}
-use Rattle.records.specs.Inside.{Table}
+use Rattle.records.specs.Inner.Inside.{Table}
 use Rattle.records.proofs.Places.{record-long, row-long}
 use Rattle.boundary.specs.Boundary.{atEmpty, boundaryOf}
-use Rattle.boundary.specs.Walk.{tableFaces, cellFrom}
+use Rattle.boundary.specs.Inner.Walk.{tableFaces, cellFrom}
 
 one-more : (t : Bool) (f : Cell) (r : List Cell) (k : ℕ) → length r ≤ k → length (cond t (f ∷ r) r) ≤ suc k
 one-more true f r k h = omega arith

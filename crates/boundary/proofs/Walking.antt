@@ -15,7 +15,7 @@ use lib.Dec.{eqb, ltb}
 use borrow.Author.Tests.{lt-ltb}
 use lib.ListN.{length, drop, drop-of-length-le}
 use Rattle.words.specs.Records.{part, concat}
-use Rattle.words.specs.Placed.{Put}
+use Rattle.words.specs.Inner.Placed.{Put}
 use Rattle.words.proofs.Records.{tabulate-length}
 use Rattle.words.proofs.Loops.{drop-next}
 use Rattle.words.proofs.Writing.{Left, left-starts, left-ends, left-fits, left-goes}
@@ -24,10 +24,10 @@ use Rattle.simplex.specs.Faces.{face, faces, keep, without}
 use Rattle.simplex.proofs.Faces.{faces-length, face-at}
 use Rattle.simplex.proofs.FaceCounts.{without-filled}
 use Rattle.records.specs.Layout.{Entry, empty, recordSize, tableLength, entryIn, entriesOf}
-use Rattle.records.specs.Inside.{wingIn}
+use Rattle.records.specs.Inner.Inside.{wingIn}
 use Rattle.records.proofs.Places.{record-long, row-long, wings-long, entry-at}
 use Rattle.boundary.specs.Boundary.{atEmpty, boundaryOf}
-use Rattle.boundary.specs.Walk.{tableFaces, faceAt, onBoundary, entriesFrom, facesFrom, AtFace, NextFace}
+use Rattle.boundary.specs.Inner.Walk.{tableFaces, faceAt, onBoundary, entriesFrom, facesFrom, AtFace, NextFace}
 
 -- a face has a vertex, except in dimension 0
 filled-face : (d a : ℕ) (w : Row) → length w ≡ suc d → a ≤ d → filled (without a w) ≡ ltb 0 d
@@ -103,7 +103,8 @@ module _ (d s : ℕ) (ws : List ℕ) (size : length ws ≡ tableLength d s) (p a
     from-at =
         rw (entries-next, faces-next, wings-next)
         (keep-at (λ f. filled (f .row)) (eqb (wingIn d ws p a) empty) (ltb 0 d) (faceAt d ws p a)
-        (atEmpty (drop (a + 1) fs) (drop (a + 1) (here .wings))) (boundaryOf (drop (p + 1) (entriesOf d s ws))) (filled-face d a (here .cell .row) row ha))
+        (atEmpty (drop (a + 1) fs) (drop (a + 1) (here .wings)))
+        (boundaryOf (drop (p + 1) (entriesOf d s ws))) (filled-face d a (here .cell .row) row ha))
 
     pub from-here : onBoundary d ws p a ≡ true → facesFrom d s ws p a ≡ faceAt d ws p a ∷ facesFrom d s ws p (a + 1)
     from-here e = rw e at from-at

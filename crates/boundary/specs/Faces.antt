@@ -13,7 +13,7 @@ use Rattle.rules.specs.Shapes.{shapeOk}
 use Rattle.rules.specs.Calls.{Rule, refuse, noRoom, Outcome, decide, after}
 use Rattle.simplex.specs.Cell.{Cell}
 use Rattle.records.specs.Layout.{entriesOf, facesWords, faceSize, tableLength}
-use Rattle.complex.specs.Table.{sound}
+use Rattle.solids.specs.Table.{sound}
 use Rattle.boundary.specs.Boundary.{boundaryOf}
 
 pub record FacesInput : Type 0 where

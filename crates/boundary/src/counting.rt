@@ -2,8 +2,8 @@
 ghost use mathlib.Core.Path.{_≡_};
 ghost use Prim.Native.Nat.{_+_, _≤_};
 ghost use lib.ListN.{length};
-ghost use Rattle.records.specs.Inside.{Table, Inside};
-ghost use Rattle.boundary.specs.Walk.{tableFaces, facesFrom};
+ghost use Rattle.records.specs.Inner.Inside.{Table, Inside};
+ghost use Rattle.boundary.specs.Inner.Walk.{tableFaces, facesFrom};
 use crate::walk::on_boundary;
 
 // Those of cell p.

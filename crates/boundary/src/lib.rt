@@ -5,7 +5,6 @@ ghost use Rattle.rules.specs.Numbers.{outcomeOf};
 ghost use Rattle.boundary.specs.Faces.{facesInput, facesOutcome, facesBuffer};
 use crate::counting::count_faces;
 use crate::writing::write_faces;
-use adjacency::sound::is_sound;
 use records::sizes::face_size;
 use records::sizes::table_words;
 use rules::compare::differ;
@@ -13,6 +12,7 @@ use rules::compare::less;
 use rules::limits::Shape;
 use rules::refusal::Answer;
 use rules::refusal::Refusal;
+use tables::sound::is_sound;
 
 pub mod counting;
 pub mod face;

@@ -1,8 +1,8 @@
 // A walk along the boundary faces of a table, by cell and then position.
 ghost use mathlib.Core.Path.{_≡_};
 ghost use Prim.Native.Nat.{_≤_};
-ghost use Rattle.records.specs.Inside.{Table, Inside};
-ghost use Rattle.boundary.specs.Walk.{onBoundary, NextPosition, NextFace};
+ghost use Rattle.records.specs.Inner.Inside.{Table, Inside};
+ghost use Rattle.boundary.specs.Inner.Walk.{onBoundary, NextPosition, NextFace};
 use records::reading::wing;
 use records::sizes::EMPTY;
 

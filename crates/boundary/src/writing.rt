@@ -2,10 +2,10 @@
 ghost use mathlib.Core.Path.{_≡_};
 ghost use Prim.Native.Nat.{_+_, _≤_};
 ghost use lib.ListN.{length};
-ghost use Rattle.words.specs.Placed.{Put};
+ghost use Rattle.words.specs.Inner.Placed.{Put};
 ghost use Rattle.records.specs.Layout.{faceWords, facesWords};
-ghost use Rattle.records.specs.Inside.{Table, Inside};
-ghost use Rattle.boundary.specs.Walk.{faceAt, tableFaces};
+ghost use Rattle.records.specs.Inner.Inside.{Table, Inside};
+ghost use Rattle.boundary.specs.Inner.Walk.{faceAt, tableFaces};
 use crate::face::face_word;
 use crate::walk::next_face;
 use records::sizes::face_size;

@@ -10,7 +10,7 @@ use lib.Dec.{eqb}
 use Rattle.words.specs.Records.{anyOf}
 use Rattle.words.specs.Bytes.{word16, wordsFrom}
 use Rattle.words.proofs.Bytes.{words-next}
-use Rattle.complex.specs.Accept.{repeats}
+use Rattle.solids.specs.Accept.{repeats}
 
 module _ (b : List ℕ) (at m : ℕ) (whole : Bool) where
   -- x is the first vertex

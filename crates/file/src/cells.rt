@@ -11,17 +11,18 @@ ghost use lib.Dec.{eqb, leb};
 ghost use lib.ListN.{length, getD};
 ghost use Rattle.words.specs.Records.{anyOf};
 ghost use Rattle.words.specs.Bytes.{wordsFrom};
-ghost use Rattle.words.specs.Placed.{placed};
+ghost use Rattle.words.specs.Inner.Placed.{placed};
 ghost use Rattle.rules.specs.Calls.{written};
 ghost use Rattle.simplex.specs.SignWords.{signWord};
-ghost use Rattle.complex.specs.Accept.{vertexBeyond, vertexTwice, repeats};
+ghost use Rattle.solids.specs.Accept.{vertexBeyond, vertexTwice, repeats};
 ghost use Rattle.file.specs.File.{headerSize, dimensionOf, vertexCountOf, cellCountOf, cellsStart, cellBytes, fileLength, signBytes, fileCells};
 ghost use Rattle.file.specs.Tests.{cellsLength, fileWords};
 
 // Where cell p stands.
 fn cell_at(b: &[u8], p: usize) -> usize
     requires { ⌜ (length (now b) ≡ fileLength (now b)) × (p < cellCountOf (now b)) ⌝ }
-    ensures { λ r. ⌜ (r ≡ cellsStart (now (b .entry)) + p * cellBytes (dimensionOf (now (b .entry)))) × (r + cellBytes (dimensionOf (now (b .entry))) ≤ length (now (b .entry))) ⌝ }
+    ensures { λ r. ⌜ (r ≡ cellsStart (now (b .entry)) + p * cellBytes (dimensionOf (now (b .entry))))
+        × (r + cellBytes (dimensionOf (now (b .entry))) ≤ length (now (b .entry))) ⌝ }
 {
     let points = numbers::point_count(b);
     let size = numbers::cell_size(numbers::dimension(b));
@@ -153,7 +154,8 @@ pub fn words(b: &[u8]) -> usize
 // Writes the sign word and the m vertices of the cell at `at` to the places from `to`.
 fn write_cell(b: &[u8], at: usize, m: usize, out: &mut [u16], to: usize)
     requires { ⌜ (at + 1 + m * 2 ≤ length (now b)) × (to + 1 + m ≤ length (now out)) ⌝ }
-    ensures { λ _. ⌜ now (out .exit) ≡ placed to (signWord (eqb (getD (now (b .entry)) at 0) 43) ∷ wordsFrom (now (b .entry)) (at + 1) m) (now (out .entry)) ⌝ }
+    ensures { λ _. ⌜ now (out .exit)
+        ≡ placed to (signWord (eqb (getD (now (b .entry)) at 0) 43) ∷ wordsFrom (now (b .entry)) (at + 1) m) (now (out .entry)) ⌝ }
 {
     out[to] = sign_word(b[at] == 43);
     copy::copy16(b, at + 1, m, out, to + 1);

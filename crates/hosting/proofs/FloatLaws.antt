@@ -47,4 +47,5 @@ low-next (suc m) w h =
 pub float-bytes-length : (xs : List Float) → length (floatBytes xs) ≡ length xs * 8
 unfolding floatBytes
 float-bytes-length [] = refl
-float-bytes-length (x ∷ xs) = let x8 = lowBytes 8 (toBits binary64 x) in omega (arith, length-append x8 (floatBytes xs), low-length 8 (toBits binary64 x), float-bytes-length xs)
+float-bytes-length (x ∷ xs) = let x8 = lowBytes 8 (toBits binary64 x) in
+    omega (arith, length-append x8 (floatBytes xs), low-length 8 (toBits binary64 x), float-bytes-length xs)

@@ -24,7 +24,7 @@ use Rattle.rules.proofs.InLimits.{list-limits-are}
 use Rattle.rules.proofs.Tests.{and-parts}
 use Rattle.records.specs.Layout.{tableLength}
 use Rattle.points.specs.Step.{inRange}
-use Rattle.list.specs.Listing.{listInput, listRules, listOutcome, listBuffer}
+use Rattle.list.specs.List.{listInput, listRules, listOutcome, listBuffer}
 use Rattle.hosting.specs.Floats.{floats64}
 use Rattle.hosting.specs.Lists.{hostListInput, hostListOutcome, hostListBuffer}
 use Rattle.hosting.proofs.FloatLaws.{floats-length}

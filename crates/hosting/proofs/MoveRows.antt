@@ -24,15 +24,15 @@ use Rattle.rules.specs.Calls.{Outcome, accepted, refused, after, written}
 use Rattle.rules.specs.Limits.{axesOk, verticesOk, stepsOk, maxVertices, sweptVertices, within}
 use Rattle.rules.proofs.Accepting.{accepted-by}
 use Rattle.rules.proofs.Tests.{and-parts}
-use Rattle.complex.proofs.Tests.{or-false}
+use Rattle.solids.proofs.Tests.{or-false}
 use Rattle.points.specs.Step.{inRange, stepFits, stepFloats}
 use Rattle.points.specs.declared.step.Step.{Step}
 use Rattle.motion.specs.Move.{MoveInput, moveInput, movedLevels, movedLength, moveRules, moveOutcome, moveBuffer}
-use Rattle.marking.proofs.Staged.{moved-front}
+use Rattle.page.proofs.Staged.{moved-front}
 use Rattle.hosting.specs.Floats.{floats64, floatBytes}
 use Rattle.hosting.specs.Moves.{MoveTold, toldStep, unusedSet, toldMove, hostMoveRules, hostMoveOutcome, hostMoveBuffer}
 use Rattle.hosting.specs.declared.step_bits.StepBits.{StepBits}
-use Rattle.hosting.specs.Rooms.{floatRoom, inRoom}
+use Rattle.hosting.specs.Inner.Rooms.{floatRoom, inRoom}
 use Rattle.hosting.proofs.FloatLaws.{floats-length}
 
 -- what row 2 says where it does not apply
@@ -120,8 +120,10 @@ module _ (i : MoveTold) (out : List ℕ) where
             move-small =
                 let l = told (i .n) (i .v) (i .h) (i .step .kind) a in
                 let half = mul-le-mul-right {m = 1} {n = i .h} (i .v) (l .some) in
-                let few : i .v ≤ 2048 = omega (arith, swept, suc-mul (i .h) (i .v), half, one-mul (i .v)) in
-                (omega (arith, long, mul-le-mul few (l .axes)), and-parts (allOf inRange (stepFloats (toldStep (i .step)))) (allOf inRange (floats64 (i .points))) (not-false _ c) .1)
+                let few : i .v ≤ 2048 = omega (arith, swept, suc-mul (i .h) (i .v), half, one-mul (i .v)) in (
+                  omega (arith, long, mul-le-mul few (l .axes)),
+                  and-parts (allOf inRange (stepFloats (toldStep (i .step)))) (allOf inRange (floats64 (i .points))) (not-false _ c) .1,
+                )
 
             fits : ltb floatRoom (movedLength roomy) ≡ false
             fits = le-ltb floatRoom (movedLength roomy) (omega (arith, mul-le-mul swept (told (i .n) (i .v) (i .h) (i .step .kind) a .axes)))
@@ -147,10 +149,12 @@ module _ (i : MoveTold) (out : List ℕ) where
 
             pub move-right : (step : Step) → step ≡ toldStep (i .step) → (o : Outcome ℕ) (w : List ℕ) →
                 let m = moveInput (i .n) (i .v) (i .h) step (floats64 (i .points)) floatRoom in
-                (o ≡ inRoom (i .room) (moveOutcome m)) × (w ≡ after o (floatBytes (movedLevels m)) out) → (o ≡ hostMoveOutcome i) × (w ≡ hostMoveBuffer i out)
+                (o ≡ inRoom (i .room) (moveOutcome m)) × (w ≡ after o (floatBytes (movedLevels m)) out) →
+                (o ≡ hostMoveOutcome i) × (w ≡ hostMoveBuffer i out)
             unfolding hostMoveBuffer movedLevels
             move-right step q o w g =
-                let s : o ≡ hostMoveOutcome i = g .0 ∙ ap (λ x. inRoom (i .room) (moveOutcome (moveInput (i .n) (i .v) (i .h) x (floats64 (i .points)) floatRoom))) q ∙ sym same in (
+                let s : o ≡ hostMoveOutcome i = g .0
+                ∙ ap (λ x. inRoom (i .room) (moveOutcome (moveInput (i .n) (i .v) (i .h) x (floats64 (i .points)) floatRoom))) q ∙ sym same in (
                   s,
                   g .1 ∙ ap (λ x. after o (floatBytes (movedLevels (moveInput (i .n) (i .v) (i .h) x (floats64 (i .points)) floatRoom))) out) q
                       ∙ ap (λ (r : Outcome ℕ). after r (floatBytes (movedLevels roomy)) out) s,

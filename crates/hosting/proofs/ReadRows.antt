@@ -17,7 +17,7 @@ use lib.Dec.{eqb, leb, ltb}
 use lib.ListN.{length, take, drop}
 use borrow.Author.Tests.{leb-true, le-ltb, ltb-false, not-false}
 use Rattle.words.specs.Bytes.{bytesOf}
-use Rattle.words.specs.Placed.{placed}
+use Rattle.words.specs.Inner.Placed.{placed}
 use Rattle.words.proofs.Bytes.{bytes-length}
 use Rattle.words.proofs.Placed.{placed-first, placed-then}
 use Rattle.rules.specs.Calls.{Outcome, accepted, refused, outcome, after, written, firstRefusal}
@@ -27,15 +27,16 @@ use Rattle.rules.proofs.Accepting.{none-applies, front-of}
 use Rattle.rules.proofs.Answers.{orElse, firstRefusal-append}
 use Rattle.rules.proofs.InLimits.{limits-are}
 use Rattle.rules.proofs.Tests.{and-parts}
-use Rattle.complex.proofs.Tests.{or-false}
+use Rattle.solids.proofs.Tests.{or-false}
 use Rattle.file.specs.File.{headerSize, dimensionOf, axesOf, vertexCountOf, cellCountOf, stepsOf, kindOf, axisOf, pointCount, fileLength}
 use Rattle.file.specs.Tests.{numbersOk, cellsLength, fileWords}
 use Rattle.file.proofs.Stores.{words-count}
 use Rattle.read.specs.declared.Header.{Header}
 use Rattle.read.specs.Read.{readInput, readRules, readOutcome, readCells, headerOf}
 use Rattle.read.proofs.Outcomes.{ours-long, right-length}
-use Rattle.hosting.specs.Rooms.{floatRoom}
-use Rattle.hosting.specs.Reads.{headerBytes, headerWords, pointBytes, wordCount, withHeader, hostReadOutcome, hostReadHeader, hostReadCells, hostReadPoints}
+use Rattle.hosting.specs.Inner.Rooms.{floatRoom}
+use Rattle.hosting.specs.Reads.{headerBytes, headerWords, pointBytes, wordCount, withHeader, hostReadOutcome, hostReadHeader, hostReadCells}
+use Rattle.hosting.specs.Reads.{hostReadPoints}
 
 unfoldable pub tests : List ℕ → ℕ
 tests b = firstRefusal (take 8 readRules) (readInput b 0 0)
@@ -48,7 +49,8 @@ pub record Passed (b : List ℕ) : Type 0 where
   pub floats : pointCount b ≤ floatRoom
 
 module _ (b : List ℕ) where
-  split : (c p : ℕ) → readOutcome (readInput b c p) ≡ outcome (orElse (tests b) (cond (ltb c (cellsLength b) || ltb p (pointCount b)) 15 0)) (headerOf b)
+  split : (c p : ℕ) →
+      readOutcome (readInput b c p) ≡ outcome (orElse (tests b) (cond (ltb c (cellsLength b) || ltb p (pointCount b)) 15 0)) (headerOf b)
   unfolding readOutcome readRules tests
   split c p = ap (λ k. outcome k (headerOf b)) (firstRefusal-append (take 8 readRules) (drop 8 readRules) (readInput b c p) refl)
 
@@ -60,7 +62,8 @@ module _ (b : List ℕ) where
       let numbers = and-parts (shapeOk maxSource (dimensionOf b) (vertexCountOf b) (cellCountOf b)) rest (not-false (numbersOk b) (by .1 .0)) in
       let l = limits-are maxSource (dimensionOf b) (vertexCountOf b) (cellCountOf b) (ap not (numbers .0)) in
       let both = and-parts (axesOk (axesOf b) && leb (suc (dimensionOf b)) (axesOf b)) (stepsOk (stepsOf b) && within 1 3 (kindOf b)) (numbers .1) in
-      let axes = and-parts (leb 1 (axesOf b)) (leb (axesOf b) 8) (and-parts (axesOk (axesOf b)) (leb (suc (dimensionOf b)) (axesOf b)) (both .0) .0) in
+      let axes =
+      and-parts (leb 1 (axesOf b)) (leb (axesOf b) 8) (and-parts (axesOk (axesOf b)) (leb (suc (dimensionOf b)) (axesOf b)) (both .0) .0) in
       record {
         none = e;
         header = ours-long b (by .0);
@@ -110,7 +113,8 @@ module _ (b : List ℕ) where
     unfolding hostReadOutcome
     same k a = go (tests b) refl
       where
-        go : (t : ℕ) → tests b ≡ t → refused k ≡ withHeader (length header) (wordCount b (readOutcome (readInput b (length cells / 2) (length points / 8))))
+        go : (t : ℕ) → tests b ≡ t →
+            refused k ≡ withHeader (length header) (wordCount b (readOutcome (readInput b (length cells / 2) (length points / 8))))
         go zero e = let f = accepts e in let z : _≡_ {A = ℕ} 0 1 = cc in absurd (omega arith)
         go (suc j) e =
             let f = refuses j e floatRoom floatRoom in
@@ -127,8 +131,10 @@ module _ (b : List ℕ) where
     unfolding hostReadOutcome
     pick e = go (ltb (length header) 40) refl (ltb (length cells / 2) (cellsLength b) || ltb (length points / 8) (pointCount b)) refl
       where
-        go : (x : Bool) → ltb (length header) 40 ≡ x → (y : Bool) → (ltb (length cells / 2) (cellsLength b) || ltb (length points / 8) (pointCount b)) ≡ y →
-            withHeader (length header) (wordCount b (readOutcome (readInput b (length cells / 2) (length points / 8)))) ≡ cond short (refused 15) (accepted (cellsLength b))
+        go : (x : Bool) → ltb (length header) 40 ≡ x → (y : Bool) →
+            (ltb (length cells / 2) (cellsLength b) || ltb (length points / 8) (pointCount b)) ≡ y →
+            withHeader (length header) (wordCount b (readOutcome (readInput b (length cells / 2) (length points / 8))))
+            ≡ cond short (refused 15) (accepted (cellsLength b))
         go true p true q = rw (split (length cells / 2) (length points / 8), e, p, q) refl
         go true p false q = rw (split (length cells / 2) (length points / 8), e, p, q, p) refl
         go false p true q = rw (split (length cells / 2) (length points / 8), e, p, q) refl
@@ -144,8 +150,11 @@ module _ (b : List ℕ) where
     pub rooms : short ≡ false → (40 ≤ length header) × (cellsLength b ≤ length cells / 2) × (pointCount b ≤ length points / 8)
     rooms s =
         let one = or-false (ltb (length header) 40) (ltb (length cells / 2) (cellsLength b) || ltb (length points / 8) (pointCount b)) s in
-        let two = or-false (ltb (length cells / 2) (cellsLength b)) (ltb (length points / 8) (pointCount b)) (one .1) in
-        (ltb-false (length header) 40 (one .0), ltb-false (length cells / 2) (cellsLength b) (two .0), ltb-false (length points / 8) (pointCount b) (two .1))
+        let two = or-false (ltb (length cells / 2) (cellsLength b)) (ltb (length points / 8) (pointCount b)) (one .1) in (
+          ltb-false (length header) 40 (one .0),
+          ltb-false (length cells / 2) (cellsLength b) (two .0),
+          ltb-false (length points / 8) (pointCount b) (two .1),
+        )
 
   pub read-accepts : (x : Header) → accepted x ≡ readOutcome (readInput b floatRoom floatRoom) → accepted (cellsLength b) ≡ roomy
   read-accepts x e = rw (sym e) refl
@@ -203,5 +212,12 @@ module _ (b : List ℕ) where
     read-done f s n en ws ew h c p eh ec ep =
         let t = read-fits header cells points f s in (
           ap accepted en ∙ t .0,
-          (eh ∙ t .1 .0, (ec ∙ ap (λ x. bytesOf x ++ drop (length x * 2) cells) ew ∙ ap (λ k. bytesOf (fileWords b) ++ drop k cells) (sym (bytes-length (fileWords b))) ∙ t .1 .1 .0, ep ∙ t .1 .1 .1)),
+          (
+            eh ∙ t .1 .0,
+            (
+              ec ∙ ap (λ x. bytesOf x ++ drop (length x * 2) cells) ew
+                  ∙ ap (λ k. bytesOf (fileWords b) ++ drop k cells) (sym (bytes-length (fileWords b))) ∙ t .1 .1 .0,
+              ep ∙ t .1 .1 .1,
+            ),
+          ),
         )

@@ -53,7 +53,8 @@ module _ (t : StepBits) where
     pub turn-is : toldStep t ≡ S.Turn (record { c = ofBits binary64 (t .a); s = ofBits binary64 (t .b); rise = ofBits binary64 (t .c) })
     turn-is = rw (ne-eqb (t .kind) 1 n, ne-eqb (t .kind) 2 e) refl
 
-    pub in-turn : allOf inRange (ofBits binary64 (t .a) ∷ ofBits binary64 (t .b) ∷ ofBits binary64 (t .c) ∷ []) ≡ allOf inRange (stepFloats (toldStep t))
+    pub in-turn : allOf inRange (ofBits binary64 (t .a) ∷ ofBits binary64 (t .b) ∷ ofBits binary64 (t .c) ∷ [])
+        ≡ allOf inRange (stepFloats (toldStep t))
     in-turn = rw (ne-eqb (t .kind) 1 n, ne-eqb (t .kind) 2 e) refl
 
     pub unused-turn : anySet (t .axis) (t .other) 0 ≡ unusedSet t

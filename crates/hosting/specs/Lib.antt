@@ -2,5 +2,5 @@
 pub mod Floats
 pub mod Lists
 pub mod Moves
-pub mod Rooms
+pub mod Inner
 pub mod Reads

@@ -11,7 +11,7 @@ use Rattle.rules.specs.Limits.{maxDimension, axesOk}
 use Rattle.rules.specs.Shapes.{shapeOk}
 use Rattle.rules.specs.Calls.{Outcome, refused, after}
 use Rattle.records.specs.Layout.{tableLength}
-use Rattle.list.specs.Listing.{ListInput, listInput, listText, listOutcome}
+use Rattle.list.specs.List.{ListInput, listInput, listText, listOutcome}
 use Rattle.hosting.specs.Floats.{floats64}
 
 abbrev pub byBytes : Bool → Bool → Outcome ℕ → Outcome ℕ

@@ -5,7 +5,7 @@ ghost use Prim.Native.Nat.{_+_, _*_, _/_, _≤_};
 ghost use lib.Ieee.{binary64, ofBits, toBits};
 ghost use lib.ListN.{length};
 ghost use Rattle.words.specs.Records.{allOf};
-ghost use Rattle.words.specs.Placed.{placed};
+ghost use Rattle.words.specs.Inner.Placed.{placed};
 ghost use Rattle.rules.specs.Calls.{written};
 ghost use Rattle.points.specs.Step.{inRange};
 ghost use Rattle.hosting.specs.Floats.{floats64, lowBytes, floatBytes};

@@ -10,7 +10,7 @@ ghost use Rattle.rules.specs.Shapes.{shapeOk};
 ghost use Rattle.rules.specs.Numbers.{outcomeOf};
 ghost use Rattle.records.specs.Layout.{tableLength};
 ghost use Rattle.points.specs.Step.{inRange};
-ghost use Rattle.list.specs.Listing.{listOutcome, listBuffer};
+ghost use Rattle.list.specs.List.{listOutcome, listBuffer};
 ghost use Rattle.hosting.specs.Floats.{floats64};
 ghost use Rattle.hosting.specs.Lists.{hostListInput, hostListOutcome, hostListBuffer};
 use crate::floats;
@@ -50,7 +50,8 @@ fn list_decoded(
 ) -> Answer
     requires { ⌜ (length (now table) ≤ 139264) × (length (now points) ≤ 262144) × (allOf inRange (floats64 (now points)) ≡ true) ⌝ }
     ensures answer { λ r. ⌜ outcomeOf r ≡ listOutcome (hostListInput d n v s (now (table .entry)) (now (points .entry)) (now (text .entry))) ⌝ }
-    ensures buffer { λ _. ⌜ now (text .exit) ≡ listBuffer (hostListInput d n v s (now (table .entry)) (now (points .entry)) (now (text .entry))) (now (text .entry)) ⌝ }
+    ensures buffer { λ _. ⌜ now (text .exit)
+        ≡ listBuffer (hostListInput d n v s (now (table .entry)) (now (points .entry)) (now (text .entry))) (now (text .entry)) ⌝ }
 {
     let size = table.len() / 2;
     let count = points.len() / 8;

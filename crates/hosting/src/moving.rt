@@ -12,7 +12,7 @@ ghost use Rattle.points.specs.Step.{inRange, stepFloats};
 ghost use Rattle.motion.specs.Move.{moveInput, movedLevels, moveOutcome, moveBuffer};
 ghost use Rattle.hosting.specs.Floats.{floats64, floatBytes};
 ghost use Rattle.hosting.specs.Moves.{toldStep, moveTold, hostMoveOutcome, hostMoveBuffer};
-ghost use Rattle.hosting.specs.Rooms.{floatRoom, inRoom};
+ghost use Rattle.hosting.specs.Inner.Rooms.{floatRoom, inRoom};
 use crate::floats;
 use crate::step_bits::StepBits;
 use crate::step_bits::step_in_range;
@@ -63,7 +63,8 @@ fn too_large(v: usize, h: usize) -> bool
 fn move_decoded(n: usize, v: usize, h: usize, step: Step, points: &[u8], out: &mut [f64]) -> Answer
     requires { ⌜ (length (now points) ≤ 131072) × (allOf inRange (floats64 (now points)) ≡ true) ⌝ }
     ensures answer { λ r. ⌜ outcomeOf r ≡ moveOutcome (moveInput n v h step (floats64 (now (points .entry))) (length (now (out .entry)))) ⌝ }
-    ensures buffer { λ _. ⌜ now (out .exit) ≡ moveBuffer (moveInput n v h step (floats64 (now (points .entry))) (length (now (out .entry)))) (now (out .entry)) ⌝ }
+    ensures buffer { λ _. ⌜ now (out .exit)
+        ≡ moveBuffer (moveInput n v h step (floats64 (now (points .entry))) (length (now (out .entry)))) (now (out .entry)) ⌝ }
 {
     let count = points.len() / 8;
     let mut floats = [0.0f64; 16384];
@@ -74,8 +75,10 @@ fn move_decoded(n: usize, v: usize, h: usize, step: Step, points: &[u8], out: &m
 // The levels' bytes, if the lent ones are enough.
 fn move_sent(n: usize, v: usize, h: usize, step: Step, points: &[u8], levels: &mut [u8]) -> Answer
     requires { ⌜ (length (now points) ≤ 131072) × (allOf inRange (floats64 (now points)) ≡ true) ⌝ }
-    ensures answer { λ r. ⌜ outcomeOf r ≡ inRoom (length (now (levels .entry)) / 8) (moveOutcome (moveInput n v h step (floats64 (now (points .entry))) floatRoom)) ⌝ }
-    ensures buffer { λ r. ⌜ now (levels .exit) ≡ after (outcomeOf r) (floatBytes (movedLevels (moveInput n v h step (floats64 (now (points .entry))) floatRoom))) (now (levels .entry)) ⌝ }
+    ensures answer { λ r. ⌜ outcomeOf r
+        ≡ inRoom (length (now (levels .entry)) / 8) (moveOutcome (moveInput n v h step (floats64 (now (points .entry))) floatRoom)) ⌝ }
+    ensures buffer { λ r. ⌜ now (levels .exit)
+        ≡ after (outcomeOf r) (floatBytes (movedLevels (moveInput n v h step (floats64 (now (points .entry))) floatRoom))) (now (levels .entry)) ⌝ }
 {
     let mut out = [0.0f64; 32768];
     match move_decoded(n, v, h, step, points, &mut out) {
@@ -99,7 +102,8 @@ pub fn move_bytes(
     levels: &mut [u8],
 ) -> Answer
     ensures answer { λ r. ⌜ outcomeOf r ≡ hostMoveOutcome (moveTold n v h t (now (points .entry)) (length (now (levels .entry)) / 8)) ⌝ }
-    ensures buffer { λ _. ⌜ now (levels .exit) ≡ hostMoveBuffer (moveTold n v h t (now (points .entry)) (length (now (levels .entry)) / 8)) (now (levels .entry)) ⌝ }
+    ensures buffer { λ _. ⌜ now (levels .exit)
+        ≡ hostMoveBuffer (moveTold n v h t (now (points .entry)) (length (now (levels .entry)) / 8)) (now (levels .entry)) ⌝ }
 {
     if !numbers_fit(n, v, h, t.kind) {
         return Answer::Refused(Refusal::OutsideLimits);

@@ -11,8 +11,9 @@ ghost use Rattle.rules.specs.Numbers.{outcomeOf};
 ghost use Rattle.file.specs.File.{headerSize, pointCount, fileLength};
 ghost use Rattle.file.specs.Tests.{cellsLength};
 ghost use Rattle.read.specs.Read.{readInput, readOutcome, readCells};
-ghost use Rattle.hosting.specs.Rooms.{floatRoom};
-ghost use Rattle.hosting.specs.Reads.{headerBytes, headerWords, pointBytes, wordCount, hostReadOutcome, hostReadHeader, hostReadCells, hostReadPoints};
+ghost use Rattle.hosting.specs.Inner.Rooms.{floatRoom};
+ghost use Rattle.hosting.specs.Reads.{headerBytes, headerWords, pointBytes, wordCount, hostReadOutcome, hostReadHeader, hostReadCells};
+ghost use Rattle.hosting.specs.Reads.{hostReadPoints};
 use file::cells;
 use file::numbers;
 use printing::writing::put_text;
@@ -38,7 +39,8 @@ fn read_words(file: &[u8], words: &mut [u16]) -> Answer
 // Row 15: bytes of the three lent buffers.
 fn no_room(file: &[u8], header: usize, cells: usize, points: usize) -> bool
     requires { ⌜ headerSize ≤ length (now file) ⌝ }
-    ensures { λ r. ⌜ r ≡ (ltb header 40 || (ltb (cells / 2) (cellsLength (now (file .entry))) || ltb (points / 8) (pointCount (now (file .entry))))) ⌝ }
+    ensures { λ r. ⌜ r
+        ≡ (ltb header 40 || (ltb (cells / 2) (cellsLength (now (file .entry))) || ltb (points / 8) (pointCount (now (file .entry))))) ⌝ }
 {
     if header < 40 {
         return true;
@@ -85,9 +87,11 @@ fn put_points(file: &[u8], points: &mut [u8])
 
 pub fn read_bytes(file: &[u8], header: &mut [u8], cells: &mut [u8], points: &mut [u8]) -> Answer
     ensures answer { λ r. ⌜ outcomeOf r ≡ hostReadOutcome (now (file .entry)) (now (header .entry)) (now (cells .entry)) (now (points .entry)) ⌝ }
-    ensures header { λ _. ⌜ now (header .exit) ≡ hostReadHeader (now (file .entry)) (now (header .entry)) (now (cells .entry)) (now (points .entry)) ⌝ }
+    ensures header { λ _. ⌜ now (header .exit)
+        ≡ hostReadHeader (now (file .entry)) (now (header .entry)) (now (cells .entry)) (now (points .entry)) ⌝ }
     ensures cells { λ _. ⌜ now (cells .exit) ≡ hostReadCells (now (file .entry)) (now (header .entry)) (now (cells .entry)) (now (points .entry)) ⌝ }
-    ensures points { λ _. ⌜ now (points .exit) ≡ hostReadPoints (now (file .entry)) (now (header .entry)) (now (cells .entry)) (now (points .entry)) ⌝ }
+    ensures points { λ _. ⌜ now (points .exit)
+        ≡ hostReadPoints (now (file .entry)) (now (header .entry)) (now (cells .entry)) (now (points .entry)) ⌝ }
 {
     let mut words = [0u16; 32768];
     match read_words(file, &mut words) {

@@ -22,10 +22,10 @@ use Rattle.motion.specs.Move.{moveOutcome}
 use Rattle.read.specs.declared.Header.{Header}
 use Rattle.read.specs.Read.{readOutcome}
 use Rattle.printing.specs.Decimal.{digit, digits, digitsUpTo}
-use Rattle.list.specs.Listing.{listText, listOutcome}
-use Rattle.marking.specs.Key.{inputLimit, byteRoom, thenCall, readIn, wingIn, sweepIn, moveIn, listIn, callsOn, keyOutcome, spoken, printed}
-use Rattle.marking.specs.Key.{textOutcome, textBuffer}
-use Rattle.marking.proofs.Staged.{list-long}
+use Rattle.list.specs.List.{listText, listOutcome}
+use Rattle.page.specs.Key.{inputLimit, byteRoom, thenCall, readIn, wingIn, sweepIn, moveIn, listIn, callsOn, keyOutcome, spoken, printed}
+use Rattle.page.specs.Key.{textOutcome, textBuffer}
+use Rattle.page.proofs.Staged.{list-long}
 
 digits-short : (k n : ℕ) → length (digitsUpTo k n) ≤ suc k
 digits-short zero n = omega arith

@@ -3,11 +3,11 @@ ghost use mathlib.Core.Path.{_≡_};
 ghost use lib.ListN.{length, take};
 ghost use Rattle.io.specs.Counts.{Counts};
 ghost use Rattle.libc.specs.Io.{Moved};
-ghost use Rattle.marking.specs.Key.{byteRoom, printed};
+ghost use Rattle.page.specs.Key.{byteRoom, printed};
 use libc::STDERR_FILENO;
 use libc::STDIN_FILENO;
 use libc::STDOUT_FILENO;
-use marking::key::key_text;
+use page::key::key_text;
 use rules::refusal::Answer;
 
 // Writes what is printed for the input from the start of the text, and answers the count of its bytes.

@@ -6,11 +6,11 @@ use lib.ListN.{length}
 use lib.Ieee.{Float, binary64, ofBits}
 use Rattle.words.specs.Text.{ascii}
 use Rattle.rules.specs.Calls.{refused}
-use Rattle.complex.proofs.Computing.{computing}
+use Rattle.solids.proofs.Computing.{computing}
 use Rattle.points.proofs.Computing.{computing as points-computing}
 use Rattle.printing.specs.Decimal.{digits, thousandths, coordinate}
 use Rattle.listing.specs.Lines.{firstLine, vertexLine, faceLine, keyText}
-use Rattle.list.specs.Listing.{ListInput, listInput, listText, listRules, listOutcome, listBuffer}
+use Rattle.list.specs.List.{ListInput, listInput, listText, listRules, listOutcome, listBuffer}
 
 -- 0.0, and 1,048,576, which is out of range
 abbrev origin : Float

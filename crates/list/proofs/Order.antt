@@ -5,7 +5,7 @@ use mathlib.Core.List.{List}
 use Prim.Native.Nat.{ℕ}
 use Rattle.rules.specs.Calls.{accepted, refused, written}
 use Rattle.rules.proofs.Refusing.{First, None, refused-first, accepted-none, kept, put}
-use Rattle.list.specs.Listing.{ListInput, listText, listLength, listRules, listOutcome, listBuffer}
+use Rattle.list.specs.List.{ListInput, listText, listLength, listRules, listOutcome, listBuffer}
 
 module _ (i : ListInput) (out : List ℕ) where
   pub refuses : (n : ℕ) → First listRules i n → (refused n ≡ listOutcome i) × (out ≡ listBuffer i out)

@@ -1,2 +1,2 @@
 -- The call list.
-pub mod Listing
+pub mod List

@@ -1,5 +1,4 @@
 // The call list: it takes a table and its points and writes the key's text.
-use adjacency::sound::is_sound;
 use listing::key::key_size;
 use listing::key::put_key;
 use points::range::all_in_range;
@@ -11,6 +10,7 @@ use rules::limits::Shape;
 use rules::limits::axes_ok;
 use rules::refusal::Answer;
 use rules::refusal::Refusal;
+use tables::sound::is_sound;
 ghost use mathlib.Core.Path.{_≡_};
 ghost use mathlib.Core.Bool.{_&&_};
 ghost use Prim.Native.Nat.{_*_, _≤_};
@@ -20,7 +20,7 @@ ghost use Rattle.rules.specs.Limits.{maxDimension, axesOk};
 ghost use Rattle.rules.specs.Shapes.{shapeOk};
 ghost use Rattle.rules.specs.Numbers.{outcomeOf};
 ghost use Rattle.records.specs.Layout.{tableLength};
-ghost use Rattle.list.specs.Listing.{listInput, listOutcome, listBuffer};
+ghost use Rattle.list.specs.List.{listInput, listOutcome, listBuffer};
 
 // Row 2.
 fn numbers_fit(d: usize, n: usize, v: usize, s: usize) -> bool
@@ -49,7 +49,8 @@ pub fn list(
     out: &mut [u8],
 ) -> Answer
     ensures answer { λ r. ⌜ outcomeOf r ≡ listOutcome (listInput d n v s (now (table .entry)) (now (points .entry)) (length (now (out .entry)))) ⌝ }
-    ensures buffer { λ r. ⌜ now (out .exit) ≡ listBuffer (listInput d n v s (now (table .entry)) (now (points .entry)) (length (now (out .entry)))) (now (out .entry)) ⌝ }
+    ensures buffer { λ r. ⌜ now (out .exit)
+        ≡ listBuffer (listInput d n v s (now (table .entry)) (now (points .entry)) (length (now (out .entry)))) (now (out .entry)) ⌝ }
 {
     if !numbers_fit(d, n, v, s) {
         return Answer::Refused(Refusal::OutsideLimits);

@@ -27,7 +27,14 @@ pub vertex-length : (n : ℕ) (ps : List Float) (p : ℕ) → n ≤ 8 → length
 unfolding vertexLine
 vertex-length n ps p h =
     let xs = part n p ps in
-    omega (arith, length-append (digits p) (restOfLine (map coordinate xs)), digits-length p, points-length xs, length-take n (drop (p * n) ps), min-le-left n (length (drop (p * n) ps)))
+    omega (
+      arith,
+      length-append (digits p) (restOfLine (map coordinate xs)),
+      digits-length p,
+      points-length xs,
+      length-take n (drop (p * n) ps),
+      min-le-left n (length (drop (p * n) ps)),
+    )
 
 pub lines-length : (k n : ℕ) (f : ℕ → List ℕ) → ((p : ℕ) → length (f p) ≤ k) → length (concat (tabulate n f)) ≤ n * k
 lines-length k zero f h = omega arith

@@ -15,7 +15,7 @@ use lib.ListN.{length}
 use Rattle.simplex.specs.Cell.{Cell}
 use Rattle.printing.specs.Decimal.{digits}
 use Rattle.printing.specs.Fields.{line}
-use Rattle.words.specs.Placed.{Put}
+use Rattle.words.specs.Inner.Placed.{Put}
 use Rattle.words.proofs.Writing.{Left, left-starts, left-fits, left-goes, left-last}
 use Rattle.listing.specs.Lines.{keyWord, firstLine, vertexLines, faceLines, keyText}
 

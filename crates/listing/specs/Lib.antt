@@ -1,3 +1,3 @@
 -- The lines of the key.
 pub mod Lines
-pub mod Parts
+pub mod Inner

@@ -9,11 +9,11 @@ ghost use mathlib.Core.List.{[], _∷_};
 ghost use Prim.Native.Nat.{_+_, _≤_};
 ghost use lib.ListN.{length, take};
 ghost use Rattle.simplex.specs.SignWords.{signOf};
-ghost use Rattle.records.specs.Inside.{Table, Inside};
-ghost use Rattle.boundary.specs.Walk.{faceAt, tableFaces};
-ghost use Rattle.words.specs.Placed.{Put};
+ghost use Rattle.records.specs.Inner.Inside.{Table, Inside};
+ghost use Rattle.boundary.specs.Inner.Walk.{faceAt, tableFaces};
+ghost use Rattle.words.specs.Inner.Placed.{Put};
 ghost use Rattle.listing.specs.Lines.{signText, faceLine, faceLines};
-ghost use Rattle.listing.specs.Parts.{SizeOf};
+ghost use Rattle.listing.specs.Inner.Parts.{SizeOf};
 
 // How many faces, and how many bytes their lines have.
 pub struct Size {

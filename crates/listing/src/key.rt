@@ -9,11 +9,11 @@ use printing::lines::first_line;
 ghost use mathlib.Core.Path.{_≡_};
 ghost use Prim.Native.Nat.{_≤_};
 ghost use lib.ListN.{length};
-ghost use Rattle.records.specs.Inside.{Table};
-ghost use Rattle.boundary.specs.Walk.{tableFaces};
-ghost use Rattle.words.specs.Placed.{Put};
+ghost use Rattle.records.specs.Inner.Inside.{Table};
+ghost use Rattle.boundary.specs.Inner.Walk.{tableFaces};
+ghost use Rattle.words.specs.Inner.Placed.{Put};
 ghost use Rattle.listing.specs.Lines.{firstLine, keyText};
-ghost use Rattle.listing.specs.Parts.{Points, KeySize};
+ghost use Rattle.listing.specs.Inner.Parts.{Points, KeySize};
 
 fn first_len(d: usize, n: usize, v: usize, faces: usize) -> usize
     ensures { λ r. ⌜ r ≡ length (firstLine d n v faces) ⌝ }

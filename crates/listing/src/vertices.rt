@@ -5,9 +5,9 @@ use printing::lines::vertex_line;
 ghost use mathlib.Core.Path.{_≡_};
 ghost use Prim.Native.Nat.{_+_, _≤_};
 ghost use lib.ListN.{length};
-ghost use Rattle.words.specs.Placed.{Put};
+ghost use Rattle.words.specs.Inner.Placed.{Put};
 ghost use Rattle.listing.specs.Lines.{vertexLine, vertexLines};
-ghost use Rattle.listing.specs.Parts.{VertexOf, Points};
+ghost use Rattle.listing.specs.Inner.Parts.{VertexOf, Points};
 
 fn vertex_len(n: usize, p: usize, points: &[f64]) -> usize
     requires { ⌜ VertexOf n p (now points) ⌝ }

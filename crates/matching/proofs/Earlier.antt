@@ -13,8 +13,8 @@ use lib.Dec.{eqb}
 use borrow.Author.Tests.{eqb-true, eqb-false, eq-eqb, ne-eqb}
 use Rattle.simplex.specs.Cell.{Row, sameRow}
 use Rattle.simplex.proofs.Rows.{sameRow-true, sameRow-refl}
-use Rattle.matching.specs.Matching.{keyRow, lastBelow, earlier}
-use Rattle.matching.specs.Buckets.{bucketOf, lastIn}
+use Rattle.matching.specs.Inner.Matching.{keyRow, lastBelow, earlier}
+use Rattle.matching.specs.Inner.Buckets.{bucketOf, lastIn}
 
 abbrev pub from : (ℕ → Bool) → ℕ → ℕ
 from q x = cond (eqb x 65535) 65535 (lastBelow q (suc x))

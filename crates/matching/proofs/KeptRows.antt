@@ -15,7 +15,7 @@ use Rattle.simplex.specs.Cell.{Row, sameRow}
 use Rattle.simplex.specs.Faces.{without}
 use Rattle.simplex.proofs.Rows.{sameRow-true, sameRow-refl}
 use Rattle.simplex.proofs.Without.{without-length}
-use Rattle.matching.specs.Matching.{cellRow}
+use Rattle.matching.specs.Inner.Matching.{cellRow}
 
 -- what holds where the test passes and where it fails holds of it
 pub by-ltb : (P : Bool → Type 0) (a b : ℕ) → (a < b → P true) → (b ≤ a → P false) → P (ltb a b)

@@ -4,7 +4,7 @@ use mathlib.Core.Bool.{Bool, true, cond}
 use mathlib.Core.Logic.{⊎-elim}
 use Prim.Native.Nat.{ℕ, zero, suc, _<_}
 use native.Mathlib.Omega.{arith}
-use Rattle.matching.specs.Matching.{lastBelow}
+use Rattle.matching.specs.Inner.Matching.{lastBelow}
 use Rattle.matching.proofs.Earlier.{last-passes}
 
 pub last-ext : (p q : ℕ → Bool) (m : ℕ) → ((f : ℕ) → f < m → p f ≡ q f) → lastBelow p m ≡ lastBelow q m

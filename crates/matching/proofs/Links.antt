@@ -14,8 +14,8 @@ use borrow.Author.Tests.{eqb-true, eqb-false}
 use Rattle.words.specs.Records.{part}
 use Rattle.simplex.specs.Cell.{Row, sameRow}
 use Rattle.simplex.specs.Faces.{without}
-use Rattle.matching.specs.Matching.{cellRow, keyRow, Behind}
-use Rattle.matching.specs.Buckets.{bucketOf, lastIn, Heads, Linked, Linking}
+use Rattle.matching.specs.Inner.Matching.{cellRow, keyRow, Behind}
+use Rattle.matching.specs.Inner.Buckets.{bucketOf, lastIn, Heads, Linked, Linking}
 use Rattle.matching.proofs.KeptRows.{take-past}
 use Rattle.matching.proofs.Quotients.{cell-of-key, place-of-key}
 

@@ -10,8 +10,8 @@ use lib.ListN.{take, getD}
 use Rattle.simplex.specs.Cell.{Row}
 use Rattle.simplex.specs.Faces.{without}
 use Rattle.words.specs.Records.{part}
-use Rattle.matching.specs.Matching.{cellRow}
-use Rattle.matching.specs.Buckets.{term, weight, bucketOf}
+use Rattle.matching.specs.Inner.Matching.{cellRow}
+use Rattle.matching.specs.Inner.Buckets.{term, weight, bucketOf}
 use Rattle.matching.proofs.KeptRows.{part-at, cell-at, take-past}
 
 -- the products that make a term

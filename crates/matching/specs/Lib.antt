@@ -1,3 +1,2 @@
 -- Keys that are equal, and the buckets that find them.
-pub mod Matching
-pub mod Buckets
+pub mod Inner

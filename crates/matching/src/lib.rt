@@ -8,8 +8,8 @@ ghost use lib.Dec.{ltb};
 ghost use lib.ListN.{length, getD};
 ghost use Rattle.simplex.specs.Cell.{sameRow};
 ghost use Rattle.simplex.specs.Faces.{without};
-ghost use Rattle.matching.specs.Matching.{Keyed, cellRow, keyRow, earlier, Behind};
-ghost use Rattle.matching.specs.Buckets.{term, weight, bucketOf, Linked, Linking};
+ghost use Rattle.matching.specs.Inner.Matching.{Keyed, cellRow, keyRow, earlier, Behind};
+ghost use Rattle.matching.specs.Inner.Buckets.{term, weight, bucketOf, Linked, Linking};
 
 fn wide(x: u16) -> u64
     ensures { λ r. ⌜ (r ≡ x) × (r < 65536) ⌝ }

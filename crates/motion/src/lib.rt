@@ -51,7 +51,8 @@ pub fn move_points(
     out: &mut [f64],
 ) -> Answer
     ensures answer { λ r. ⌜ outcomeOf r ≡ moveOutcome (moveInput n v h step (now (points .entry)) (length (now (out .entry)))) ⌝ }
-    ensures buffer { λ r. ⌜ now (out .exit) ≡ moveBuffer (moveInput n v h step (now (points .entry)) (length (now (out .entry)))) (now (out .entry)) ⌝ }
+    ensures buffer { λ r. ⌜ now (out .exit)
+        ≡ moveBuffer (moveInput n v h step (now (points .entry)) (length (now (out .entry)))) (now (out .entry)) ⌝ }
 {
     if !numbers_ok(n, v, h) {
         return Answer::Refused(Refusal::OutsideLimits);

@@ -13,7 +13,7 @@ use lib.ListN.{length}
 use Rattle.words.specs.Records.{tabulate, part, allOf}
 use Rattle.rules.proofs.Tests.{and-parts}
 use Rattle.points.specs.Levels.{levelOf, levels}
-use Rattle.points.specs.Stay.{staysIn, allStay}
+use Rattle.points.specs.Inner.Stay.{staysIn, allStay}
 use Rattle.points.specs.Step.{inRange, movedPoint}
 use Rattle.points.specs.declared.step.Step.{Step}
 use Rattle.points.proofs.AllOf.{same-test, allOf-concat, allOf-tabulate, allOf-tabulate-at}

@@ -16,7 +16,7 @@ use lib.Ieee.{Float}
 use lib.ListN.{length, take, drop, length-drop}
 use lib.Seq.{length-take-le, drop-drop}
 use Rattle.words.specs.Records.{tabulate, part, concat}
-use Rattle.words.specs.Placed.{placed}
+use Rattle.words.specs.Inner.Placed.{placed}
 use Rattle.words.proofs.Records.{record-fits, record-next, read-take, part-tabulated}
 use Rattle.words.proofs.Placed.{placed-first, placed-length, placed-read, placed-over}
 use Rattle.words.proofs.Writing.{Left, left-starts, left-record, left-records, left-ahead, left-read, put-part}

@@ -1,4 +1,4 @@
 -- Points, and the step that moves them.
 pub mod Step
 pub mod Levels
-pub mod Stay
+pub mod Inner

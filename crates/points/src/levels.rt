@@ -4,12 +4,12 @@ ghost use mathlib.Core.Path.{_≡_};
 ghost use mathlib.Core.Bool.{true};
 ghost use Prim.Native.Nat.{_+_, _*_, _≤_};
 ghost use lib.ListN.{length, take, drop};
-ghost use Rattle.words.specs.Placed.{placed};
+ghost use Rattle.words.specs.Inner.Placed.{placed};
 ghost use Rattle.rules.specs.Limits.{sweptVertices};
 ghost use Rattle.rules.specs.Calls.{written};
 ghost use Rattle.points.specs.Step.{stepFits};
 ghost use Rattle.points.specs.Levels.{movedAll, levels};
-ghost use Rattle.points.specs.Stay.{staysIn, allStay};
+ghost use Rattle.points.specs.Inner.Stay.{staysIn, allStay};
 
 // Whether the point stays in range in h steps.
 fn stays(step: Step, n: usize, h: usize, p: [f64; 8]) -> bool

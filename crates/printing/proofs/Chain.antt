@@ -37,8 +37,8 @@ use Rattle.words.specs.Records.{allOf}
 use Rattle.points.specs.Step.{inRange}
 use Rattle.printing.specs.Fields.{fields, pointFields}
 use Rattle.printing.specs.declared.line_writer.LineWriter.{LineWriter}
-use Rattle.words.specs.Placed.{Put}
-use Rattle.printing.specs.Advanced.{writerAt, advanced}
+use Rattle.words.specs.Inner.Placed.{Put}
+use Rattle.printing.specs.Inner.Advanced.{writerAt, advanced}
 use Rattle.words.proofs.Writing.{Left, left-goes, left-fits}
 use Rattle.printing.proofs.Held.{writer, typed}
 use Rattle.printing.proofs.Locals.{nothings, nothings-had}

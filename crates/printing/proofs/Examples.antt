@@ -6,7 +6,7 @@ use lib.ListN.{replicate}
 use Rattle.words.specs.Text.{ascii}
 use Rattle.printing.specs.Decimal.{digits, thousandths, minusOf}
 use Rattle.printing.specs.Fields.{line}
-use Rattle.printing.specs.Advanced.{advanced}
+use Rattle.printing.specs.Inner.Advanced.{advanced}
 use Rattle.printing.specs.declared.line_writer.LineWriter.{LineWriter}
 
 pub six-digits : digits 123456 ≡ ascii "123456"

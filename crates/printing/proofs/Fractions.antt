@@ -97,8 +97,14 @@ shifted m x j =
     let p = 2 ^ x in
     let q = 2 ^ suc j in
     let num : 2000 * (m * p) + q * p ≡ (2 * (1000 * m + 2 ^ j)) * p =
-    omega
-    (arith, ap (λ (z : ℕ). z * p) (pow-suc 2 j), mul-right-comm (2 ^ j) 2 p, mul-assoc 2 (1000 * m + 2 ^ j) p, add-mul (1000 * m) (2 ^ j) p, mul-assoc 1000 m p) in
+    omega (
+      arith,
+      ap (λ (z : ℕ). z * p) (pow-suc 2 j),
+      mul-right-comm (2 ^ j) 2 p,
+      mul-assoc 2 (1000 * m + 2 ^ j) p,
+      add-mul (1000 * m) (2 ^ j) p,
+      mul-assoc 1000 m p,
+    ) in
     ap (λ (z : ℕ). (2000 * (m * p) + z) / (2 * z)) (pow-add 2 (suc j) x)
     ∙ ap (λ (z : ℕ). z / (2 * (q * p))) num
     ∙ ap (λ (z : ℕ). (2 * (1000 * m + 2 ^ j)) * p / z) (sym (mul-assoc 2 q p))

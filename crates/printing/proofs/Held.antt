@@ -33,7 +33,7 @@ use denote.Struct.Laws as LL
 use denote.Triple.Walked.{Stay, Fields, stay-dropped, gave-slice, stay-struct-at, stay-declared, Goes, goes-dropped, goes-gave-slice, goes-struct-at}
 use denote.Triple.Walked.{goes-declared}
 use Rattle.printing.specs.declared.line_writer.LineWriter.{LineWriter}
-use Rattle.printing.specs.Advanced.{writerAt}
+use Rattle.printing.specs.Inner.Advanced.{writerAt}
 use Rattle.printing.proofs.Locals.{nothings, nothings-had}
 use Rattle.printing.proofs.line_writer.LineWriter as T
 use Rattle.printing.proofs.line_writer.LineWriter.Laws as T′

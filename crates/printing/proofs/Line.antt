@@ -37,8 +37,8 @@ use denote.Triple.Spec.{Meets}
 use denote.Triple.Walked.{says, needs, Stays, stay-dropped, gave-slice, walkOf, goes-dropped, goes-gave-slice, ends-at, walked, walk-meets}
 use Rattle.printing.specs.declared.line_writer.LineWriter.{LineWriter}
 use Rattle.printing.specs.Fields.{fields}
-use Rattle.words.specs.Placed.{Put}
-use Rattle.printing.specs.Advanced.{writerAt, advanced}
+use Rattle.words.specs.Inner.Placed.{Put}
+use Rattle.printing.specs.Inner.Advanced.{writerAt, advanced}
 use Rattle.words.proofs.Writing.{Left, left-starts, left-last}
 use Rattle.printing.proofs.Lending.{valueOf}
 use Rattle.printing.proofs.Locals.{alloc3, cell, cells, free3}
@@ -162,7 +162,8 @@ module _ (R : RattleType) (need : ℕ → List ℕ → List (R .Denot) → Type 
           → ent 𝓤 (onEntry 𝓤 H A (lineEnded .signature) (κ, (κ′, tt)) (q, (q′, tt)) a vals) (WpFn 𝓤 H (𝓣 .C) (𝓣 .Λ) (lineCode R f) passed Post)
       walk room n-fits word-fits ws-fits xs-fits =
           qed W
-          ((‵ (flft κ q) ⊛ ‵ (flft κ′ q′) ⊛ ‵ ftrue) ∷ ‵ (owns (MutSlice (named 0) κ u8 ∷ usize ∷ ShrSlice (named 1) κ′ u8 ∷ ShrSlice (named 1) κ′ u16 ∷ ShrSlice (named 1) κ′ R ∷ []) a vals) ∷ []) ∵
+          ((‵ (flft κ q) ⊛ ‵ (flft κ′ q′) ⊛ ‵ ftrue) ∷ ‵ (owns
+          (MutSlice (named 0) κ u8 ∷ usize ∷ ShrSlice (named 1) κ′ u8 ∷ ShrSlice (named 1) κ′ u16 ∷ ShrSlice (named 1) κ′ R ∷ []) a vals) ∷ []) ∵
           enter ! (𝓣 .C) (𝓣 .Λ) (lineCode R f) passed _ $
           alloc3 ! (λ l₀ l₁ l₂. alloc3 ! (λ l₃ l₄ l₅. alloc3 ! (λ l₆ l₇ l₈. alloc3 ! (λ l₉ l₁₀ l₁₁. alloc0 ! $ params1 ! $
           pass1 ! (init ! 20 refl (tt, (tt, (record { fits = room .0 }, tt)))) $ pass1 ! (init ! 18 refl (tt, record { fits = n-fits })) $

@@ -29,7 +29,8 @@ nothings (suc k) = fsep ftrue (nothings k)
 
 module _ {M : Type 1} {𝓤 : URA M} {H : Heap 𝓤} {A : Atoms 𝓤} {K : Type 0} {W : Given 𝓤 H A} {Γ : List (Item 𝓤)} where
   pub alloc3 : K → {τ₀ τ₁ τ₂ : Ty} {h₀ h₁ h₂ : Home} {ls : List Local} {Kt : Env 𝓤 H → Goal 𝓤 H}
-      → ((l₀ l₁ l₂ : ℕ) → Seq K W (‵ (froom τ₂ l₂ zero) ∷ ‵ (fdies τ₂ l₂) ∷ ‵ (froom τ₁ l₁ zero) ∷ ‵ (fdies τ₁ l₁) ∷ ‵ (froom τ₀ l₀ zero) ∷ ‵ (fdies τ₀ l₀) ∷ Γ)
+      → ((l₀ l₁ l₂ : ℕ) →
+      Seq K W (‵ (froom τ₂ l₂ zero) ∷ ‵ (fdies τ₂ l₂) ∷ ‵ (froom τ₁ l₁ zero) ∷ ‵ (fdies τ₁ l₁) ∷ ‵ (froom τ₀ l₀ zero) ∷ ‵ (fdies τ₀ l₀) ∷ Γ)
       (allocs ls (λ E. Kt ((τ₀, l₀) ∷ (τ₁, l₁) ∷ (τ₂, l₂) ∷ E))))
       → Seq K W Γ (allocs (local τ₀ h₀ ∷ local τ₁ h₁ ∷ local τ₂ h₂ ∷ ls) Kt)
   alloc3 t k = alloc1 t (λ l₀. alloc1 t (λ l₁. alloc1 t (λ l₂. k l₀ l₁ l₂)))
@@ -49,6 +50,7 @@ module _ {M : Type 1} {𝓤 : URA M} {H : Heap 𝓤} {A : Atoms 𝓤} {K : Type 
 module _ {M : Type 1} {𝓤 : URA M} {H : Heap 𝓤} {A : Atoms 𝓤} {K : Type 0} {W : Given 𝓤 H A} {Γ : List (Item 𝓤)} where
   pub free3 : K → {τ₀ τ₁ τ₂ : Ty} {l₀ l₁ l₂ : ℕ} {v₀ v₁ v₂ : Val} {E : Env 𝓤 H} {g : Goal 𝓤 H}
       → Step K W Γ (frees E g)
-      (‵ (fat fullShare τ₀ l₀ zero v₀) ∷ ‵ (fdies τ₀ l₀) ∷ ‵ (fat fullShare τ₁ l₁ zero v₁) ∷ ‵ (fdies τ₁ l₁) ∷ ‵ (fat fullShare τ₂ l₂ zero v₂) ∷ ‵ (fdies τ₂ l₂) ∷ Γ)
+      (‵ (fat fullShare τ₀ l₀ zero v₀) ∷ ‵ (fdies τ₀ l₀) ∷ ‵ (fat fullShare τ₁ l₁ zero v₁)
+      ∷ ‵ (fdies τ₁ l₁) ∷ ‵ (fat fullShare τ₂ l₂ zero v₂) ∷ ‵ (fdies τ₂ l₂) ∷ Γ)
       (frees ((τ₀, l₀) ∷ (τ₁, l₁) ∷ (τ₂, l₂) ∷ E) g)
   free3 t = step (λ s. free-cell t $ free-cell t $ free-cell t $ s)

@@ -37,8 +37,8 @@ use denote.Triple.Entry.{onEntry}
 use denote.Triple.Spec.{Meets}
 use denote.Triple.Walked.{says, needs, Stays, stay-dropped, walkOf, goes-dropped, ends-at, walked, walk-meets}
 use Rattle.printing.specs.declared.line_writer.LineWriter.{LineWriter}
-use Rattle.words.specs.Placed.{Put}
-use Rattle.printing.specs.Advanced.{writerAt, advanced}
+use Rattle.words.specs.Inner.Placed.{Put}
+use Rattle.printing.specs.Inner.Advanced.{writerAt, advanced}
 use Rattle.printing.proofs.Held.{lifetime, writer, machine, handed, SpentS, writer-spent-goes}
 use Rattle.printing.proofs.Lending.{valueOf, bytesAt, bytesOwn, Puts, puts}
 use Rattle.printing.proofs.Locals.{alloc3, cell, cells, free3}

@@ -2,4 +2,4 @@
 pub mod Decimal
 pub mod Reading
 pub mod Fields
-pub mod Advanced
+pub mod Inner

@@ -9,7 +9,7 @@ ghost use lib.ListN.{length};
 ghost use Rattle.words.specs.Records.{allOf};
 ghost use Rattle.points.specs.Step.{inRange};
 ghost use Rattle.printing.specs.Fields.{fields, pointFields};
-ghost use Rattle.words.specs.Placed.{Put};
+ghost use Rattle.words.specs.Inner.Placed.{Put};
 
 fn wide(x: u16) -> u64
     ensures { λ r. ⌜ r ≡ x ⌝ }

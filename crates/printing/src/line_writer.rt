@@ -12,8 +12,8 @@ ghost use lib.ListN.{length};
 ghost use Rattle.words.specs.Records.{allOf};
 ghost use Rattle.points.specs.Step.{inRange};
 ghost use Rattle.printing.specs.Fields.{fields, pointFields};
-ghost use Rattle.words.specs.Placed.{Put};
-ghost use Rattle.printing.specs.Advanced.{writerAt, advanced};
+ghost use Rattle.words.specs.Inner.Placed.{Put};
+ghost use Rattle.printing.specs.Inner.Advanced.{writerAt, advanced};
 
 pub struct LineWriter<'a> {
     pub buf: &'a mut [u8],

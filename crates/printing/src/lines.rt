@@ -13,7 +13,7 @@ ghost use Rattle.words.specs.Records.{allOf};
 ghost use Rattle.points.specs.Step.{inRange};
 ghost use Rattle.printing.specs.Decimal.{digits, coordinate};
 ghost use Rattle.printing.specs.Fields.{line};
-ghost use Rattle.words.specs.Placed.{Put};
+ghost use Rattle.words.specs.Inner.Placed.{Put};
 
 // A word, a vertex's number and its coordinates.
 pub fn vertex_line<'a, 'b>(
@@ -25,7 +25,8 @@ pub fn vertex_line<'a, 'b>(
 ) -> usize
     requires { ⌜ (allOf inRange (now point) ≡ true)
         × (at + length (line (now word) (map digits (now number) ++ map coordinate (now point))) ≤ length (now buf)) ⌝ }
-    ensures { λ r. ⌜ Put at (line (now (word .entry)) (map digits (now (number .entry)) ++ map coordinate (now (point .entry)))) (now (buf .entry)) r (now (buf .exit)) ⌝ }
+    ensures { λ r. ⌜ Put at (line (now (word .entry)) (map digits (now (number .entry)) ++ map coordinate (now (point .entry))))
+        (now (buf .entry)) r (now (buf .exit)) ⌝ }
 {
     let w = coordinates(numbers(begin(buf, at, word), number), point);
     end(w)

@@ -7,7 +7,7 @@ ghost use lib.ListN.{length};
 ghost use Rattle.points.specs.Step.{inRange};
 ghost use Rattle.printing.specs.Decimal.{digit, digits, coordinate};
 ghost use Rattle.printing.specs.Fields.{minusText, decimalsText, thousandthsText, field, pointField};
-ghost use Rattle.words.specs.Placed.{Put};
+ghost use Rattle.words.specs.Inner.Placed.{Put};
 
 pub fn put_byte(buf: &mut [u8], at: usize, b: u8) -> usize
     requires { ⌜ at < length (now buf) ⌝ }

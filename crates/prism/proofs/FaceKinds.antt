@@ -14,7 +14,7 @@ use Rattle.simplex.specs.Sort.{Asc}
 use Rattle.simplex.proofs.Cancel.{total-keep}
 use Rattle.simplex.proofs.Counts.{countFaces, sumRows-allFaces, sumRows-countFaces-zero, sumRows-le, sumRows-zero}
 use Rattle.simplex.proofs.Rows.{hits, sameRow-true}
-use Rattle.complex.proofs.Solid.{Solid}
+use Rattle.solids.proofs.Solid.{Solid}
 use Rattle.prism.specs.Cells.{sweepOf}
 use Rattle.prism.proofs.Decode.{levelIn}
 use Rattle.prism.proofs.FaceBounds.{baseIn, acrossLevels, lowerIn, sweep-bound, upperIn}

@@ -16,10 +16,10 @@ use Rattle.simplex.proofs.Counts.{All, one-le, sumRows-countFaces-zero, sumRows
 use Rattle.simplex.proofs.FaceCounts.{facets-le, without-filled}
 use Rattle.simplex.proofs.Rows.{Below, Filled, Good, Long}
 use Rattle.simplex.proofs.Without.{without-length}
-use Rattle.complex.specs.Wings.{hasFace, neighbourFrom}
-use Rattle.complex.proofs.Neighbours.{faceIn-total, has-face, neighbour-empty, neighbour-none, neighbour-one, othersWith, othersWith-pick}
-use Rattle.complex.proofs.Neighbours.{total-faceIn}
-use Rattle.complex.proofs.Solid.{Solid, all-at, rowAt}
+use Rattle.solids.specs.Wings.{hasFace, neighbourFrom}
+use Rattle.solids.proofs.Neighbours.{faceIn-total, has-face, neighbour-empty, neighbour-none, neighbour-one, othersWith, othersWith-pick}
+use Rattle.solids.proofs.Neighbours.{total-faceIn}
+use Rattle.solids.proofs.Solid.{Solid, all-at, rowAt}
 use Rattle.prism.specs.Cells.{sweepOf}
 use Rattle.prism.proofs.Decode.{highs-cell, level-of, levelIn, lowers, lows-cell, uppers}
 use Rattle.prism.proofs.FaceBounds.{baseIn, lowerIn, upperIn}

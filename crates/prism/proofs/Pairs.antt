@@ -14,7 +14,7 @@ use Rattle.simplex.proofs.Cancel.{Balanced, Paired, count-keep, loneIn, on-bal,
 use Rattle.simplex.proofs.Counts.{All, All-append, cond-le, one-and, sumChain-le, sumRows-allFaces}
 use Rattle.simplex.proofs.Rows.{Below, Good, hits}
 use Rattle.simplex.proofs.Sums.{Functional, plusOn, sumChain, sumChain-allFaces, sumChain-append}
-use Rattle.complex.proofs.Solid.{Solid}
+use Rattle.solids.proofs.Solid.{Solid}
 use Rattle.prism.specs.Cells.{level, sweepOf}
 use Rattle.prism.proofs.Decode.{levelIn}
 use Rattle.prism.proofs.FaceBounds.{baseIn, copies-bound, countPrism-bound, flatOn, lowerIn, raisedRow, sideOn}

@@ -16,8 +16,8 @@ use Rattle.simplex.specs.Faces.{without}
 use Rattle.simplex.proofs.Counts.{All}
 use Rattle.simplex.proofs.Rows.{Below, Filled, Long}
 use Rattle.simplex.proofs.Without.{drop-face, drop-face-ge, take-face-ge, take-face-lt, without-left, without-map, without-right}
-use Rattle.complex.proofs.Solid.{rowAt}
-use Rattle.complex.proofs.Tables.{cellAt}
+use Rattle.solids.proofs.Solid.{rowAt}
+use Rattle.solids.proofs.Tables.{cellAt}
 use Rattle.prism.specs.Cells.{level, prism, prismCell, sweepOf}
 use Rattle.prism.proofs.Level.{raised}
 

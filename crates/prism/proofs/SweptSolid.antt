@@ -15,7 +15,7 @@ use Rattle.simplex.proofs.Cancel.{Paired}
 use Rattle.simplex.proofs.Counts.{All, All-append, one-and, sumChain-le, sumChain-sumRows, sumRows-append, sumRows-cond, sumRows-le}
 use Rattle.simplex.proofs.FaceCounts.{All-both, facets-le, facets-same}
 use Rattle.simplex.proofs.Rows.{Below, Filled, Good, Long, hits}
-use Rattle.complex.proofs.Solid.{Solid, all-tabulated}
+use Rattle.solids.proofs.Solid.{Solid, all-tabulated}
 use Rattle.prism.specs.Cells.{level, prism, prismCell, sweepOf}
 use Rattle.prism.proofs.Decode.{levelIn}
 use Rattle.prism.proofs.FaceBounds.{baseIn, acrossLevels, countPrism-bound, lowerIn, raisedRow, sideOn, upperIn}

@@ -14,11 +14,11 @@ use Rattle.simplex.specs.Faces.{without}
 use Rattle.simplex.proofs.Counts.{All}
 use Rattle.simplex.proofs.Rows.{Long}
 use Rattle.records.specs.Layout.{empty, Entry}
-use Rattle.complex.specs.Table.{entryAt, tableOf, wingAt}
-use Rattle.complex.specs.Wings.{neighbour, wingsOf}
-use Rattle.complex.proofs.Solid.{Solid, all-at, rowAt}
-use Rattle.complex.proofs.Symmetric.{wing}
-use Rattle.complex.proofs.Tables.{cellAt, entries-length, table-at, table-wing, wings-tabulated}
+use Rattle.solids.specs.Table.{entryAt, tableOf, wingAt}
+use Rattle.solids.specs.Wings.{neighbour, wingsOf}
+use Rattle.solids.proofs.Solid.{Solid, all-at, rowAt}
+use Rattle.solids.proofs.Symmetric.{wing}
+use Rattle.solids.proofs.Tables.{cellAt, entries-length, table-at, table-wing, wings-tabulated}
 use Rattle.prism.specs.Cells.{prismCell, sweepOf}
 use Rattle.prism.specs.Swept.{sweptEntry, sweptTable}
 use Rattle.prism.specs.Wings.{cellNumber, sweptWing}

@@ -13,9 +13,9 @@ use Rattle.simplex.specs.Cell.{Cell}
 use Rattle.simplex.specs.Faces.{without}
 use Rattle.simplex.proofs.Counts.{All}
 use Rattle.simplex.proofs.Rows.{Long}
-use Rattle.complex.specs.Wings.{neighbour, neighbourFrom}
-use Rattle.complex.proofs.Solid.{Solid, rowAt}
-use Rattle.complex.proofs.Symmetric.{wings-symmetric}
+use Rattle.solids.specs.Wings.{neighbour, neighbourFrom}
+use Rattle.solids.proofs.Solid.{Solid, rowAt}
+use Rattle.solids.proofs.Symmetric.{wings-symmetric}
 use Rattle.prism.specs.Cells.{sweepOf}
 use Rattle.prism.specs.Sides.{Side, sideFace, sidePair, sidePlace}
 use Rattle.prism.specs.Wings.{backFrom, backTo, cellNumber, sweptWing, wingAside}

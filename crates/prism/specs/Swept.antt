@@ -6,7 +6,7 @@ use mathlib.Core.List.{List}
 use Prim.Native.Nat.{ℕ, suc, _*_}
 use Rattle.words.specs.Records.{tabulate, concat}
 use Rattle.records.specs.Layout.{Entry}
-use Rattle.complex.specs.Table.{entryAt, wingAt}
+use Rattle.solids.specs.Table.{entryAt, wingAt}
 use Rattle.prism.specs.Cells.{prismCell}
 use Rattle.prism.specs.Wings.{sweptWing}
 

@@ -20,7 +20,7 @@ use Rattle.words.specs.Bytes.{word16}
 use Rattle.rules.specs.Calls.{Rule, refuse, firstRefusal, accepted, refused, written}
 use Rattle.rules.proofs.Tests.{and-parts}
 use Rattle.simplex.specs.Cell.{sameRow}
-use Rattle.complex.proofs.Tests.{or-false}
+use Rattle.solids.proofs.Tests.{or-false}
 use Rattle.points.specs.Step.{inRange}
 use Rattle.file.specs.File.{mark, version, headerSize, amountOf, pointCount, fileLength, filePoints}
 use Rattle.file.specs.Tests.{notOurs, floatsOk, cellsLength, fileWords}
@@ -75,7 +75,8 @@ module _ (b : List ℕ) where
   pub floats-parts : not (floatsOk b) ≡ false → (allOf inRange (tabulate 3 (amountOf b)) ≡ true) × (allOf inRange (filePoints b) ≡ true)
   floats-parts e = and-parts (allOf inRange (tabulate 3 (amountOf b))) (allOf inRange (filePoints b)) (not-false (floatsOk b) e)
 
-  pub rooms-parts : (cells points : ℕ) → (ltb cells (cellsLength b) || ltb points (pointCount b)) ≡ false → (cellsLength b ≤ cells) × (pointCount b ≤ points)
+  pub rooms-parts : (cells points : ℕ) → (ltb cells (cellsLength b) || ltb points (pointCount b)) ≡ false →
+      (cellsLength b ≤ cells) × (pointCount b ≤ points)
   rooms-parts cells points e =
       let parts = or-false (ltb cells (cellsLength b)) (ltb points (pointCount b)) e in
       (ltb-false cells (cellsLength b) (parts .0), ltb-false points (pointCount b) (parts .1))

@@ -12,9 +12,10 @@ use lib.Ieee.{Float}
 use Rattle.words.specs.Records.{anyOf}
 use Rattle.rules.specs.Calls.{Rule, refuse, Outcome, accepted, refused, decide, after}
 use Rattle.rules.specs.Numbers.{numberOf}
-use Rattle.complex.specs.Accept.{vertexBeyond, vertexTwice}
+use Rattle.solids.specs.Accept.{vertexBeyond, vertexTwice}
 use Rattle.points.specs.Step.{stepFits}
-use Rattle.file.specs.File.{dimensionOf, axesOf, vertexCountOf, cellCountOf, stepsOf, stepOf, unusedSet, pointCount, fileLength, filePoints, signBytes, fileCells}
+use Rattle.file.specs.File.{dimensionOf, axesOf, vertexCountOf, cellCountOf, stepsOf, stepOf, unusedSet, pointCount, fileLength, filePoints}
+use Rattle.file.specs.File.{signBytes, fileCells}
 use Rattle.file.specs.Tests.{notOurs, numbersOk, floatsOk, cellsLength, fileWords}
 use Rattle.read.specs.declared.Header.{Header}
 use Rattle.read.specs.declared.ReadAnswer.{ReadAnswer}
@@ -56,6 +57,6 @@ unfoldable pub readPoints : ReadInput → List Float → List Float
 readPoints i out = after (readOutcome i) (filePoints (i .bytes)) out
 
 -- what the cases of read's answer mean
-abbrev pub outcomeOf : ReadAnswer → Outcome Header
-outcomeOf (A.Accepted h) = accepted h
-outcomeOf (A.Refused r) = refused (numberOf r)
+abbrev pub headerOutcome : ReadAnswer → Outcome Header
+headerOutcome (A.Accepted h) = accepted h
+headerOutcome (A.Refused r) = refused (numberOf r)

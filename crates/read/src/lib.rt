@@ -14,7 +14,7 @@ ghost use Rattle.words.specs.Records.{allOf, tabulate};
 ghost use Rattle.points.specs.Step.{inRange};
 ghost use Rattle.file.specs.File.{headerSize, amountOf, pointCount};
 ghost use Rattle.file.specs.Tests.{cellsLength};
-ghost use Rattle.read.specs.Read.{headerOf, readInput, readOutcome, readCells, readPoints, outcomeOf};
+ghost use Rattle.read.specs.Read.{headerOf, readInput, readOutcome, readCells, readPoints, headerOutcome};
 
 // The header's numbers and the step.
 pub struct Header {
@@ -60,9 +60,12 @@ fn no_room(b: &[u8], room: usize, space: usize) -> bool
 // Reads a file: its cells go to one buffer, its points to another, and the header is the answer. Rows 1 to 8 and 15 of
 // the refusal table are tried in this order, each over the whole file, and a refused call writes nothing.
 pub fn read(bytes: &[u8], cells: &mut [u16], points: &mut [f64]) -> ReadAnswer
-    ensures answer { λ r. ⌜ outcomeOf r ≡ readOutcome (readInput (now (bytes .entry)) (length (now (cells .entry))) (length (now (points .entry)))) ⌝ }
-    ensures cells { λ r. ⌜ now (cells .exit) ≡ readCells (readInput (now (bytes .entry)) (length (now (cells .entry))) (length (now (points .entry)))) (now (cells .entry)) ⌝ }
-    ensures points { λ r. ⌜ now (points .exit) ≡ readPoints (readInput (now (bytes .entry)) (length (now (cells .entry))) (length (now (points .entry)))) (now (points .entry)) ⌝ }
+    ensures answer { λ r. ⌜ headerOutcome r
+        ≡ readOutcome (readInput (now (bytes .entry)) (length (now (cells .entry))) (length (now (points .entry)))) ⌝ }
+    ensures cells { λ r. ⌜ now (cells .exit)
+        ≡ readCells (readInput (now (bytes .entry)) (length (now (cells .entry))) (length (now (points .entry)))) (now (cells .entry)) ⌝ }
+    ensures points { λ r. ⌜ now (points .exit)
+        ≡ readPoints (readInput (now (bytes .entry)) (length (now (cells .entry))) (length (now (points .entry)))) (now (points .entry)) ⌝ }
 {
     if numbers::not_ours(bytes) {
         return ReadAnswer::Refused(Refusal::NotOurs);

@@ -15,7 +15,7 @@ use Rattle.words.specs.Records.{part}
 use Rattle.words.proofs.Records.{tabulate-at}
 use Rattle.simplex.specs.SignWords.{signOf}
 use Rattle.records.specs.Layout.{Entry, empty, listSize, recordSize, vertexPlace, wingPlace, tableLength, entryOf, entryIn, entriesOf}
-use Rattle.records.specs.Inside.{signIn, vertexIn, wingIn}
+use Rattle.records.specs.Inner.Inside.{signIn, vertexIn, wingIn}
 use Rattle.records.proofs.Parts.{part-long, default-free}
 
 module _ (d : ℕ) (P : List ℕ) (long : length P ≡ recordSize d) where

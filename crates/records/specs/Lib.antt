@@ -1,3 +1,3 @@
 -- Lists of cells, tables and faces as words.
 pub mod Layout
-pub mod Inside
+pub mod Inner

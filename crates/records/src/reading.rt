@@ -5,7 +5,7 @@ ghost use Prim.Native.Nat.{_≤_, _<_};
 ghost use lib.ListN.{getD};
 ghost use Rattle.words.specs.Records.{part};
 ghost use Rattle.records.specs.Layout.{recordSize};
-ghost use Rattle.records.specs.Inside.{Inside, signIn, vertexIn, wingIn};
+ghost use Rattle.records.specs.Inner.Inside.{Inside, signIn, vertexIn, wingIn};
 
 // Word j of record p.
 fn word(d: usize, s: usize, table: &[u16], p: usize, j: usize) -> u16

@@ -9,7 +9,8 @@ use mathlib.Core.Bool.{true, false, not, _&&_}
 use Prim.Native.Nat.{ℕ, _≤_}
 use lib.Dec.{leb}
 use borrow.Author.Tests.{leb-true, not-false}
-use Rattle.rules.specs.Limits.{maxDimension, maxSource, maxAxes, maxVertices, maxCells, maxSteps, within, axesOk, verticesOk, cellsOk, sizesOk, stepsOk}
+use Rattle.rules.specs.Limits.{maxDimension, maxSource, maxAxes, maxVertices, maxCells, maxSteps, within, axesOk, verticesOk, cellsOk, sizesOk}
+use Rattle.rules.specs.Limits.{stepsOk}
 use Rattle.rules.specs.Shapes.{shapeOk}
 use Rattle.rules.proofs.Tests.{and-parts}
 

@@ -9,7 +9,7 @@ use Rattle.rules.specs.Calls.{accepted}
 use Rattle.rules.proofs.Accepting.{accepted-by}
 use Rattle.records.specs.Layout.{tableLength}
 use Rattle.sweep.specs.Sweep.{sweepInput, sweepOutcome, sweepRules, sweptWords, sweptLength}
-use Rattle.sweeping.specs.Written.{allWords}
+use Rattle.sweeping.specs.Inner.Written.{allWords}
 use Rattle.sweeping.proofs.SweptWords.{all-words, all-long}
 
 module _ (d v s h : ℕ) (ws : List ℕ) where
@@ -21,7 +21,8 @@ module _ (d v s h : ℕ) (ws : List ℕ) where
   call-long long room = all-long d v s h ws long
 
 -- an accepted call answers their count
-pub swept-long : (d v s h : ℕ) (ws : List ℕ) (x k : ℕ) → sweepOutcome (sweepInput d v s h ws x) ≡ accepted k → k ≡ length (sweptWords (sweepInput d v s h ws x))
+pub swept-long : (d v s h : ℕ) (ws : List ℕ) (x k : ℕ) →
+    sweepOutcome (sweepInput d v s h ws x) ≡ accepted k → k ≡ length (sweptWords (sweepInput d v s h ws x))
 unfolding sweepOutcome sweepRules
 swept-long d v s h ws x k e =
     let by = accepted-by sweepRules sweptLength (sweepInput d v s h ws x) k refl e in

@@ -2,7 +2,7 @@
 use mathlib.Core.Path.{_≡_, refl}
 use mathlib.Core.List.{[], _∷_}
 use Rattle.rules.specs.Calls.{refused}
-use Rattle.complex.proofs.Computing.{computing}
+use Rattle.solids.proofs.Computing.{computing}
 use Rattle.sweep.specs.Sweep.{sweepInput, sweptWords, sweepRules, sweepOutcome, sweepBuffer}
 
 -- dimension 7, and no words

@@ -10,7 +10,7 @@ use borrow.Author.Tests.{ltb-false}
 use Rattle.rules.specs.Calls.{accepted, refused, written}
 use Rattle.rules.specs.Limits.{maxVertices, maxCells, sweptVertices}
 use Rattle.rules.proofs.Refusing.{First, None, refused-first, accepted-none, kept, put}
-use Rattle.complex.proofs.Tests.{or-false}
+use Rattle.solids.proofs.Tests.{or-false}
 use Rattle.prism.specs.Swept.{sweptCells}
 use Rattle.sweep.specs.Sweep.{SweepInput, sweptLength, sweptWords, sweepRules, sweepOutcome, sweepBuffer}
 

@@ -12,7 +12,7 @@ use Rattle.rules.specs.Limits.{maxSource, maxVertices, maxCells, stepsOk, swept
 use Rattle.rules.specs.Shapes.{shapeOk}
 use Rattle.rules.specs.Calls.{Rule, refuse, noRoom, Outcome, decide, after}
 use Rattle.records.specs.Layout.{entriesOf, tableWords, tableLength}
-use Rattle.complex.specs.Table.{sound}
+use Rattle.solids.specs.Table.{sound}
 use Rattle.prism.specs.Swept.{sweptTable, sweptCells}
 
 pub record SweepInput : Type 0 where

@@ -6,13 +6,13 @@ ghost use Rattle.sweep.specs.Sweep.{sweepOutcome, sweepBuffer, sweepInpu
 use crate::limits::in_limits;
 use crate::limits::swept_words;
 use crate::limits::too_large;
-use adjacency::sound::is_sound;
 use records::sizes::table_words;
 use rules::compare::differ;
 use rules::compare::less;
 use rules::refusal::Answer;
 use rules::refusal::Refusal;
 use sweeping::writing::write_swept;
+use tables::sound::is_sound;
 
 pub mod limits;
 

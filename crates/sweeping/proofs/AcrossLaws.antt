@@ -15,8 +15,8 @@ use Rattle.records.specs.Layout.{empty}
 use Rattle.prism.specs.Sides.{sidePair, sideFace, sidePlace}
 use Rattle.sweeping.specs.SideTable.{sidePairOf}
 use Rattle.prism.specs.Wings.{cellNumber, backTo, wingAside, wingAbove, wingBelow, sweptWing}
-use Rattle.sweeping.specs.Written.{solidWing, Ready}
-use Rattle.sweeping.specs.Across.{SidesFit, Across, sideCell, sideWord, wingWord}
+use Rattle.sweeping.specs.Inner.Written.{solidWing, Ready}
+use Rattle.sweeping.specs.Inner.Across.{SidesFit, Across, sideCell, sideWord, wingWord}
 use Rattle.sweeping.proofs.Bounds.{number-inside}
 use Rattle.prism.proofs.SideLaws.{side-of-position, side-bounds}
 use Rattle.sweeping.proofs.WingWords.{pair-cell}

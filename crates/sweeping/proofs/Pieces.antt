@@ -12,10 +12,10 @@ use native.Mathlib.Omega.{arith}
 use lib.ListN.{length, take, drop, getD, set, length-drop}
 use lib.Seq.{length-take-le, getD-take, getD-drop, take-add, ext-getD, getD-set-same, getD-set-other}
 use Rattle.words.specs.Records.{tabulate}
-use Rattle.words.specs.Placed.{placed}
+use Rattle.words.specs.Inner.Placed.{placed}
 use Rattle.words.proofs.Records.{tabulate-at, tabulate-length}
 use Rattle.words.proofs.Placed.{placed-none, placed-then, placed-word}
-use Rattle.sweeping.specs.Across.{Holds}
+use Rattle.sweeping.specs.Inner.Across.{Holds}
 
 pub placed-start : (at x : ℕ) (xs buf : List ℕ) → 0 < length xs → at + length xs ≤ length buf →
     x ≡ getD xs 0 0 → set buf at x ≡ placed at (take 1 xs) buf

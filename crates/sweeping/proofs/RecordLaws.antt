@@ -17,14 +17,14 @@ use Rattle.words.specs.Records.{part, tabulate}
 use Rattle.words.proofs.Records.{tabulate-at, tabulate-length}
 use Rattle.simplex.specs.Cell.{Cell, Row, times, alternating}
 use Rattle.simplex.specs.SignWords.{signOf, signWord}
-use Rattle.records.specs.Inside.{signIn}
+use Rattle.records.specs.Inner.Inside.{signIn}
 use Rattle.records.specs.Layout.{Entry, recordSize, listSize, tableLength, cellWords}
-use Rattle.complex.specs.Table.{entryAt}
+use Rattle.solids.specs.Table.{entryAt}
 use Rattle.prism.specs.Cells.{atLevel, lifted, dimension, prismCell}
 use Rattle.prism.specs.Wings.{sweptWing}
-use Rattle.sweeping.specs.Written.{solidEntries, solidWing, solidVertex, recordWords}
+use Rattle.sweeping.specs.Inner.Written.{solidEntries, solidWing, solidVertex, recordWords}
 use Rattle.simplex.specs.SignWords.{turnedSign}
-use Rattle.sweeping.specs.RecordWords.{sweptVertex, liftedFrom}
+use Rattle.sweeping.specs.Inner.RecordWords.{sweptVertex, liftedFrom}
 use Rattle.sweeping.proofs.TableWords.{solid-entry, solid-row-long}
 
 map-at : (f : ℕ → ℕ) (xs : List ℕ) (i : ℕ) → i < length xs → getD (map f xs) i 0 ≡ f (getD xs i 0)

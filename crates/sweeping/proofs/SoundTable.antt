@@ -21,17 +21,17 @@ use Rattle.simplex.specs.Cell.{Cell, Row, sameRow}
 use Rattle.simplex.specs.Order.{ascending}
 use Rattle.simplex.proofs.Counts.{All}
 use Rattle.simplex.proofs.Rows.{Below, Good, Long, sameRow-true}
-use Rattle.complex.specs.Accept.{Listed, acceptable, solidOf, listedCells}
+use Rattle.solids.specs.Accept.{Listed, acceptable, solidOf, listedCells}
 use Rattle.records.specs.Layout.{empty, Entry, cellOf, entriesOf, listSize, ownList, recordSize, tableLength, tableWords}
-use Rattle.complex.specs.Table.{entryAt, listed, ownTable, sound, tableOf, tableOfList, wingAt}
-use Rattle.complex.proofs.Accepted.{accepted-solid}
-use Rattle.complex.proofs.OwnTable.{entries-of-words}
-use Rattle.complex.proofs.Solid.{Solid, all-at, rowAt}
-use Rattle.complex.proofs.Symmetric.{wing, wings-symmetric}
-use Rattle.complex.proofs.Tables.{table-at, table-wing}
+use Rattle.solids.specs.Table.{entryAt, ownListed, ownTable, sound, tableOf, tableOfList, wingAt}
+use Rattle.solids.proofs.Accepted.{accepted-solid}
+use Rattle.solids.proofs.OwnTable.{entries-of-words}
+use Rattle.solids.proofs.Solid.{Solid, all-at, rowAt}
+use Rattle.solids.proofs.Symmetric.{wing, wings-symmetric}
+use Rattle.solids.proofs.Tables.{table-at, table-wing}
 use Rattle.prism.specs.Swept.{sweptCells}
 use Rattle.prism.specs.Wings.{backTo}
-use Rattle.sweeping.specs.Written.{solidEntries, solidVertex, solidWing, Ready}
+use Rattle.sweeping.specs.Inner.Written.{solidEntries, solidVertex, solidWing, Ready}
 use Rattle.words.proofs.Placed.{concat-tabulate-length}
 use Rattle.prism.proofs.SweptWings.{back-is}
 use Rattle.records.proofs.Parts.{part-long}
@@ -46,7 +46,7 @@ pub record TableOf (d v s : ℕ) (ws : List ℕ) (cs : List Cell) : Type 0 where
   pub entries : entriesOf d s ws ≡ tableOf cs
 
 pub cellsIn : ℕ → ℕ → ℕ → List ℕ → List Cell
-cellsIn d v s ws = solidOf (listed d v s ws)
+cellsIn d v s ws = solidOf (ownListed d v s ws)
 
 own-long : (d s : ℕ) (ws : List ℕ) → length ws ≡ tableLength d s → length (ownList d s ws) ≡ s * listSize d
 own-long d s ws e =
@@ -56,7 +56,7 @@ own-long d s ws e =
 count-is : (d v s : ℕ) (ws : List ℕ) → length (cellsIn d v s ws) ≡ s
 unfolding cellsIn
 count-is d v s ws =
-    length-map (listedCells (listed d v s ws)) ascending ∙ tabulate-length s (λ p. cellOf (part (listSize d) p (ownList d s ws)))
+    length-map (listedCells (ownListed d v s ws)) ascending ∙ tabulate-length s (λ p. cellOf (part (listSize d) p (ownList d s ws)))
 
 pub sound-solid : (d v s : ℕ) (ws : List ℕ) → sound d v s ws ≡ true → TableOf d v s ws (cellsIn d v s ws)
 unfolding sound ownTable tableOfList cellsIn
@@ -64,7 +64,7 @@ sound-solid d v s ws e =
     record { solid = solid .0; rows = solid .1; count = count-is d v s ws; small = cells-small; long = long; entries = entries }
   where
     l : Listed
-    l = listed d v s ws
+    l = ownListed d v s ws
 
     cs : List Cell
     cs = solidOf l

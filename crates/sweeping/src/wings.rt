@@ -2,12 +2,12 @@
 ghost use mathlib.Core.Path.{_≡_};
 ghost use Prim.Native.Nat.{suc, _<_, _≤_};
 ghost use lib.ListN.{length};
-ghost use Rattle.records.specs.Inside.{Inside};
+ghost use Rattle.records.specs.Inner.Inside.{Inside};
 ghost use Rattle.rules.specs.Limits.{maxCells};
 ghost use Rattle.prism.specs.Swept.{sweptCells};
-ghost use Rattle.sweeping.specs.Across.{Holds, faceRow, faceFirst, sideCell};
+ghost use Rattle.sweeping.specs.Inner.Across.{Holds, faceRow, faceFirst, sideCell};
 ghost use Rattle.prism.specs.Wings.{cellNumber, backTo, wingAbove, wingBelow};
-ghost use Rattle.sweeping.specs.Written.{solidWing, Ready};
+ghost use Rattle.sweeping.specs.Inner.Written.{solidWing, Ready};
 use crate::reading::wide;
 use crate::reading::wing;
 use crate::sides::side_pair;

@@ -1,7 +1,7 @@
 -- One name that opens every definition, so that an example is proved by computing both sides.
 use lib.Count.{trailingZeros}
 use lib.Ieee.{eq}
-use Rattle.complex.proofs.Computing.{computing as solids-computing}
+use Rattle.solids.proofs.Computing.{computing as solids-computing}
 use Rattle.wing.specs.Wing.{wingRules, wingOutcome, wingBuffer}
 use Rattle.prism.specs.Sides.{allSides}
 use Rattle.sweep.specs.Sweep.{sweepRules, sweptWords, sweepOutcome, sweepBuffer}
@@ -13,10 +13,10 @@ use Rattle.file.specs.Tests.{fileWords}
 use Rattle.read.specs.Read.{readRules, headerOf, readOutcome, readCells, readPoints}
 use Rattle.printing.specs.Decimal.{digits, thousandths, coordinate}
 use Rattle.listing.specs.Lines.{firstLine, vertexLine, faceLine, keyText}
-use Rattle.list.specs.Listing.{listText, listRules, listOutcome, listBuffer}
+use Rattle.list.specs.List.{listText, listRules, listOutcome, listBuffer}
 use Rattle.winged.specs.Host.{hostWingOutcome, hostWing, hostWingBuffer, hostSweepOutcome, hostSweep, hostSweepBuffer, hostFacesOutcome, hostFaces}
 use Rattle.winged.specs.Host.{hostFacesBuffer}
-use Rattle.marking.specs.Key.{keyOutcome, printed}
+use Rattle.page.specs.Key.{keyOutcome, printed}
 
 unfoldable pub computing : Unit {0}
 unfolding eq solids-computing points-computing wingRules wingOutcome wingBuffer allSides sweepRules sweptWords sweepOutcome sweepBuffer boundaryCells

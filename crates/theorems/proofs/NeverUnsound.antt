@@ -19,21 +19,21 @@ use Rattle.rules.specs.Shapes.{shapeOk}
 use Rattle.rules.specs.Calls.{Rule, firstRefusal, Outcome, accepted, refused, outcome, decide}
 use Rattle.rules.proofs.Accepting.{accepted-by}
 use Rattle.simplex.specs.Order.{ascending}
-use Rattle.complex.specs.Accept.{listedCells, solidOf, solidRules}
-use Rattle.records.specs.Layout.{cellOf, listSize, tableLength, tableWords}
-use Rattle.complex.specs.Table.{sound, tableOf, tableOfList}
+use Rattle.solids.specs.Accept.{listedCells, solidOf, solidRules}
+use Rattle.records.specs.Layout.{spelled, listSize, tableLength, tableWords}
+use Rattle.solids.specs.Table.{sound, tableOf, tableOfList}
 use Rattle.wing.specs.Wing.{WingInput, wingInput, wingOutcome, wingBuffer, wingRules}
-use Rattle.complex.proofs.Accepted.{accepted-solid}
-use Rattle.complex.proofs.OwnTable.{table-sound}
+use Rattle.solids.proofs.Accepted.{accepted-solid}
+use Rattle.solids.proofs.OwnTable.{table-sound}
 use Rattle.prism.specs.Swept.{sweptCells}
 use Rattle.sweep.specs.Sweep.{SweepInput, sweepOutcome, sweepBuffer, sweepRules, sweptLength, sweptWords, sweepInput}
 use Rattle.motion.specs.Move.{MoveInput, moveOutcome, moveRules, movedLength}
 use Rattle.read.specs.declared.Header.{Header}
 use Rattle.file.specs.Tests.{fileWords}
 use Rattle.read.specs.Read.{ReadInput, headerOf, readOutcome, readRules}
-use Rattle.list.specs.Listing.{ListInput, listText, listOutcome, listRules}
-use Rattle.marking.specs.Key.{inputLimit, wordRoom, thenCall, readIn, wingIn, sweepIn, moveIn, listIn, callsOn, keyOutcome}
-use Rattle.marking.proofs.Staged.{winged-front, swept-front}
+use Rattle.list.specs.List.{ListInput, listText, listOutcome, listRules}
+use Rattle.page.specs.Key.{inputLimit, wordRoom, thenCall, readIn, wingIn, sweepIn, moveIn, listIn, callsOn, keyOutcome}
+use Rattle.page.proofs.Staged.{winged-front, swept-front}
 use Rattle.third_term.specs.ThirdTerm.{Sitting, Unrefused, toWing, toSweep, tableWritten, sweptWritten}
 use Rattle.third_term.proofs.Acceptance.{winged-is}
 use Rattle.third_term.proofs.Run.{swept-sound}
@@ -96,7 +96,7 @@ wing-sound i n e =
     let facts = winged-is i n e in
     let solid = accepted-solid l (facts .size) (facts .cells) in
     let count : length (solidOf l) ≡ l .s =
-    length-map (listedCells l) ascending ∙ tabulate-length (l .s) (λ p. cellOf (part (listSize (l .d)) p (l .words))) in
+    length-map (listedCells l) ascending ∙ tabulate-length (l .s) (λ p. spelled (part (listSize (l .d)) p (l .words))) in
     ap (λ k. sound (l .d) (l .v) k (tableWords (tableOf (solidOf l)))) (sym count)
     ∙ table-sound (l .d) (l .v) (solidOf l) (solid .0) (solid .1) (ap (shapeOk maxDimension (l .d) (l .v)) count ∙ facts .shape)
 
@@ -151,7 +151,7 @@ calls-never b x =
     never-then (listOutcome (listIn b x)) _ 14
     (list-never (listIn b x)
     (sweep-sound (x .d) (x .v) (x .s) (x .h) (fileWords b) (replicate wordRoom 0) (length-replicate {A = ℕ} wordRoom 0) n k winged swept))
-    (λ j listed e. let z : _≡_ {A = ℕ} 0 1 = cc in omega arith))))
+    (λ j listOf e. let z : _≡_ {A = ℕ} 0 1 = cc in omega arith))))
 
 pub never-unsound : NeverUnsound
 unfolding keyOutcome

@@ -8,9 +8,9 @@ use mathlib.Core.List.{List, [], _∷_}
 use Prim.Native.Nat.{ℕ}
 use Rattle.simplex.specs.Cell.{Row, cell}
 use Rattle.records.specs.Layout.{empty, Entry, entriesOf, tableWords}
-use Rattle.complex.specs.Accept.{Listed}
+use Rattle.solids.specs.Accept.{Listed}
 use Rattle.sweep.specs.Sweep.{SweepInput, sweptWords}
-use Rattle.theorems.specs.Shorthand.{cellOf, listed, sweptEntries, ample}
+use Rattle.theorems.specs.Shorthand.{spelled, listOf, sweptEntries, ample}
 
 abbrev pub o : ℕ
 o = empty
@@ -23,7 +23,7 @@ minus w ws = record { cell = cell false w; wings = ws }
 
 -- +(A C B) and +(C D E)
 abbrev pub figure3 : Listed
-figure3 = listed 2 5 (cellOf "+012" ∷ cellOf "+134" ∷ [])
+figure3 = listOf 2 5 (spelled "+012" ∷ spelled "+134" ∷ [])
 
 abbrev pub figure4 : List Entry
 figure4 =

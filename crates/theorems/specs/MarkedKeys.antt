@@ -7,8 +7,8 @@ use lib.Ieee.{binary64, ofBits}
 use Rattle.words.specs.Text.{ascii}
 use Rattle.rules.specs.Calls.{Outcome, accepted, refused}
 use Rattle.simplex.specs.Order.{ascending}
-use Rattle.complex.specs.Accept.{Listed}
-use Rattle.complex.specs.Table.{wingAt}
+use Rattle.solids.specs.Accept.{Listed}
+use Rattle.solids.specs.Table.{wingAt}
 use Rattle.wing.specs.Wing.{wingOutcome}
 use Rattle.prism.specs.Sides.{side, sidePair}
 use Rattle.sweep.specs.Sweep.{sweepOutcome}
@@ -16,8 +16,8 @@ use Rattle.boundary.specs.Faces.{facesOutcome, boundaryCells}
 use Rattle.points.specs.declared.step.Step.the-variants as S
 use Rattle.motion.specs.Move.{MoveInput, moveInput, moveOutcome}
 use Rattle.printing.specs.Decimal.{coordinate}
-use Rattle.marking.specs.Key.{printed}
-use Rattle.theorems.specs.Shorthand.{cellOf, entry, listed, toWing, swept, sweptEntries, facesOfSwept, one, ample}
+use Rattle.page.specs.Key.{printed}
+use Rattle.theorems.specs.Shorthand.{spelled, entry, listOf, toWing, swept, sweptEntries, facesOfSwept, one, ample}
 
 -- d 0, n 1, V 1, S 1, h 1, slide on axis 0 by 1.0, point 0.5, cell plus 0
 abbrev pub k1File : List ℕ
@@ -30,20 +30,20 @@ k1File =
     ++ (43 ∷ 0 ∷ 0 ∷ [])
 
 abbrev pub k2Solid : Listed
-k2Solid = listed 2 4 (cellOf "+012" ∷ cellOf "-123" ∷ [])
+k2Solid = listOf 2 4 (spelled "+012" ∷ spelled "-123" ∷ [])
 
 abbrev pub point : Listed
-point = listed 0 1 (cellOf "+0" ∷ [])
+point = listOf 0 1 (spelled "+0" ∷ [])
 
 abbrev pub segment : Listed
-segment = listed 1 2 (cellOf "+01" ∷ [])
+segment = listOf 1 2 (spelled "+01" ∷ [])
 
 abbrev pub k8Solid : Listed
-k8Solid = listed 4 6 (cellOf "+01234" ∷ cellOf "-12345" ∷ [])
+k8Solid = listOf 4 6 (spelled "+01234" ∷ spelled "-12345" ∷ [])
 
 -- one point among v vertices
 abbrev pub pointAmong : ℕ → Listed
-pointAmong v = listed 0 v (cellOf "+0" ∷ [])
+pointAmong v = listOf 0 v (spelled "+0" ∷ [])
 
 -- v points of one axis at 0.0, slid by 1.0 in h steps
 abbrev pub zerosSlid : ℕ → ℕ → MoveInput
@@ -67,8 +67,8 @@ K2-cells =
 abbrev pub K2-faces : Type 0
 K2-faces =
     boundaryCells (facesOfSwept 1 k2Solid)
-    ≡ cellOf "-024" ∷ cellOf "+014" ∷ cellOf "-012" ∷ cellOf "-145" ∷ cellOf "+456" ∷ cellOf "+246" ∷ cellOf "+135" ∷ cellOf "+123"
-    ∷ cellOf "-236" ∷ cellOf "-567" ∷ cellOf "+367" ∷ cellOf "-357" ∷ []
+    ≡ spelled "-024" ∷ spelled "+014" ∷ spelled "-012" ∷ spelled "-145" ∷ spelled "+456" ∷ spelled "+246" ∷ spelled "+135" ∷ spelled "+123"
+    ∷ spelled "-236" ∷ spelled "-567" ∷ spelled "+367" ∷ spelled "-357" ∷ []
 
 abbrev pub K2-calls : Type 0
 K2-calls =
@@ -79,16 +79,16 @@ abbrev pub K3-cells : Type 0
 K3-cells = sweptEntries 3 point ≡ entry "+01" "1." ∷ entry "+12" "20" ∷ entry "+23" ".1" ∷ []
 
 abbrev pub K3-faces : Type 0
-K3-faces = boundaryCells (facesOfSwept 3 point) ≡ cellOf "-0" ∷ cellOf "+3" ∷ []
+K3-faces = boundaryCells (facesOfSwept 3 point) ≡ spelled "-0" ∷ spelled "+3" ∷ []
 
 abbrev pub K4 : Type 0
-K4 = ascending (cellOf "+210") ≡ cellOf "-012"
+K4 = ascending (spelled "+210") ≡ spelled "-012"
 
 abbrev pub K5-cells : Type 0
 K5-cells = sweptEntries 1 segment ≡ entry "+012" "1.." ∷ entry "-123" "..0" ∷ []
 
 abbrev pub K5-faces : Type 0
-K5-faces = boundaryCells (facesOfSwept 1 segment) ≡ cellOf "-02" ∷ cellOf "+01" ∷ cellOf "-23" ∷ cellOf "+13" ∷ []
+K5-faces = boundaryCells (facesOfSwept 1 segment) ≡ spelled "-02" ∷ spelled "+01" ∷ spelled "-23" ∷ spelled "+13" ∷ []
 
 -- 0.0625, -0.0625 and -0.0001 by their bits
 abbrev pub K6 : Type 0
@@ -109,7 +109,7 @@ K9 =
     × (moveOutcome k9Most ≡ accepted 4096) × (moveOutcome k9Over ≡ refused 12)
 
 abbrev pub K10 : Type 0
-K10 = wingOutcome (toWing (listed 2 4 (cellOf "+012" ∷ cellOf "+123" ∷ []))) ≡ refused 11
+K10 = wingOutcome (toWing (listOf 2 4 (spelled "+012" ∷ spelled "+123" ∷ []))) ≡ refused 11
 
 -- all of them
 pub record MarkedKeys : Type 0 where

@@ -3,7 +3,7 @@ use mathlib.Core.Path.{_≡_}
 use mathlib.Core.List.{List}
 use Prim.Native.Nat.{ℕ}
 use Rattle.rules.specs.Calls.{refused}
-use Rattle.marking.specs.Key.{keyOutcome}
+use Rattle.page.specs.Key.{keyOutcome}
 
 abbrev pub NeverUnsound : Type 0
 NeverUnsound = (b : List ℕ) → keyOutcome b ≡ refused 14 → ⊥

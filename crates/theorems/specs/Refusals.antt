@@ -12,7 +12,7 @@ use Rattle.points.specs.declared.step.Step.{Step}
 use Rattle.points.specs.declared.step.Step.the-variants as S
 use Rattle.motion.specs.Move.{MoveInput, moveOutcome}
 use Rattle.read.specs.Read.{ReadInput, readOutcome, headerOf}
-use Rattle.theorems.specs.Shorthand.{cellOf, listed, toWing, one, ample}
+use Rattle.theorems.specs.Shorthand.{spelled, listOf, toWing, one, ample}
 use Rattle.theorems.specs.MarkedKeys.{k1File}
 
 abbrev pub read : List ℕ → ReadInput
@@ -53,11 +53,11 @@ pub record Refusals : Type 0 where
   pub row4 : readOutcome (read (set (set k1File 46 48) 47 65)) ≡ refused 4
   pub row5 : (moveOutcome (moved (S.Slide 3 one)) ≡ refused 5) × (moveOutcome (moved (S.Slide 2 one)) ≡ accepted 6)
   pub row6 : (readOutcome (read (set k1File 48 42)) ≡ refused 6) × (readOutcome (read k1File) ≡ accepted (headerOf k1File))
-  pub row7 : wingOutcome (toWing (listed 2 3 (cellOf "+013" ∷ []))) ≡ refused 7
-  pub row8 : wingOutcome (toWing (listed 2 3 (cellOf "+011" ∷ []))) ≡ refused 8
-  pub row9 : wingOutcome (toWing (listed 2 3 (cellOf "+012" ∷ cellOf "-210" ∷ []))) ≡ refused 9
-  pub row10 : wingOutcome (toWing (listed 2 5 (cellOf "+012" ∷ cellOf "+013" ∷ cellOf "+014" ∷ []))) ≡ refused 10
-  pub row11 : wingOutcome (toWing (listed 2 4 (cellOf "+012" ∷ cellOf "+123" ∷ []))) ≡ refused 11
+  pub row7 : wingOutcome (toWing (listOf 2 3 (spelled "+013" ∷ []))) ≡ refused 7
+  pub row8 : wingOutcome (toWing (listOf 2 3 (spelled "+011" ∷ []))) ≡ refused 8
+  pub row9 : wingOutcome (toWing (listOf 2 3 (spelled "+012" ∷ spelled "-210" ∷ []))) ≡ refused 9
+  pub row10 : wingOutcome (toWing (listOf 2 5 (spelled "+012" ∷ spelled "+013" ∷ spelled "+014" ∷ []))) ≡ refused 10
+  pub row11 : wingOutcome (toWing (listOf 2 4 (spelled "+012" ∷ spelled "+123" ∷ []))) ≡ refused 11
   pub row12 : sweepOutcome (trianglesInSteps 1000 2) ≡ refused 12
   pub row13 : moveOutcome (slid large) ≡ refused 13
   pub row14 : (facesOutcome (triangle 0) ≡ refused 14) × (facesOutcome (triangle 65535) ≡ accepted 3)

@@ -1,7 +1,7 @@
 -- Short forms in which the examples are written.
---   cellOf "+0124"        a sign and a row of vertices below 10
+--   spelled "+0124"        a sign and a row of vertices below 10
 --   entry "+0124" "1..."  a table entry: a cell and its wings, a point for the empty wing
---   listed d v cs         a list of cells as wing takes it
+--   listOf d v cs         a list of cells as wing takes it
 --   swept h l             what sweep takes: the table that wing writes for the list, and h steps
 --   sweptEntries h l      the entries of the swept table
 --   facesOfSwept h l      what faces takes: the swept table
@@ -17,8 +17,8 @@ use Rattle.words.specs.Text.{ascii}
 use Rattle.rules.specs.Limits.{sweptVertices}
 use Rattle.simplex.specs.Cell.{Cell, Row, cell}
 use Rattle.records.specs.Layout.{empty, Entry, cellWords, entriesOf}
-use Rattle.complex.specs.Accept.{Listed}
-use Rattle.complex.specs.Table.{tableOfList}
+use Rattle.solids.specs.Accept.{Listed}
+use Rattle.solids.specs.Table.{tableOfList}
 use Rattle.wing.specs.Wing.{WingInput}
 use Rattle.prism.specs.Swept.{sweptCells}
 use Rattle.sweep.specs.Sweep.{SweepInput, sweptWords}
@@ -28,14 +28,14 @@ use Rattle.boundary.specs.Faces.{FacesInput}
 abbrev pub shown : ℕ → ℕ
 shown x = cond (eqb x 46) empty (x - 48)
 
-abbrev pub cellOf : String → Cell
-cellOf t = cell (eqb (getD (ascii t) 0 0) 43) (map shown (drop 1 (ascii t)))
+abbrev pub spelled : String → Cell
+spelled t = cell (eqb (getD (ascii t) 0 0) 43) (map shown (drop 1 (ascii t)))
 
 abbrev pub entry : String → String → Entry
-entry t ws = record { cell = cellOf t; wings = map shown (ascii ws) }
+entry t ws = record { cell = spelled t; wings = map shown (ascii ws) }
 
-abbrev pub listed : ℕ → ℕ → List Cell → Listed
-listed d v cs = record { d = d; v = v; s = length cs; words = concat (map cellWords cs) }
+abbrev pub listOf : ℕ → ℕ → List Cell → Listed
+listOf d v cs = record { d = d; v = v; s = length cs; words = concat (map cellWords cs) }
 
 -- 1.0 by its bits
 abbrev pub one : Float

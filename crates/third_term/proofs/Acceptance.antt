@@ -15,11 +15,11 @@ use Rattle.rules.proofs.Tests.{and-parts}
 use Rattle.simplex.specs.Cell.{cell}
 use Rattle.simplex.specs.Faces.{facets}
 use Rattle.simplex.specs.Order.{vertex}
-use Rattle.complex.specs.Accept.{acceptable, badSign, cellTwice, crowdedFace, equalSigns, listedCells, solidOf, solidRules, vertexBeyond, vertexTwice}
+use Rattle.solids.specs.Accept.{acceptable, badSign, cellTwice, crowdedFace, equalSigns, listedCells, solidOf, solidRules, vertexBeyond, vertexTwice}
 use Rattle.records.specs.Layout.{listSize, tableLength}
 use Rattle.wing.specs.Wing.{WingInput, wingOutcome, wingRules}
-use Rattle.complex.proofs.Accepted.{passes}
-use Rattle.complex.proofs.Tests.{or-false}
+use Rattle.solids.proofs.Accepted.{passes}
+use Rattle.solids.proofs.Tests.{or-false}
 use Rattle.prism.specs.Swept.{sweptCells}
 use Rattle.sweep.specs.Sweep.{SweepInput, sweepOutcome, sweepRules}
 

@@ -10,7 +10,7 @@ use Rattle.simplex.specs.Cell.{Cell}
 use Rattle.simplex.specs.Faces.{allFaces, facets, keep}
 use Rattle.simplex.proofs.Cancel.{lone-cancel, loneIn, sumChain-facets}
 use Rattle.simplex.proofs.Sums.{Functional, sumChain, sumChain-add, sumChain-allFaces, sumChain-append, sumChain-zero}
-use Rattle.complex.proofs.Solid.{Solid}
+use Rattle.solids.proofs.Solid.{Solid}
 use Rattle.prism.specs.Cells.{level, sweepOf}
 use Rattle.prism.proofs.Level.{atHeight, overPrism}
 use Rattle.prism.proofs.Pairs.{swept-paired}

@@ -13,7 +13,7 @@ use Rattle.simplex.proofs.Counts.{All}
 use Rattle.simplex.proofs.Rows.{Long}
 use Rattle.simplex.proofs.Signs.{not-not, times-comm}
 use Rattle.simplex.proofs.Sums.{Functional, plusOn, sumChain}
-use Rattle.complex.proofs.Solid.{Solid}
+use Rattle.solids.proofs.Solid.{Solid}
 use Rattle.prism.specs.Cells.{sweepOf, topCopy}
 use Rattle.prism.proofs.Level.{atHeight, raised}
 use Rattle.prism.proofs.Prism.{top}

@@ -17,8 +17,8 @@ use Rattle.simplex.proofs.Counts.{sumRows-countFaces-zero}
 use Rattle.simplex.proofs.Rows.{Below, Good, sameRow-true}
 use Rattle.simplex.proofs.Signs.{times-flip}
 use Rattle.simplex.proofs.Sums.{Functional, plusOn, sumChain, sumChain-allFaces, sumChain-append, sumChain-not, sumFaces}
-use Rattle.complex.proofs.Solid.{Solid}
-use Rattle.complex.proofs.Tests.{seen}
+use Rattle.solids.proofs.Solid.{Solid}
+use Rattle.solids.proofs.Tests.{seen}
 use Rattle.prism.specs.Cells.{sweepOf}
 use Rattle.prism.proofs.Decode.{levelIn, uppers}
 use Rattle.prism.proofs.FaceBounds.{lowerIn, upperIn}

@@ -7,7 +7,7 @@ use lib.IntN.{pos, negℤ}
 use lib.ListN.{replicate}
 use Rattle.rules.specs.Calls.{accepted}
 use Rattle.simplex.specs.Chain.{countOn, coefficient}
-use Rattle.complex.proofs.Computing.{computing}
+use Rattle.solids.proofs.Computing.{computing}
 use Rattle.wing.specs.Wing.{wingRules, wingOutcome, wingBuffer}
 use Rattle.sweep.specs.Sweep.{sweepRules, sweptWords, sweepOutcome, sweepBuffer}
 use Rattle.boundary.specs.Faces.{boundaryCells, facesRules, facesOutcome}

@@ -19,13 +19,13 @@ use Rattle.simplex.specs.Cell.{Cell}
 use Rattle.simplex.specs.Order.{ascending}
 use Rattle.simplex.proofs.Counts.{All}
 use Rattle.simplex.proofs.Rows.{Long}
-use Rattle.complex.specs.Accept.{listedCells}
+use Rattle.solids.specs.Accept.{listedCells}
 use Rattle.records.specs.Layout.{faceSize, empty, Entry, cellOf, entriesOf, listSize, tableLength, tableWords}
-use Rattle.complex.specs.Table.{sound, tableOf, tableOfList}
+use Rattle.solids.specs.Table.{sound, tableOf, tableOfList}
 use Rattle.wing.specs.Wing.{wingBuffer}
-use Rattle.complex.proofs.Accepted.{accepted-solid}
-use Rattle.complex.proofs.OwnTable.{entries-of-words, table-sound, words-length}
-use Rattle.complex.proofs.Solid.{Solid}
+use Rattle.solids.proofs.Accepted.{accepted-solid}
+use Rattle.solids.proofs.OwnTable.{entries-of-words, table-sound, words-length}
+use Rattle.solids.proofs.Solid.{Solid}
 use Rattle.prism.specs.Cells.{sweepOf}
 use Rattle.prism.specs.Swept.{sweptCells, sweptTable}
 use Rattle.sweep.specs.Sweep.{sweepBuffer, sweptLength, sweptWords}

@@ -12,8 +12,8 @@ use Rattle.simplex.specs.Faces.{allFaces, facets}
 use Rattle.simplex.proofs.Counts.{All}
 use Rattle.simplex.proofs.FaceCounts.{All-keep, allFaces-long}
 use Rattle.simplex.proofs.Rows.{Long}
-use Rattle.complex.proofs.Codec.{cells-back}
-use Rattle.complex.proofs.Tests.{count-sum}
+use Rattle.solids.proofs.Codec.{cells-back}
+use Rattle.solids.proofs.Tests.{count-sum}
 use Rattle.prism.specs.Cells.{sweepOf, topCopy}
 use Rattle.boundary.specs.Boundary.{ownBoundary}
 use Rattle.boundary.proofs.Lone.{lone-once}

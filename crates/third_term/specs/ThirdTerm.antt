@@ -19,7 +19,7 @@ use Rattle.rules.specs.Calls.{accepted, written}
 use Rattle.simplex.specs.Cell.{Row, Cell, alternating}
 use Rattle.simplex.specs.Chain.{total, Same, coefficient}
 use Rattle.records.specs.Layout.{faceSize, cellsOf, cellWords, entriesOf, tableLength}
-use Rattle.complex.specs.Accept.{Listed, solidOf}
+use Rattle.solids.specs.Accept.{Listed, solidOf}
 use Rattle.wing.specs.Wing.{WingInput, wingOutcome, wingBuffer}
 use Rattle.prism.specs.Cells.{sweepOf, topCopy}
 use Rattle.prism.specs.Swept.{sweptCells}

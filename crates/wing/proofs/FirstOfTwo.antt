@@ -1,9 +1,9 @@
--- Two faults at once: the first row that applies is told. For rows 6 to 11 see the file of this name in complex.
+-- Two faults at once: the first row that applies is told. For rows 6 to 11 see the file of this name in solids.
 -- A refused call leaves the lent words as they were.
 use mathlib.Core.Path.{_≡_, refl}
 use mathlib.Core.List.{[], _∷_}
 use Rattle.rules.specs.Calls.{refused}
-use Rattle.complex.proofs.Computing.{computing}
+use Rattle.solids.proofs.Computing.{computing}
 use Rattle.wing.specs.Wing.{wingInput, wingRules, wingOutcome, wingBuffer}
 
 -- dimension 8, and no words

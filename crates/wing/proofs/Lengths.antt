@@ -9,11 +9,11 @@ use Rattle.words.proofs.Records.{tabulate-length}
 use Rattle.rules.specs.Calls.{accepted}
 use Rattle.rules.proofs.Accepting.{accepted-by}
 use Rattle.simplex.specs.Order.{ascending}
-use Rattle.complex.specs.Accept.{Listed, listedCells, solidOf, solidRules}
+use Rattle.solids.specs.Accept.{Listed, listedCells, solidOf, solidRules}
 use Rattle.records.specs.Layout.{cellOf, listSize, tableLength}
-use Rattle.complex.specs.Table.{tableOfList}
-use Rattle.complex.proofs.Accepted.{accepted-solid, passes}
-use Rattle.complex.proofs.OwnTable as own
+use Rattle.solids.specs.Table.{tableOfList}
+use Rattle.solids.proofs.Accepted.{accepted-solid, passes}
+use Rattle.solids.proofs.OwnTable as own
 use Rattle.wing.specs.Wing.{wingLength, wingOutcome, wingRules}
 
 pub accepted-long : (l : Listed) (x k : ℕ) → wingOutcome (record { list = l; room = x }) ≡ accepted k → k ≡ length (tableOfList l)
@@ -34,5 +34,6 @@ accepted-long l x k e =
       equal = six .1 .1 .1 .1 .1 .0;
     }) in
     let solid = accepted-solid l words ok in
-    let count : length (solidOf l) ≡ l .s = length-map (listedCells l) ascending ∙ tabulate-length (l .s) (λ p. cellOf (part (listSize (l .d)) p (l .words))) in
+    let count : length (solidOf l) ≡ l .s =
+    length-map (listedCells l) ascending ∙ tabulate-length (l .s) (λ p. cellOf (part (listSize (l .d)) p (l .words))) in
     by .0 ∙ ap (tableLength (l .d)) (sym count) ∙ sym (own.words-length (l .d) (l .v) (solidOf l) (solid .0) (solid .1))

@@ -15,8 +15,8 @@ use Rattle.rules.specs.Limits.{maxDimension}
 use Rattle.rules.specs.Shapes.{shapeOk}
 use Rattle.rules.specs.Calls.{Rule, refuse, noRoom, onPart, Outcome, decide, after}
 use Rattle.records.specs.Layout.{listSize, tableLength}
-use Rattle.complex.specs.Accept.{Listed, solidRules}
-use Rattle.complex.specs.Table.{tableOfList}
+use Rattle.solids.specs.Accept.{Listed, solidRules}
+use Rattle.solids.specs.Table.{tableOfList}
 
 pub record WingInput : Type 0 where
   pub list : Listed

@@ -20,13 +20,13 @@ use Rattle.file.specs.Tests.{cellsLength}
 use Rattle.read.specs.declared.Header.{Header}
 use Rattle.read.specs.Read.{ReadInput, readInput, readRules, readOutcome, headerOf}
 use Rattle.read.proofs.Outcomes.{rooms-parts}
-use Rattle.list.specs.Listing.{ListInput, listOutcome}
+use Rattle.list.specs.List.{ListInput, listOutcome}
 use Rattle.hosting.specs.Lists.{byBytes, hostListInput, hostListOutcome}
 use Rattle.hosting.specs.Moves.{MoveTold, toldMove, hostMoveRules, hostMoveOutcome}
 use Rattle.hosting.specs.Reads.{wordCount, withHeader, hostReadOutcome}
-use Rattle.marking.specs.Key.{printed, textOutcome}
-use Rattle.marking.proofs.Staged.{list-long}
-use Rattle.winged.specs.Sent.{countOf}
+use Rattle.page.specs.Key.{printed, textOutcome}
+use Rattle.page.proofs.Staged.{list-long}
+use Rattle.winged.specs.Inner.Sent.{countOf}
 
 pub text-within : (b : List ℕ) (room : ℕ) → countOf (textOutcome b room) ≤ room
 unfolding textOutcome

@@ -4,7 +4,7 @@ use mathlib.Core.List.{[], _∷_}
 use lib.IntN.{pos}
 use lib.ListN.{replicate}
 use Rattle.rules.specs.Calls.{refused}
-use Rattle.complex.proofs.Computing.{computing}
+use Rattle.solids.proofs.Computing.{computing}
 use Rattle.wing.specs.Wing.{wingRules, wingOutcome}
 use Rattle.boundary.specs.Faces.{boundaryCells, facesRules, facesOutcome}
 use Rattle.winged.specs.Host.{hostWingOutcome, hostWingBuffer, hostFacesOutcome, hostFaces}

@@ -12,7 +12,7 @@ use Rattle.words.proofs.Loops.{drop-next}
 use Rattle.words.proofs.Writing.{Left, left-word}
 use Rattle.simplex.specs.Cell.{Cell}
 use Rattle.records.specs.Layout.{faceWords, facesWords}
-use Rattle.winged.specs.Sent.{facesBytes}
+use Rattle.winged.specs.Inner.Sent.{facesBytes}
 
 bytes-append : (xs ys : List ℕ) → bytesOf (xs ++ ys) ≡ bytesOf xs ++ bytesOf ys
 bytes-append [] ys = refl

@@ -17,7 +17,7 @@ use Rattle.records.specs.Layout.{faceSize, facesWords, tableLength}
 use Rattle.boundary.specs.Faces.{boundaryCells, facesRules, facesOutcome}
 use Rattle.boundary.proofs.Order.{refuses}
 use Rattle.winged.specs.Host.{hosted, hostAnswer, inWords, hostFacesInput, hostFacesOutcome, hostFaces, hostFacesBuffer}
-use Rattle.winged.specs.Sent.{facesIn, facesAnswer, facesAfter}
+use Rattle.winged.specs.Inner.Sent.{facesIn, facesAnswer, facesAfter}
 use Rattle.winged.proofs.Hosting.{hosted-right, hosted-wrong}
 
 -- the words of the faces
@@ -44,9 +44,11 @@ module _ (d v s : ℕ) (table out : List ℕ) where
       (hostAnswer (inWords d v s table out o) ≡ hostFaces d v s table out)
       × (after o (bytesOf (wordsFor d v s (words16 table) out)) out ≡ hostFacesBuffer d v s table out)
   unfolding hostFaces hostFacesBuffer
-  hosted-told o e = (ap (λ q. hostAnswer (inWords d v s table out q)) (sym e), ap (λ q. after q (bytesOf (wordsFor d v s (words16 table) out)) out) (sym e))
+  hosted-told o e =
+      (ap (λ q. hostAnswer (inWords d v s table out q)) (sym e), ap (λ q. after q (bytesOf (wordsFor d v s (words16 table) out)) out) (sym e))
 
-  host-refused : (n : ℕ) → hostFacesOutcome d v s table out ≡ refused n → (negℤ (pos n) ≡ hostFaces d v s table out) × (out ≡ hostFacesBuffer d v s table out)
+  host-refused : (n : ℕ) → hostFacesOutcome d v s table out ≡ refused n →
+      (negℤ (pos n) ≡ hostFaces d v s table out) × (out ≡ hostFacesBuffer d v s table out)
   host-refused n e = hosted-told (refused n) e
 
   outside : shapeOk maxDimension d v s ≡ false → hostFacesOutcome d v s table out ≡ refused 2

@@ -24,17 +24,18 @@ use Rattle.rules.specs.Limits.{maxCells, maxDimension, maxSource, maxSteps, max
 use Rattle.rules.specs.Shapes.{shapeOk}
 use Rattle.rules.specs.Calls.{Outcome, accepted, refused, after}
 use Rattle.rules.proofs.Tests.{and-parts}
-use Rattle.complex.specs.Accept.{solidRules}
+use Rattle.solids.specs.Accept.{solidRules}
 use Rattle.records.specs.Layout.{listSize, recordSize, tableLength}
-use Rattle.complex.specs.Table.{tableOfList}
+use Rattle.solids.specs.Table.{tableOfList}
 use Rattle.wing.specs.Wing.{WingInput, wingInput, wingOutcome, wingBuffer, wingRules}
 use Rattle.rules.proofs.InLimits.{limits-are, sweep-limits-are}
 use Rattle.wing.proofs.Order as wing
 use Rattle.prism.specs.Swept.{sweptCells}
 use Rattle.sweep.specs.Sweep.{SweepInput, sweepOutcome, sweepBuffer, sweepRules, sweptWords, sweepInput}
 use Rattle.sweep.proofs.Order as sweep
-use Rattle.winged.specs.Host.{hosted, hostAnswer, wordsIn, hostList, hostWing, hostWingOutcome, hostWingBuffer, hostSweepInput, hostSweep, hostSweepOutcome, hostSweepBuffer}
-use Rattle.winged.specs.Sent.{lesser, tableRoom, wingRead, sweepRead}
+use Rattle.winged.specs.Host.{hosted, hostAnswer, wordsIn, hostList, hostWing, hostWingOutcome, hostWingBuffer, hostSweepInput, hostSweep}
+use Rattle.winged.specs.Host.{hostSweepOutcome, hostSweepBuffer}
+use Rattle.winged.specs.Inner.Sent.{lesser, tableRoom, wingRead, sweepRead}
 use Rattle.winged.proofs.Hosting.{hosted-accepted, hosted-right, hosted-wrong}
 use Rattle.wing.proofs.Lengths.{accepted-long}
 use Rattle.sweep.proofs.CallWords.{swept-long}
@@ -84,7 +85,8 @@ unfolding wingOutcome wingRules solidRules
 wing-same d v s ws x = go (shapeOk maxDimension d v s) refl
   where
     go : (t : Bool) → shapeOk maxDimension d v s ≡ t → wingOutcome (wingInput d v s ws (lesser x tableRoom)) ≡ wingOutcome (wingInput d v s ws x)
-    go true e = let l = limits-are maxDimension d v s (ap not e) in rw (room-cut x tableRoom (tableLength d s) (table-fits d s (l .dimension) (l .cells))) refl
+    go true e = let l = limits-are maxDimension d v s (ap not e) in
+        rw (room-cut x tableRoom (tableLength d s) (table-fits d s (l .dimension) (l .cells))) refl
     go false e = rw e refl
 
 pub wing-room : (d v s : ℕ) (cells : List ℕ) (x : ℕ) → wingRead d v s cells (lesser x tableRoom) ≡ wingRead d v s cells x
@@ -136,7 +138,8 @@ module _ (d v s h : ℕ) (table : List ℕ) (x : ℕ) where
       sweep.refuses (sweepInput d v s h (words16 table) x) [] 12 (rw (ok, right, large)) .0 ∙ sweep-right e
 
   pub sweep-host : (out : List ℕ) (o : Outcome ℕ) → x ≡ wordsIn out → o ≡ sweepRead d v s h table x →
-      (hostAnswer o ≡ hostSweep d v s h table out) × (after o (bytesOf (sweptWords (hostSweepInput d v s h table out))) out ≡ hostSweepBuffer d v s h table out)
+      (hostAnswer o ≡ hostSweep d v s h table out)
+      × (after o (bytesOf (sweptWords (hostSweepInput d v s h table out))) out ≡ hostSweepBuffer d v s h table out)
   unfolding sweepRead hostSweep hostSweepOutcome hostSweepBuffer
   sweep-host out o room e =
       let q = e ∙ ap (λ y. hosted (shapeOk maxSource d v s && stepsOk h) table (sweepOutcome (sweepInput d v s h (words16 table) y))) room in
@@ -144,16 +147,19 @@ module _ (d v s h : ℕ) (table : List ℕ) (x : ℕ) where
 
 sweep-same : (d v s h : ℕ) (ws : List ℕ) (x : ℕ) → sweepOutcome (sweepInput d v s h ws (lesser x tableRoom)) ≡ sweepOutcome (sweepInput d v s h ws x)
 unfolding sweepOutcome sweepRules
-sweep-same d v s h ws x = go (shapeOk maxSource d v s && stepsOk h) refl ((ltb maxVertices (sweptVertices v h) || ltb maxCells (sweptCells d s h))) refl
+sweep-same d v s h ws x =
+    go (shapeOk maxSource d v s && stepsOk h) refl ((ltb maxVertices (sweptVertices v h) || ltb maxCells (sweptCells d s h))) refl
   where
-    go : (a : Bool) → (shapeOk maxSource d v s && stepsOk h) ≡ a → (b : Bool) → (ltb maxVertices (sweptVertices v h) || ltb maxCells (sweptCells d s h)) ≡ b →
+    go : (a : Bool) → (shapeOk maxSource d v s && stepsOk h) ≡ a → (b : Bool) →
+        (ltb maxVertices (sweptVertices v h) || ltb maxCells (sweptCells d s h)) ≡ b →
         sweepOutcome (sweepInput d v s h ws (lesser x tableRoom)) ≡ sweepOutcome (sweepInput d v s h ws x)
     go false e b f = rw e refl
     go true e true f = rw f refl
     go true e false f =
         let l = sweep-limits-are d v s h (ap not e) in
         let n = sweep.small d v s h f .1 in
-        rw (room-cut x tableRoom (tableLength (suc d) (sweptCells d s h)) (table-fits (suc d) (sweptCells d s h) (omega (arith, l .dimension)) n)) refl
+        rw (room-cut x tableRoom (tableLength (suc d) (sweptCells d s h)) (table-fits (suc d) (sweptCells d s h) (omega (arith, l .dimension)) n))
+        refl
 
 pub sweep-room : (d v s h : ℕ) (table : List ℕ) (x : ℕ) → sweepRead d v s h table (lesser x tableRoom) ≡ sweepRead d v s h table x
 unfolding sweepRead

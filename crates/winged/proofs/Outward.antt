@@ -18,7 +18,7 @@ use borrow.Author.Tests.{leb-true, leb-false, le-ltb}
 use Rattle.words.specs.Bytes.{bytesOf}
 use Rattle.words.proofs.Bytes.{bytes-length}
 use Rattle.rules.specs.Calls.{Outcome, accepted, refused, after}
-use Rattle.winged.specs.Sent.{lesser, tableRoom, countOf, sent}
+use Rattle.winged.specs.Inner.Sent.{lesser, tableRoom, countOf, sent}
 
 pub lesser-le : (a b : ℕ) → (lesser a b ≤ a) × (lesser a b ≤ b)
 lesser-le a b = go (leb a b) refl

@@ -13,9 +13,9 @@ use Rattle.words.specs.Bytes.{words16, bytesOf}
 use Rattle.rules.specs.Limits.{maxDimension, maxSource, stepsOk}
 use Rattle.rules.specs.Shapes.{shapeOk}
 use Rattle.rules.specs.Calls.{Outcome, accepted, refused, after}
-use Rattle.complex.specs.Accept.{Listed}
+use Rattle.solids.specs.Accept.{Listed}
 use Rattle.records.specs.Layout.{faceSize, facesWords}
-use Rattle.complex.specs.Table.{tableOfList}
+use Rattle.solids.specs.Table.{tableOfList}
 use Rattle.wing.specs.Wing.{WingInput, wingOutcome}
 use Rattle.sweep.specs.Sweep.{SweepInput, sweptWords, sweepOutcome}
 use Rattle.boundary.specs.Faces.{FacesInput, boundaryCells, facesOutcome}

@@ -1,3 +1,3 @@
 -- What a host in C gets.
 pub mod Host
-pub mod Sent
+pub mod Inner

@@ -5,19 +5,19 @@ ghost use Prim.Native.Nat.{_+_, _≤_};
 ghost use lib.ListN.{length};
 ghost use Rattle.rules.specs.Limits.{maxDimension};
 ghost use Rattle.rules.specs.Shapes.{shapeOk};
-ghost use Rattle.words.specs.Placed.{placed, Put};
+ghost use Rattle.words.specs.Inner.Placed.{placed, Put};
 ghost use Rattle.records.specs.Layout.{tableLength};
-ghost use Rattle.records.specs.Inside.{Table, Inside};
-ghost use Rattle.boundary.specs.Walk.{faceAt, tableFaces};
+ghost use Rattle.records.specs.Inner.Inside.{Table, Inside};
+ghost use Rattle.boundary.specs.Inner.Walk.{faceAt, tableFaces};
 ghost use Rattle.winged.specs.Host.{hostFaces, hostFacesBuffer};
-ghost use Rattle.winged.specs.Sent.{tableRoom, faceBytes, facesBytes, facesAnswer, facesAfter};
+ghost use Rattle.winged.specs.Inner.Sent.{tableRoom, faceBytes, facesBytes, facesAnswer, facesAfter};
 use crate::sending::minus;
-use adjacency::sound::is_sound;
 use boundary::counting::count_faces;
 use boundary::face::face_word;
 use boundary::walk::next_face;
 use records::sizes::face_size;
 use rules::limits::Shape;
+use tables::sound::is_sound;
 use words::copy::decode;
 
 // The record of face a of cell p as bytes from `at` on; the place behind them.

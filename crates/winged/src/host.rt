@@ -2,7 +2,7 @@
 ghost use mathlib.Core.Path.{_≡_};
 ghost use lib.ListN.{length};
 ghost use Rattle.winged.specs.Host.{hostWing, hostWingBuffer, hostSweep, hostSweepBuffer};
-ghost use Rattle.winged.specs.Sent.{tableRoom};
+ghost use Rattle.winged.specs.Inner.Sent.{tableRoom};
 use crate::reading::sweep_words;
 use crate::reading::wing_words;
 use crate::sending::room;

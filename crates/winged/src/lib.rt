@@ -6,7 +6,7 @@ ghost use lib.ListN.{length};
 ghost use Rattle.hosting.specs.Lists.{hostListOutcome, hostListBuffer};
 ghost use Rattle.hosting.specs.Moves.{moveTold, hostMoveOutcome, hostMoveBuffer};
 ghost use Rattle.hosting.specs.Reads.{hostReadOutcome, hostReadHeader, hostReadCells, hostReadPoints};
-ghost use Rattle.marking.specs.Key.{textOutcome, textBuffer};
+ghost use Rattle.page.specs.Key.{textOutcome, textBuffer};
 use crate::faces::faces_bytes;
 use crate::host::sweep_bytes;
 use crate::host::wing_bytes;
@@ -15,7 +15,7 @@ use hosting::lists::list_bytes;
 use hosting::moving::move_bytes;
 use hosting::reading::read_bytes;
 use hosting::step_bits::StepBits;
-use marking::key::key_text;
+use page::key::key_text;
 use records::sizes::TABLE_ROOM;
 
 mod faces;
@@ -73,9 +73,11 @@ pub extern "C" fn winged_read(
     points: &mut [u8],
 ) -> i64
     ensures answer { λ r. ⌜ r ≡ hostAnswer (hostReadOutcome (now (file .entry)) (now (header .entry)) (now (cells .entry)) (now (points .entry))) ⌝ }
-    ensures header { λ _. ⌜ now (header .exit) ≡ hostReadHeader (now (file .entry)) (now (header .entry)) (now (cells .entry)) (now (points .entry)) ⌝ }
+    ensures header { λ _. ⌜ now (header .exit)
+        ≡ hostReadHeader (now (file .entry)) (now (header .entry)) (now (cells .entry)) (now (points .entry)) ⌝ }
     ensures cells { λ _. ⌜ now (cells .exit) ≡ hostReadCells (now (file .entry)) (now (header .entry)) (now (cells .entry)) (now (points .entry)) ⌝ }
-    ensures points { λ _. ⌜ now (points .exit) ≡ hostReadPoints (now (file .entry)) (now (header .entry)) (now (cells .entry)) (now (points .entry)) ⌝ }
+    ensures points { λ _. ⌜ now (points .exit)
+        ≡ hostReadPoints (now (file .entry)) (now (header .entry)) (now (cells .entry)) (now (points .entry)) ⌝ }
 {
     answered(read_bytes(file, header, cells, points))
 }
@@ -94,8 +96,11 @@ pub extern "C" fn winged_move(
     points: &[u8],
     levels: &mut [u8],
 ) -> i64
-    ensures answer { λ r. ⌜ r ≡ hostAnswer (hostMoveOutcome (moveTold n v h (record { kind = kind; axis = axis; other = other; a = a; b = b; c = c }) (now (points .entry)) (length (now (levels .entry)) / 8))) ⌝ }
-    ensures buffer { λ _. ⌜ now (levels .exit) ≡ hostMoveBuffer (moveTold n v h (record { kind = kind; axis = axis; other = other; a = a; b = b; c = c }) (now (points .entry)) (length (now (levels .entry)) / 8)) (now (levels .entry)) ⌝ }
+    ensures answer { λ r. ⌜ r ≡ hostAnswer (hostMoveOutcome (moveTold n v h
+        (record { kind = kind; axis = axis; other = other; a = a; b = b; c = c }) (now (points .entry)) (length (now (levels .entry)) / 8))) ⌝ }
+    ensures buffer { λ _. ⌜ now (levels .exit)
+        ≡ hostMoveBuffer (moveTold n v h (record { kind = kind; axis = axis; other = other; a = a; b = b; c = c })
+        (now (points .entry)) (length (now (levels .entry)) / 8)) (now (levels .entry)) ⌝ }
 {
     let step = StepBits {
         kind: kind as usize,

@@ -4,10 +4,10 @@ ghost use lib.ListN.{length};
 ghost use Rattle.words.specs.Bytes.{words16};
 ghost use Rattle.rules.specs.Numbers.{outcomeOf};
 ghost use Rattle.rules.specs.Calls.{after};
-ghost use Rattle.complex.specs.Table.{tableOfList};
+ghost use Rattle.solids.specs.Table.{tableOfList};
 ghost use Rattle.sweep.specs.Sweep.{sweptWords, sweepInput};
 ghost use Rattle.winged.specs.Host.{hostList};
-ghost use Rattle.winged.specs.Sent.{wingRead, sweepRead};
+ghost use Rattle.winged.specs.Inner.Sent.{wingRead, sweepRead};
 use records::sizes::LIST_ROOM;
 use records::sizes::SOLID_ROOM;
 use rules::limits::Shape;
@@ -20,7 +20,8 @@ use words::copy::decode;
 
 pub fn wing_words(d: usize, v: usize, s: usize, cells: &[u8], out: &mut [u16]) -> Answer
     ensures answer { λ r. ⌜ outcomeOf r ≡ wingRead d v s (now (cells .entry)) (length (now (out .entry))) ⌝ }
-    ensures buffer { λ r. ⌜ now (out .exit) ≡ after (outcomeOf r) (tableOfList (hostList d v s (now (cells .entry)) (now (cells .entry)))) (now (out .entry)) ⌝ }
+    ensures buffer { λ r. ⌜ now (out .exit)
+        ≡ after (outcomeOf r) (tableOfList (hostList d v s (now (cells .entry)) (now (cells .entry)))) (now (out .entry)) ⌝ }
 {
     if !Shape::within(Shape::MAX_DIMENSION, d, v, s) {
         return Answer::Refused(Refusal::OutsideLimits);
@@ -36,7 +37,8 @@ pub fn wing_words(d: usize, v: usize, s: usize, cells: &[u8], out: &mut [u16]) -
 
 pub fn sweep_words(d: usize, v: usize, s: usize, h: usize, table: &[u8], out: &mut [u16]) -> Answer
     ensures answer { λ r. ⌜ outcomeOf r ≡ sweepRead d v s h (now (table .entry)) (length (now (out .entry))) ⌝ }
-    ensures buffer { λ r. ⌜ now (out .exit) ≡ after (outcomeOf r) (sweptWords (sweepInput d v s h (words16 (now (table .entry))) (length (now (out .entry))))) (now (out .entry)) ⌝ }
+    ensures buffer { λ r. ⌜ now (out .exit)
+        ≡ after (outcomeOf r) (sweptWords (sweepInput d v s h (words16 (now (table .entry))) (length (now (out .entry))))) (now (out .entry)) ⌝ }
 {
     if !in_limits(d, v, s, h) {
         return Answer::Refused(Refusal::OutsideLimits);

@@ -5,7 +5,7 @@ ghost use lib.IntN.{pos, negℤ};
 ghost use lib.ListN.{length};
 ghost use Rattle.rules.specs.Numbers.{outcomeOf};
 ghost use Rattle.winged.specs.Host.{hostAnswer};
-ghost use Rattle.winged.specs.Sent.{lesser, tableRoom, countOf, sent};
+ghost use Rattle.winged.specs.Inner.Sent.{lesser, tableRoom, countOf, sent};
 use records::sizes::TABLE_ROOM;
 use rules::refusal::Answer;
 use rules::refusal::number;

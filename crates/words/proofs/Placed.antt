@@ -22,7 +22,7 @@ use native.Mathlib.Omega.{arith}
 use lib.ListN.{length, take, drop, getD, set, length-append, length-drop, take-append-drop, List·getD-append}
 use lib.Seq.{length-take-le, take-set-le, take-suc, take-at, drop-at, drop-drop, set-split, getD-take}
 use Rattle.words.specs.Records.{tabulate, concat}
-use Rattle.words.specs.Placed.{placed}
+use Rattle.words.specs.Inner.Placed.{placed}
 
 module _ {A : Type 0} where
   pub placed-first : (xs buf : List A) → placed 0 xs buf ≡ xs ++ drop (length xs) buf

@@ -21,7 +21,7 @@ use native.Mathlib.Omega.{arith}
 use lib.ListN.{length, drop, getD, set, length-append, drop-of-length-le, take}
 use lib.Seq.{drop-drop}
 use Rattle.words.specs.Records.{tabulate, concat}
-use Rattle.words.specs.Placed.{placed, Put}
+use Rattle.words.specs.Inner.Placed.{placed, Put}
 use Rattle.words.proofs.Loops.{drop-next}
 use Rattle.words.proofs.Records.{tabulate-length, tabulate-at, read-front}
 use Rattle.words.proofs.Placed.{placed-first, placed-none, placed-length, placed-then, placed-one, placed-behind, placed-before}

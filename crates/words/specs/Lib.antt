@@ -2,4 +2,4 @@
 pub mod Records
 pub mod Bytes
 pub mod Text
-pub mod Placed
+pub mod Inner

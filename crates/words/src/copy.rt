@@ -4,7 +4,7 @@ ghost use mathlib.Core.Path.{_≡_};
 ghost use mathlib.Core.List.{_++_};
 ghost use Prim.Native.Nat.{_+_, _*_, _/_, _≤_};
 ghost use lib.ListN.{length, drop};
-ghost use Rattle.words.specs.Placed.{placed};
+ghost use Rattle.words.specs.Inner.Placed.{placed};
 ghost use Rattle.words.specs.Bytes.{wordsFrom, words16, bytesOf};
 
 // Writes the m numbers from `at` of the bytes to the places from `to`.

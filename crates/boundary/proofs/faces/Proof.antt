@@ -9,10 +9,10 @@ use borrow.Author.Tests.{eqb-true, ltb-false, not-false}
 use Rattle.words.proofs.Placed.{placed-first}
 use Rattle.rules.specs.Limits.{maxDimension}
 use Rattle.rules.proofs.InLimits.{Limits, limits-are}
-use Rattle.records.specs.Inside.{Table}
+use Rattle.records.specs.Inner.Inside.{Table}
 use Rattle.records.specs.Layout.{faceSize, facesWords}
 use Rattle.boundary.specs.Faces.{boundaryCells, facesRules}
-use Rattle.boundary.specs.Walk.{tableFaces}
+use Rattle.boundary.specs.Inner.Walk.{tableFaces}
 use Rattle.boundary.proofs.Order.{refuses, accepts}
 use Rattle.boundary.proofs.Sizes.{words-long}
 use Rattle.boundary.proofs.faces.Statement.{statement}

@@ -9,12 +9,12 @@ use borrow.Author.Tests.{eqb-true, ltb-false, not-false}
 use Rattle.words.proofs.Placed.{placed-first}
 use Rattle.rules.proofs.InLimits.{ListLimits, list-limits-are}
 use Rattle.rules.proofs.Tests.{and-parts}
-use Rattle.records.specs.Inside.{Table}
+use Rattle.records.specs.Inner.Inside.{Table}
 use Rattle.records.specs.Layout.{tableLength}
-use Rattle.boundary.specs.Walk.{tableFaces}
+use Rattle.boundary.specs.Inner.Walk.{tableFaces}
 use Rattle.listing.specs.Lines.{keyText}
-use Rattle.listing.specs.Parts.{Points}
-use Rattle.list.specs.Listing.{listInput, listText, listRules}
+use Rattle.listing.specs.Inner.Parts.{Points}
+use Rattle.list.specs.List.{listInput, listText, listRules}
 use Rattle.list.proofs.Order.{refuses, accepts}
 use Rattle.list.proofs.list.Statement.{statement}
 use Rattle.list.proofs.list.Tie as tie

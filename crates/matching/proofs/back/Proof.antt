@@ -5,7 +5,7 @@ use native.Mathlib.Nat.{div-lt-iff-lt-mul, mod-lt, lt-trans}
 use native.Mathlib.Omega.{arith}
 use borrow.Author.Needs.{needs}
 use Rattle.simplex.specs.Cell.{Row, sameRow}
-use Rattle.matching.specs.Matching.{keyRow, earlier}
+use Rattle.matching.specs.Inner.Matching.{keyRow, earlier}
 use Rattle.matching.proofs.Earlier.{Walk, rank, rank-less, walk-start, walk-below, walk-found, walk-end, walk-next}
 use Rattle.matching.proofs.Links.{compared}
 use Rattle.matching.proofs.back.Statement.{statement}

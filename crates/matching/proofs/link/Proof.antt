@@ -5,8 +5,8 @@ use native.Mathlib.Nat.{zero-mul, suc-mul, mul-le-mul-right}
 use native.Mathlib.Numerals.{add-one}
 use native.Mathlib.Omega.{arith}
 use borrow.Author.Needs.{needs}
-use Rattle.matching.specs.Matching.{keyRow, Behind}
-use Rattle.matching.specs.Buckets.{Linked, Linking}
+use Rattle.matching.specs.Inner.Matching.{keyRow, Behind}
+use Rattle.matching.specs.Inner.Buckets.{Linked, Linking}
 use Rattle.matching.proofs.Links.{linking-start}
 use Rattle.matching.proofs.link.Statement.{statement}
 use Rattle.matching.proofs.link.Tie as tie

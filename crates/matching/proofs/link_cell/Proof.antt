@@ -5,8 +5,8 @@ use native.Mathlib.Nat.{add-zero, add-assoc}
 use native.Mathlib.Omega.{arith}
 use lib.ListN.{getD, set}
 use borrow.Author.Needs.{needs}
-use Rattle.matching.specs.Matching.{keyRow, Behind}
-use Rattle.matching.specs.Buckets.{Linking}
+use Rattle.matching.specs.Inner.Matching.{keyRow, Behind}
+use Rattle.matching.specs.Inner.Buckets.{Linking}
 use Rattle.matching.proofs.Links.{linking-more, behind-set, bucket-is, key-below}
 use Rattle.matching.proofs.link_cell.Statement.{statement}
 use Rattle.matching.proofs.link_cell.Tie as tie

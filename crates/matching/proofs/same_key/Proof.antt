@@ -9,7 +9,7 @@ use lib.ListN.{getD}
 use borrow.Author.Count.{below-more}
 use borrow.Author.Needs.{needs}
 use Rattle.simplex.specs.Faces.{without}
-use Rattle.matching.specs.Matching.{cellRow}
+use Rattle.matching.specs.Inner.Matching.{cellRow}
 use Rattle.matching.proofs.KeptRows.{kept-below, stands-below, other-length, vertex-same, vertex-differs, vertices-same}
 use Rattle.matching.proofs.same_key.Statement.{statement}
 use Rattle.matching.proofs.same_key.Tie as tie

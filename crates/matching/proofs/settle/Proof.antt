@@ -5,8 +5,8 @@ use native.Mathlib.Nat.{div-le-self}
 use native.Mathlib.Omega.{arith}
 use lib.ListN.{length, getD, length-set}
 use borrow.Author.Needs.{needs}
-use Rattle.matching.specs.Matching.{keyRow, earlier, Behind}
-use Rattle.matching.specs.Buckets.{Linked}
+use Rattle.matching.specs.Inner.Matching.{keyRow, earlier, Behind}
+use Rattle.matching.specs.Inner.Buckets.{Linked}
 use Rattle.matching.proofs.Links.{answered-more, linked-below, behind-set}
 use Rattle.matching.proofs.settle.Statement.{statement}
 use Rattle.matching.proofs.settle.Tie as tie

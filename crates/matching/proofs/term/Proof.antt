@@ -2,7 +2,7 @@
 use mathlib.Core.Path.{ap}
 use native.Mathlib.Omega.{arith}
 use borrow.Author.Needs.{needs}
-use Rattle.matching.specs.Buckets.{term}
+use Rattle.matching.specs.Inner.Buckets.{term}
 use Rattle.matching.proofs.Weights.{inner-below, outer-below}
 use Rattle.matching.proofs.term.Statement.{statement}
 use Rattle.matching.proofs.term.Tie as tie

@@ -5,7 +5,7 @@ use native.Mathlib.Omega.{arith}
 use lib.ListN.{take}
 use borrow.Author.Needs.{needs}
 use Rattle.words.specs.Records.{part}
-use Rattle.matching.specs.Buckets.{weight}
+use Rattle.matching.specs.Inner.Buckets.{weight}
 use Rattle.matching.proofs.Weights.{sum-more}
 use Rattle.matching.proofs.weigh.Statement.{statement}
 use Rattle.matching.proofs.weigh.Tie as tie

@@ -100,7 +100,8 @@ ranged : (c : tie.Else4) →
 ranged c = floats-parts (bytes (start-4 c)) (sym (c .before .out-of-range .ensures) ∙ c .if4 .left)
 
 rooms : (c : tie.Else9) →
-    (cellsLength (bytes (start-9 c)) ≤ length (start-9 c .args .cells .now)) × (pointCount (bytes (start-9 c)) ≤ length (start-9 c .args .points .now))
+    (cellsLength (bytes (start-9 c)) ≤ length (start-9 c .args .cells .now))
+    × (pointCount (bytes (start-9 c)) ≤ length (start-9 c .args .points .now))
 rooms c =
     rooms-parts (bytes (start-9 c)) (length (start-9 c .args .cells .now)) (length (start-9 c .args .points .now))
     (sym (c .before .no-room .ensures) ∙ c .if9 .left)
@@ -131,7 +132,8 @@ returns-2 : tie.Need-returns-2
 unfolding readRules
 returns-2 c =
     let s = start-1 (c .before .before) in
-    refused-as (input s) 1 (passed-1 (c .before .before) ∙ stop 1 (input s) (omega arith) (sym (c .before .outside-limits .ensures) ∙ c .if2 .taken)) _ _
+    refused-as (input s) 1
+    (passed-1 (c .before .before) ∙ stop 1 (input s) (omega arith) (sym (c .before .outside-limits .ensures) ∙ c .if2 .taken)) _ _
 
 wrong-length-requires : tie.Need-wrong-length-requires
 wrong-length-requires c κs = long (c .before .before)
@@ -140,7 +142,8 @@ returns-3 : tie.Need-returns-3
 unfolding readRules
 returns-3 c =
     let s = start-2 (c .before .before) in
-    refused-as (input s) 2 (passed-2 (c .before .before) ∙ stop 2 (input s) (omega arith) (sym (c .before .wrong-length .ensures) ∙ c .if3 .taken)) _ _
+    refused-as (input s) 2
+    (passed-2 (c .before .before) ∙ stop 2 (input s) (omega arith) (sym (c .before .wrong-length .ensures) ∙ c .if3 .taken)) _ _
 
 out-of-range-requires : tie.Need-out-of-range-requires
 out-of-range-requires c κs = whole c
@@ -149,7 +152,8 @@ returns-4 : tie.Need-returns-4
 unfolding readRules
 returns-4 c =
     let s = start-3 (c .before .before) in
-    refused-as (input s) 3 (passed-3 (c .before .before) ∙ stop 3 (input s) (omega arith) (sym (c .before .out-of-range .ensures) ∙ c .if4 .taken)) _ _
+    refused-as (input s) 3
+    (passed-3 (c .before .before) ∙ stop 3 (input s) (omega arith) (sym (c .before .out-of-range .ensures) ∙ c .if4 .taken)) _ _
 
 step-unfit-requires : tie.Need-step-unfit-requires
 step-unfit-requires c κs = (long (c .before .before .before .before .before .before), ranged c .0)
@@ -185,7 +189,8 @@ returns-8 : tie.Need-returns-8
 unfolding readRules
 returns-8 c =
     let s = start-7 (c .before .before) in
-    refused-as (input s) 7 (passed-7 (c .before .before) ∙ stop 7 (input s) (omega arith) (sym (c .before .vertex-twice .ensures) ∙ c .if8 .taken)) _ _
+    refused-as (input s) 7
+    (passed-7 (c .before .before) ∙ stop 7 (input s) (omega arith) (sym (c .before .vertex-twice .ensures) ∙ c .if8 .taken)) _ _
 
 no-room-requires : tie.Need-no-room-requires
 no-room-requires c κs = long (c .before .before .before .before .before .before .before .before .before .before .before .before .before .before)
@@ -222,7 +227,10 @@ returns-10 c =
     let s = start-9 e in
     let a = accepted-as (input s) (passed-9 e) (s .args .cells .now) (s .args .points .now) in (
       ap accepted (c .header-of .ensures) ∙ a .0,
-      (c .before .before .before .before .before .before .before .write-cells .ensures ∙ a .1 .0, c .before .before .before .write-points .ensures ∙ a .1 .1),
+      (
+        c .before .before .before .before .before .before .before .write-cells .ensures ∙ a .1 .0,
+        c .before .before .before .write-points .ensures ∙ a .1 .1,
+      ),
     )
 
 pub read-spec : {M : Type 1} → statement M

@@ -8,7 +8,7 @@ use borrow.Author.Needs.{needs}
 use borrow.Author.Tests.{ltb-false, not-false}
 use Rattle.words.proofs.Placed.{placed-first}
 use Rattle.rules.proofs.InLimits.{SweepLimits, sweep-limits-are}
-use Rattle.sweeping.specs.Written.{allWords, Ready}
+use Rattle.sweeping.specs.Inner.Written.{allWords, Ready}
 use Rattle.sweeping.proofs.SoundTable.{sound-ready}
 use Rattle.sweep.specs.Sweep.{sweepInput, sweptLength, sweepRules}
 use Rattle.sweep.proofs.Order.{refuses, accepts, small}
@@ -88,7 +88,8 @@ returns-6 c =
     let w = c .before .before .write-swept .ensures in
     let words = call-words (a .d) (a .v) (a .s) (a .h) (a .table .now) (length (a .out .now)) in
     accepts _ _ _ _ (cc) (w .0 ∙ call-long (a .d) (a .v) (a .s) (a .h) (a .table .now) (ready four .long) 0)
-    (w .1 ∙ placed-first (allWords (a .d) (a .v) (a .s) (a .h) (a .table .now)) (a .out .now) ∙ ap (λ (l : List ℕ). l ++ drop (length l) (a .out .now)) (sym words))
+    (w .1 ∙ placed-first (allWords (a .d) (a .v) (a .s) (a .h) (a .table .now)) (a .out .now)
+    ∙ ap (λ (l : List ℕ). l ++ drop (length l) (a .out .now)) (sym words))
 
 pub sweep-spec : {M : Type 1} → statement M
 sweep-spec =

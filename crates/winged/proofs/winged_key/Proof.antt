@@ -6,7 +6,7 @@ use lib.ListN.{length}
 use mir.Syntax.{w64}
 use mir.ValLaws.{toZ-ofZ}
 use Rattle.winged.specs.Host.{hostAnswer}
-use Rattle.winged.specs.Sent.{countOf}
+use Rattle.winged.specs.Inner.Sent.{countOf}
 use Rattle.winged.proofs.Counts.{text-within}
 use Rattle.winged.proofs.winged_key.Statement.{statement}
 use Rattle.winged.proofs.winged_key.Tie as tie

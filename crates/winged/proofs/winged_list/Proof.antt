@@ -5,7 +5,7 @@ use borrow.Author.Needs.{needs}
 use mir.Syntax.{w64}
 use mir.ValLaws.{toZ-ofZ}
 use Rattle.winged.specs.Host.{hostAnswer}
-use Rattle.winged.specs.Sent.{countOf}
+use Rattle.winged.specs.Inner.Sent.{countOf}
 use Rattle.winged.proofs.Counts.{list-within}
 use Rattle.winged.proofs.winged_list.Statement.{statement}
 use Rattle.winged.proofs.winged_list.Tie as tie
@@ -16,7 +16,11 @@ list-bytes-requires c κs = search needs
 answered-requires : tie.Need-answered-requires
 answered-requires c κs =
     let a = c .before .before .before .before .before .before .before .args in
-    omega (arith, ap countOf (c .before .before .list-bytes .ensures .0), list-within (a .d) (a .n) (a .v) (a .s) (a .table .now) (a .points .now) (a .text .now))
+    omega (
+      arith,
+      ap countOf (c .before .before .list-bytes .ensures .0),
+      list-within (a .d) (a .n) (a .v) (a .s) (a .table .now) (a .points .now) (a .text .now),
+    )
 
 same-length : tie.Need-same-length
 same-length c = search needs

@@ -8,7 +8,7 @@ use mir.Syntax.{w64}
 use mir.ValLaws.{toZ-ofZ}
 use Rattle.hosting.specs.Moves.{moveTold}
 use Rattle.winged.specs.Host.{hostAnswer}
-use Rattle.winged.specs.Sent.{countOf}
+use Rattle.winged.specs.Inner.Sent.{countOf}
 use Rattle.winged.proofs.Counts.{move-within}
 use Rattle.winged.proofs.winged_move.Statement.{statement}
 use Rattle.winged.proofs.winged_move.Tie as tie
@@ -19,7 +19,12 @@ move-bytes-requires c κs = search needs
 answered-requires : tie.Need-answered-requires
 answered-requires c κs =
     let a = c .before .before .before .before .before .before .args in
-    omega (arith, ap countOf (c .before .before .move-bytes .ensures .0), move-within (moveTold (a .n) (a .v) (a .h) (record { kind = a .kind; axis = a .axis; other = a .other; a = a .a; b = a .b; c = a .c }) (a .points .now) (length (a .levels .now) / 8)))
+    omega (
+      arith,
+      ap countOf (c .before .before .move-bytes .ensures .0),
+      move-within (moveTold (a .n) (a .v) (a .h) (record { kind = a .kind; axis = a .axis; other = a .other; a = a .a; b = a .b; c = a .c })
+          (a .points .now) (length (a .levels .now) / 8)),
+    )
 
 same-length : tie.Need-same-length
 same-length c = search needs

@@ -5,7 +5,7 @@ use Prim.Native.Nat.{_+_, _-_, _≤_}
 use native.Mathlib.Omega.{arith}
 use lib.ListN.{length}
 use borrow.Author.Needs.{needs}
-use Rattle.boundary.specs.Walk.{facesFrom}
+use Rattle.boundary.specs.Inner.Walk.{facesFrom}
 use Rattle.boundary.proofs.Walking.{from-next, from-here, from-skip}
 use Rattle.boundary.proofs.counting.count_cell.Statement.{statement}
 use Rattle.boundary.proofs.counting.count_cell.Tie as tie
@@ -38,8 +38,10 @@ loop-again c =
     let s = turn .before .before in
     let a = s .args in
     ⊎-elim
-    (λ w. omega (arith, ap length (from-here (a .d) (a .s) (a .table .now) (s .pre .long) (a .p) (turn .loop .a) (s .pre .number) (omega arith) (cc))))
-    (λ w. omega (arith, ap length (from-skip (a .d) (a .s) (a .table .now) (s .pre .long) (a .p) (turn .loop .a) (s .pre .number) (omega arith) (cc))))
+    (λ w.
+    omega (arith, ap length (from-here (a .d) (a .s) (a .table .now) (s .pre .long) (a .p) (turn .loop .a) (s .pre .number) (omega arith) (cc))))
+    (λ w.
+    omega (arith, ap length (from-skip (a .d) (a .s) (a .table .now) (s .pre .long) (a .p) (turn .loop .a) (s .pre .number) (omega arith) (cc))))
     (c .if1 .came)
 
 returns : tie.Need-returns Inv-loop μ-loop

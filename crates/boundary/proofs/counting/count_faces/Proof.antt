@@ -4,7 +4,7 @@ use Prim.Native.Nat.{_+_, _-_, _≤_}
 use native.Mathlib.Omega.{arith}
 use lib.ListN.{length}
 use borrow.Author.Needs.{needs}
-use Rattle.boundary.specs.Walk.{tableFaces, facesFrom}
+use Rattle.boundary.specs.Inner.Walk.{tableFaces, facesFrom}
 use Rattle.boundary.proofs.Sizes.{faces-few}
 use Rattle.boundary.proofs.Walking.{from-start, from-end}
 use Rattle.boundary.proofs.counting.count_faces.Statement.{statement}

@@ -3,7 +3,7 @@ use mathlib.Core.Path.{sym, ap, _∙_}
 use native.Mathlib.Numerals.{add-one}
 use native.Mathlib.Omega.{arith}
 use borrow.Author.Needs.{needs}
-use Rattle.records.specs.Inside.{vertexIn}
+use Rattle.records.specs.Inner.Inside.{vertexIn}
 use Rattle.boundary.proofs.FaceWords.{face-before, face-behind}
 use Rattle.boundary.proofs.face.face_vertex.Statement.{statement}
 use Rattle.boundary.proofs.face.face_vertex.Tie as tie

@@ -5,7 +5,7 @@ use native.Mathlib.Omega.{arith}
 use lib.ListN.{getD}
 use borrow.Author.Needs.{needs}
 use Rattle.records.specs.Layout.{faceWords}
-use Rattle.boundary.specs.Walk.{faceAt}
+use Rattle.boundary.specs.Inner.Walk.{faceAt}
 use Rattle.boundary.proofs.face.face_word.Statement.{statement}
 use Rattle.boundary.proofs.face.face_word.Tie as tie
 

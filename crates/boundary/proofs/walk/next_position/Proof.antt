@@ -3,7 +3,7 @@ use mathlib.Core.Path.{_≡_, refl, _∙_}
 use Prim.Native.Nat.{_+_, _-_}
 use native.Mathlib.Omega.{arith}
 use borrow.Author.Needs.{needs}
-use Rattle.boundary.specs.Walk.{facesFrom}
+use Rattle.boundary.specs.Inner.Walk.{facesFrom}
 use Rattle.boundary.proofs.Walking.{from-skip}
 use Rattle.boundary.proofs.walk.next_position.Statement.{statement}
 use Rattle.boundary.proofs.walk.next_position.Tie as tie

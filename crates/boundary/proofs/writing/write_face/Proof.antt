@@ -7,7 +7,7 @@ use lib.ListN.{length, drop, length-drop, drop-of-length-le}
 use borrow.Author.Needs.{needs}
 use Rattle.words.proofs.Writing.{Left, left-starts, left-next, left-ends}
 use Rattle.records.specs.Layout.{faceSize, faceWords}
-use Rattle.boundary.specs.Walk.{faceAt}
+use Rattle.boundary.specs.Inner.Walk.{faceAt}
 use Rattle.boundary.proofs.FaceWords.{face-long}
 use Rattle.boundary.proofs.writing.write_face.Statement.{statement}
 use Rattle.boundary.proofs.writing.write_face.Tie as tie

@@ -3,7 +3,7 @@ use native.Mathlib.Omega.{arith}
 use lib.ListN.{length}
 use borrow.Author.Needs.{needs}
 use Rattle.records.specs.Layout.{faceWords}
-use Rattle.boundary.specs.Walk.{facesFrom}
+use Rattle.boundary.specs.Inner.Walk.{facesFrom}
 use Rattle.boundary.proofs.Walking.{face-less, Walked, walk-starts, walk-fits, walk-goes, walk-ends}
 use Rattle.boundary.proofs.writing.write_faces.Statement.{statement}
 use Rattle.boundary.proofs.writing.write_faces.Tie as tie

@@ -7,7 +7,7 @@ use lib.ListN.{getD, drop}
 use borrow.Author.Needs.{needs}
 use Rattle.words.specs.Records.{anyOf}
 use Rattle.words.proofs.Loops.{any-goes, any-stops, any-ends}
-use Rattle.complex.specs.Accept.{vertexBeyond}
+use Rattle.solids.specs.Accept.{vertexBeyond}
 use Rattle.file.specs.File.{vertexCountOf, fileCells}
 use Rattle.file.proofs.Parts.{noCell, cells-length, row-at}
 use Rattle.file.proofs.cells.bad_vertex.Statement.{statement}

@@ -5,7 +5,7 @@ use native.Mathlib.Omega.{arith}
 use lib.ListN.{length}
 use borrow.Author.Needs.{needs}
 use Rattle.words.specs.Bytes.{wordsFrom}
-use Rattle.complex.specs.Accept.{repeats}
+use Rattle.solids.specs.Accept.{repeats}
 use Rattle.file.proofs.Rows.{again-goes, again-stops, again-ends}
 use Rattle.file.proofs.cells.repeated.Statement.{statement}
 use Rattle.file.proofs.cells.repeated.Tie as tie

@@ -5,7 +5,7 @@ use native.Mathlib.Omega.{arith}
 use lib.ListN.{getD, drop}
 use borrow.Author.Needs.{needs}
 use Rattle.words.proofs.Loops.{any-goes, any-stops, any-ends}
-use Rattle.complex.specs.Accept.{repeats, vertexTwice}
+use Rattle.solids.specs.Accept.{repeats, vertexTwice}
 use Rattle.file.specs.File.{fileCells}
 use Rattle.file.proofs.Parts.{noCell, cells-length, row-at}
 use Rattle.file.proofs.cells.vertex_twice.Statement.{statement}

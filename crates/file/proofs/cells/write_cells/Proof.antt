@@ -6,7 +6,7 @@ use native.Mathlib.Omega.{arith}
 use lib.ListN.{length, drop}
 use borrow.Author.Needs.{needs}
 use Rattle.words.specs.Records.{concat}
-use Rattle.words.specs.Placed.{placed}
+use Rattle.words.specs.Inner.Placed.{placed}
 use Rattle.words.proofs.Writing.{Left, left-starts, left-item, left-item-fits, left-items, put-first}
 use Rattle.records.specs.Layout.{cellWords}
 use Rattle.file.specs.File.{fileCells}

@@ -17,7 +17,8 @@ mul-result : tie.Need-mul-result
 mul-result c = record { fits = omega (arith, product-below (c .before .vertex-count .ensures .1) (c .axes .ensures .1)) }
 
 returns : tie.Need-returns
-returns c = (ap₂ _*_ (c .before .vertex-count .ensures .0) (c .axes .ensures .0), product-below (c .before .vertex-count .ensures .1) (c .axes .ensures .1))
+returns c =
+    (ap₂ _*_ (c .before .vertex-count .ensures .0) (c .axes .ensures .0), product-below (c .before .vertex-count .ensures .1) (c .axes .ensures .1))
 
 pub point-count-spec : {M : Type 1} → statement M
 point-count-spec = tie.close (tie.spec vertex-count-requires axes-requires mul-result returns)

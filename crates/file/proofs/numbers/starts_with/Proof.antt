@@ -29,7 +29,8 @@ returns : tie.Need-returns Inv-loop μ-loop
 returns c =
     let l = c .before .before .before .before .loop in
     let a = c .before .before .before .before .before .args in
-    sym (l .inv .1 ∙ same-differs (a .b .now) (a .mark .now) (l .i) (c .before .before .before .loop-test .taken) (c .before .before .before .before .before .pre) (ne-eqb _ _ (c .if1 .taken)))
+    sym (l .inv .1 ∙ same-differs (a .b .now) (a .mark .now) (l .i) (c .before .before .before .loop-test .taken)
+    (c .before .before .before .before .before .pre) (ne-eqb _ _ (c .if1 .taken)))
 
 add-i : tie.Need-add-i Inv-loop μ-loop
 add-i c = search needs
@@ -40,8 +41,11 @@ loop-less c = search needs
 loop-again : tie.Need-loop-again Inv-loop μ-loop
 loop-again c =
     let l = c .before .before .before .before .loop in
-    let a = c .before .before .before .before .before .args in
-    (omega arith, l .inv .1 ∙ same-next (a .b .now) (a .mark .now) (l .i) (c .before .before .before .loop-test .taken) (c .before .before .before .before .before .pre) (eq-eqb _ _ (c .if1 .left)))
+    let a = c .before .before .before .before .before .args in (
+      omega arith,
+      l .inv .1 ∙ same-next (a .b .now) (a .mark .now) (l .i) (c .before .before .before .loop-test .taken)
+          (c .before .before .before .before .before .pre) (eq-eqb _ _ (c .if1 .left)),
+    )
 
 returns-2 : tie.Need-returns-2 Inv-loop μ-loop
 returns-2 c =

@@ -33,7 +33,13 @@ mul-result-2 : tie.Need-mul-result-2
 mul-result-2 c = record { fits = omega (arith, product-below (c .before .before .cell-count .ensures .1) (c .cell-size .ensures .1)) }
 
 add-result-2 : tie.Need-add-result-2
-add-result-2 c = record { fits = omega (arith, product-below (c .before .before .cell-count .ensures .1) (c .cell-size .ensures .1), c .before .before .before .point-count .ensures .1) }
+add-result-2 c = record {
+  fits = omega (
+    arith,
+    product-below (c .before .before .cell-count .ensures .1) (c .cell-size .ensures .1),
+    c .before .before .before .point-count .ensures .1,
+  );
+}
 
 returns : tie.Need-returns
 returns c =

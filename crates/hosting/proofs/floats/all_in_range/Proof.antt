@@ -29,8 +29,10 @@ loop-holds c = (search needs, refl)
 loop-again : tie.Need-loop-again Inv-loop μ-loop
 loop-again c =
     let l = c .before .before .before .before in
-    let b = bytes l in
-    (omega arith, all-goes inRange nan (floats64 b) _ (l .loop .k) (floats-length b) (omega arith) _ (float-of b _ (omega arith)) _ (cc) (l .loop .inv .1))
+    let b = bytes l in (
+      omega arith,
+      all-goes inRange nan (floats64 b) _ (l .loop .k) (floats-length b) (omega arith) _ (float-of b _ (omega arith)) _ (cc) (l .loop .inv .1),
+    )
 
 returns : tie.Need-returns Inv-loop μ-loop
 returns c =

@@ -45,7 +45,8 @@ returns : tie.Need-returns Inv-loop μ-loop
 unfolding floatBytes
 returns c =
     let l = c .before .loop in
-    put-first (left-items (λ (x : Float). lowBytes 8 (toBits binary64 x)) (c .before .before .before .before .args .xs .now) (l .k) (omega arith) (l .inv .2))
+    put-first (left-items (λ (x : Float). lowBytes 8 (toBits binary64 x))
+    (c .before .before .before .before .args .xs .now) (l .k) (omega arith) (l .inv .2))
 
 pub encode-spec : {M : Type 1} → statement M
 encode-spec =

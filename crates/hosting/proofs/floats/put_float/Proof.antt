@@ -29,7 +29,8 @@ loop-again c =
     let l = c .before .loop in (
       simp length-set (omega arith),
       length-set (l .out) _ _ ∙ l .inv .1,
-      left-word (l .bits % 256) (lowBytes (l .left - 1) (l .bits / 256)) _ refl (rw (low-next (l .left) (l .bits) (c .loop-test .taken)) at (l .inv .2)),
+      left-word (l .bits % 256) (lowBytes (l .left - 1) (l .bits / 256)) _ refl
+          (rw (low-next (l .left) (l .bits) (c .loop-test .taken)) at (l .inv .2)),
     )
 
 returns : tie.Need-returns Inv-loop μ-loop

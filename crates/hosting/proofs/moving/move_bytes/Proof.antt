@@ -14,7 +14,8 @@ returns : tie.Need-returns
 returns c = move-2 _ _ (cc)
 
 length-fits-requires : tie.Need-length-fits-requires
-length-fits-requires c κs = let a = c .before .before .before .before .args in let l = told (a .n) (a .v) (a .h) (a .t .kind) (cc) in (l .axes, l .vertices)
+length-fits-requires c κs = let a = c .before .before .before .before .args in
+    let l = told (a .n) (a .v) (a .h) (a .t .kind) (cc) in (l .axes, l .vertices)
 
 returns-2 : tie.Need-returns-2
 returns-2 c = move-3 _ _ (cc) (cc)
@@ -32,13 +33,15 @@ returns-4 : tie.Need-returns-4
 returns-4 c = move-5 _ _ (cc) (cc) (cc) (cc)
 
 too-large-requires : tie.Need-too-large-requires
-too-large-requires c κs = let a = c .before .before .before .before .before .before .before .before .before .before .args in let l = told (a .n) (a .v) (a .h) (a .t .kind) (cc) in (l .vertices, l .steps)
+too-large-requires c κs = let a = c .before .before .before .before .before .before .before .before .before .before .args in
+    let l = told (a .n) (a .v) (a .h) (a .t .kind) (cc) in (l .vertices, l .steps)
 
 returns-5 : tie.Need-returns-5
 returns-5 c = move-12 _ _ (cc) (cc) (cc) (cc) (cc)
 
 step-of-requires : tie.Need-step-of-requires
-step-of-requires c κs = let a = c .before .before .before .before .before .before .before .before .before .before .before .before .args in step-ranged (a .t) (a .points .now) (cc)
+step-of-requires c κs = let a = c .before .before .before .before .before .before .before .before .before .before .before .before .args in
+    step-ranged (a .t) (a .points .now) (cc)
 
 move-sent-requires : tie.Need-move-sent-requires
 move-sent-requires c κs =
@@ -49,7 +52,8 @@ same-length : tie.Need-same-length
 same-length c = search needs
 
 returns-6 : tie.Need-returns-6
-returns-6 c = move-right _ _ (cc) (cc) (cc) (cc) (cc) _ (c .before .before .before .before .step-of .ensures) _ _ (c .before .before .move-sent .ensures)
+returns-6 c =
+    move-right _ _ (cc) (cc) (cc) (cc) (cc) _ (c .before .before .before .before .step-of .ensures) _ _ (c .before .before .move-sent .ensures)
 
 pub move-bytes-spec : {M : Type 1} → statement M
 move-bytes-spec =

@@ -9,13 +9,14 @@ use Rattle.rules.specs.Calls.{accepted}
 use Rattle.rules.specs.Numbers.{outcomeOf}
 use Rattle.motion.specs.Move.{MoveInput, moveInput, movedLevels, moveOutcome}
 use Rattle.hosting.specs.Floats.{floats64}
-use Rattle.hosting.specs.Rooms.{floatRoom}
+use Rattle.hosting.specs.Inner.Rooms.{floatRoom}
 use Rattle.hosting.proofs.MoveRows.{sent-front, sent-ranged, sent-short, sent-fits, sent-refused}
 use Rattle.hosting.proofs.moving.move_sent.Statement.{statement}
 use Rattle.hosting.proofs.moving.move_sent.Tie as tie
 
 abbrev input : tie.After-m → MoveInput
-input c = let a = c .before .before .before .before .before .before .before .args in moveInput (a .n) (a .v) (a .h) (a .step) (floats64 (a .points .now)) floatRoom
+input c = let a = c .before .before .before .before .before .before .before .args in
+    moveInput (a .n) (a .v) (a .h) (a .step) (floats64 (a .points .now)) floatRoom
 
 accepts : (c : tie.After-m) → accepted (c .m .given .0 .0) ≡ moveOutcome (input c)
 accepts c = ap outcomeOf (sym (c .m .given .1)) ∙ c .before .before .before .move-decoded .ensures .0
@@ -34,7 +35,11 @@ enum-known-m : tie.Need-enum-known-m
 enum-known-m c = search needs
 
 returns : tie.Need-returns
-returns c = (sent-short (input (c .before .before)) _ _ _ (accepts (c .before .before)) (c .before .before .before .before .before .move-decoded .ensures .1) _ (c .if1 .taken), refl)
+returns c = (
+  sent-short (input (c .before .before)) _ _ _ (accepts (c .before .before))
+      (c .before .before .before .before .before .move-decoded .ensures .1) _ (c .if1 .taken),
+  refl,
+)
 
 array-share-prefix-out : tie.Need-array-share-prefix-out
 array-share-prefix-out c = front (c .before .before) .0
@@ -46,7 +51,11 @@ encode-requires : tie.Need-encode-requires
 encode-requires c κs =
     let e = c .before .before .before .before in (
       sent-ranged (input e) _ _ _ (accepts e) (e .before .before .before .move-decoded .ensures .1),
-      omega (arith, length-take-le (e .m .given .0 .0) (e .before .before .before .move-decoded .last .1 .1 .1 .1 .1 .0) (front e .0), c .before .before .if1 .left),
+      omega (
+        arith,
+        length-take-le (e .m .given .0 .0) (e .before .before .before .move-decoded .last .1 .1 .1 .1 .1 .0) (front e .0),
+        c .before .before .if1 .left,
+      ),
     )
 
 enum-known-r : tie.Need-enum-known-r
@@ -58,7 +67,8 @@ same-length c = search needs
 returns-2 : tie.Need-returns-2
 returns-2 c =
     let e = c .before .before .before .before .before .before .before in
-    sent-fits (input e) _ _ _ (accepts e) (e .before .before .before .move-decoded .ensures .1) _ _ _ (c .before .before .before .before .before .if1 .left) (c .before .before .encode .ensures)
+    sent-fits (input e) _ _ _ (accepts e) (e .before .before .before .move-decoded .ensures .1) _ _
+    _ (c .before .before .before .before .before .if1 .left) (c .before .before .encode .ensures)
 
 returns-3 : tie.Need-returns-3
 returns-3 c = (sent-refused _ _ _ (ap outcomeOf (sym (c .before .r .given .1)) ∙ c .before .before .before .before .move-decoded .ensures .0), refl)

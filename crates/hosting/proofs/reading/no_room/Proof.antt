@@ -18,7 +18,12 @@ point-count-requires : tie.Need-point-count-requires
 point-count-requires c κs = search needs
 
 returns-3 : tie.Need-returns-3
-returns-3 c = rw (le-ltb _ _ (c .before .before .before .if1 .left), sym (c .before .before .words .ensures), le-ltb _ _ (c .before .if2 .left), sym (c .point-count .ensures .0)) refl
+returns-3 c = rw (
+  le-ltb _ _ (c .before .before .before .if1 .left),
+  sym (c .before .before .words .ensures),
+  le-ltb _ _ (c .before .if2 .left),
+  sym (c .point-count .ensures .0),
+) refl
 
 pub no-room-spec : {M : Type 1} → statement M
 no-room-spec = tie.close (tie.spec returns words-requires returns-2 point-count-requires returns-3)

@@ -23,7 +23,9 @@ same-length : tie.Need-same-length
 same-length c = search needs
 
 returns : tie.Need-returns
-returns c = let s = c .before .before .before .before .before .before .before .before .before .before .before in header-put (s .args .file .now) (s .args .header .now) _ _ (s .pre .1) (c .before .before .before .before .before .before .before .put-numbers .ensures) (c .before .before .put-text .ensures .content)
+returns c = let s = c .before .before .before .before .before .before .before .before .before .before .before in
+    header-put (s .args .file .now) (s .args .header .now) _ _ (s .pre .1)
+    (c .before .before .before .before .before .before .before .put-numbers .ensures) (c .before .before .put-text .ensures .content)
 
 pub put-header-spec : {M : Type 1} → statement M
 put-header-spec =

@@ -69,7 +69,9 @@ returns c =
     let a = c .before .before .before .before .before .before .before .before .before .before .before .before .before .before .before .args in
     let s = c .before .before .before .before .before .before .before .before in
     c .before .before .encode .ensures
-    ∙ numbers-put (a .file .now) _ _ _ _ _ (drop 16 (a .header .now)) (s .before .before .before .before .dimension .ensures .0) (s .before .before .before .axes .ensures .0) (s .before .before .vertex-count .ensures .0) (s .before .cell-count .ensures .0) (s .steps .ensures .0)
+    ∙ numbers-put (a .file .now) _ _ _ _ _ (drop 16 (a .header .now))
+    (s .before .before .before .before .dimension .ensures .0) (s .before .before .before .axes .ensures .0)
+    (s .before .before .vertex-count .ensures .0) (s .before .cell-count .ensures .0) (s .steps .ensures .0)
 
 pub put-numbers-spec : {M : Type 1} → statement M
 put-numbers-spec =

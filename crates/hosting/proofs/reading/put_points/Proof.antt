@@ -29,7 +29,8 @@ same-length : tie.Need-same-length
 same-length c = search needs
 
 returns : tie.Need-returns
-returns c = let s = c .before .before .before .before .before .before .before .before in points-put (s .args .file .now) _ (s .args .points .now) _ (c .before .before .before .before .before .point-count .ensures .0) (c .before .before .put-text .ensures .content)
+returns c = let s = c .before .before .before .before .before .before .before .before in points-put (s .args .file .now) _
+    (s .args .points .now) _ (c .before .before .before .before .before .point-count .ensures .0) (c .before .before .put-text .ensures .content)
 
 pub put-points-spec : {M : Type 1} → statement M
 put-points-spec =

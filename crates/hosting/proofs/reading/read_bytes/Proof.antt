@@ -25,16 +25,20 @@ accepts e = ap outcomeOf (sym (e .n .given .1)) ∙ e .before .before .before .r
 ok : (e : tie.After-n) → Passed (file e) × (e .n .given .0 .0 ≡ cellsLength (file e))
 ok e = passed (file e) _ (accepts e)
 
-front : (e : tie.After-n) → let w = e .before .before .before .read-words .last .1 .0 in (e .n .given .0 .0 ≤ length w) × (take (e .n .given .0 .0) w ≡ fileWords (file e))
+front : (e : tie.After-n) → let w = e .before .before .before .read-words .last .1 .0 in
+    (e .n .given .0 .0 ≤ length w) × (take (e .n .given .0 .0) w ≡ fileWords (file e))
 front e = words-read (file e) _ (accepts e) _ _ (e .before .before .before .read-words .ensures .1)
 
 -- there is room
-enough : (c : tie.Else1) → let a = c .before .before .before .before .before .before .before .before .before .before .before .before .args in short (a .file .now) (a .header .now) (a .cells .now) (a .points .now) ≡ false
+enough : (c : tie.Else1) → let a = c .before .before .before .before .before .before .before .before .before .before .before .before .args in
+    short (a .file .now) (a .header .now) (a .cells .now) (a .points .now) ≡ false
 enough c = sym (c .before .no-room .ensures) ∙ c .if1 .left
 
 space : (c : tie.Else1) → let a = c .before .before .before .before .before .before .before .before .before .before .before .before .args in
-    (40 ≤ length (a .header .now)) × (cellsLength (a .file .now) ≤ length (a .cells .now) / 2) × (pointCount (a .file .now) ≤ length (a .points .now) / 8)
-space c = let a = c .before .before .before .before .before .before .before .before .before .before .before .before .args in rooms (a .file .now) (a .header .now) (a .cells .now) (a .points .now) (enough c)
+    (40 ≤ length (a .header .now)) × (cellsLength (a .file .now) ≤ length (a .cells .now) / 2)
+    × (pointCount (a .file .now) ≤ length (a .points .now) / 8)
+space c = let a = c .before .before .before .before .before .before .before .before .before .before .before .before .args in
+    rooms (a .file .now) (a .header .now) (a .cells .now) (a .points .now) (enough c)
 
 slice-aggregate-read-words : tie.Need-slice-aggregate-read-words
 slice-aggregate-read-words c = search needs
@@ -66,10 +70,18 @@ slice-aggregate-encode c = sym (length-take-le _ _ (front (c .before .before .be
 encode-requires : tie.Need-encode-requires
 encode-requires c κs =
     let e = c .before .before .before .before .before .before .before .before .before in
-    omega (arith, length-take-le (e .n .given .0 .0) (e .before .before .before .read-words .last .1 .0) (front e .0), ok e .1, space (c .before .before .before .before .before .before) .1)
+    omega (
+      arith,
+      length-take-le (e .n .given .0 .0) (e .before .before .before .read-words .last .1 .0) (front e .0),
+      ok e .1,
+      space (c .before .before .before .before .before .before) .1,
+    )
 
 put-points-requires : tie.Need-put-points-requires
-put-points-requires c κs = (ok (c .before .before .before .before .before .before .before .before .before .before .before .before .before) .0 .whole, space (c .before .before .before .before .before .before .before .before .before .before) .2)
+put-points-requires c κs = (
+  ok (c .before .before .before .before .before .before .before .before .before .before .before .before .before) .0 .whole,
+  space (c .before .before .before .before .before .before .before .before .before .before) .2,
+)
 
 enum-known-r : tie.Need-enum-known-r
 enum-known-r c = search needs
@@ -87,13 +99,16 @@ returns-2 : tie.Need-returns-2
 returns-2 c =
     let e = c .before .before .before .before .before .before .before .before .before .before .before .before .before .before .before .before in
     let a = e .before .before .before .before .before .before .before .before .before .args in
-    read-done (file e) (a .header .now) (a .cells .now) (a .points .now) (ok e .0) (enough (c .before .before .before .before .before .before .before .before .before .before .before .before .before)) _ (ok e .1) _ (front e .1) _ _ _
-    (c .before .before .before .before .before .before .before .before .before .before .before .put-header .ensures) (c .before .before .before .before .before .before .encode .ensures) (c .before .before .put-points .ensures)
+    read-done (file e) (a .header .now) (a .cells .now) (a .points .now) (ok e .0) (enough
+    (c .before .before .before .before .before .before .before .before .before .before .before .before .before)) _ (ok e .1) _ (front e .1) _ _ _
+    (c .before .before .before .before .before .before .before .before .before .before .before .put-header .ensures)
+    (c .before .before .before .before .before .before .encode .ensures) (c .before .before .put-points .ensures)
 
 returns-3 : tie.Need-returns-3
 returns-3 c =
     let a = c .before .before .before .before .before .before .before .before .before .before .args in
-    read-refused (a .file .now) (a .header .now) (a .cells .now) (a .points .now) _ (ap outcomeOf (sym (c .before .r .given .1)) ∙ c .before .before .before .before .read-words .ensures .0)
+    read-refused (a .file .now) (a .header .now) (a .cells .now)
+    (a .points .now) _ (ap outcomeOf (sym (c .before .r .given .1)) ∙ c .before .before .before .before .read-words .ensures .0)
 
 pub read-bytes-spec : {M : Type 1} → statement M
 read-bytes-spec =

@@ -3,8 +3,8 @@ use mathlib.Core.Path.{_≡_, sym, ap, _∙_}
 use mathlib.Core.List.{List}
 use Prim.Native.Nat.{ℕ}
 use Rattle.rules.specs.Calls.{accepted}
-use Rattle.read.specs.Read.{readInput, readOutcome, outcomeOf}
-use Rattle.hosting.specs.Rooms.{floatRoom}
+use Rattle.read.specs.Read.{readInput, readOutcome, headerOutcome}
+use Rattle.hosting.specs.Inner.Rooms.{floatRoom}
 use Rattle.hosting.proofs.ReadRows.{passed, read-accepts, read-refuses, read-roomy, words-roomy}
 use borrow.Author.Needs.{needs}
 use Rattle.hosting.proofs.reading.read_words.Statement.{statement}
@@ -15,7 +15,10 @@ file c = c .before .before .before .before .before .before .before .before .befo
 
 accepts : (c : tie.After-enum-told) → accepted (c .enum-told .given .0 .0) ≡ readOutcome (readInput (file c) floatRoom floatRoom)
 accepts c =
-    ap outcomeOf (sym (c .enum-told .given .1)) ∙ read-roomy (file c) (c .before .before .before .before .before .before .before .before .before .before .args .words .now) (c .before .before .before .before .before .before .before .before .before .before .pre) _ (c .before .before .before .before .before .read .ensures .0)
+    ap headerOutcome (sym (c .enum-told .given .1))
+    ∙ read-roomy (file c) (c .before .before .before .before .before .before .before .before .before .before .args .words .now)
+    (c .before .before .before .before .before .before .before .before .before .before .pre)
+    _ (c .before .before .before .before .before .read .ensures .0)
 
 slice-aggregate-read : tie.Need-slice-aggregate-read
 slice-aggregate-read c = search needs
@@ -37,8 +40,10 @@ same-length c = search needs
 
 returns : tie.Need-returns
 returns c =
-    let s = c .before .before .before .before .before .before .before .before .before .before .before in
-    (ap accepted (c .words2 .ensures) ∙ read-accepts (file (c .before)) _ (accepts (c .before)), words-roomy (s .args .file .now) (s .args .words .now) (s .pre) _ (c .before .before .before .before .before .before .read .ensures .1 .0))
+    let s = c .before .before .before .before .before .before .before .before .before .before .before in (
+      ap accepted (c .words2 .ensures) ∙ read-accepts (file (c .before)) _ (accepts (c .before)),
+      words-roomy (s .args .file .now) (s .args .words .now) (s .pre) _ (c .before .before .before .before .before .before .read .ensures .1 .0),
+    )
 
 same-length-2 : tie.Need-same-length-2
 same-length-2 c = search needs
@@ -46,7 +51,8 @@ same-length-2 c = search needs
 returns-2 : tie.Need-returns-2
 returns-2 c =
     let s = c .before .before .before .before .before .before .before .before .before .before .before in (
-      read-refuses (s .args .file .now) _ (ap outcomeOf (sym (c .before .r .given .1)) ∙ read-roomy (s .args .file .now) (s .args .words .now) (s .pre) _ (c .before .before .before .before .before .before .read .ensures .0)),
+      read-refuses (s .args .file .now) _ (ap headerOutcome (sym (c .before .r .given .1))
+          ∙ read-roomy (s .args .file .now) (s .args .words .now) (s .pre) _ (c .before .before .before .before .before .before .read .ensures .0)),
       words-roomy (s .args .file .now) (s .args .words .now) (s .pre) _ (c .before .before .before .before .before .before .read .ensures .1 .0),
     )
 

@@ -17,14 +17,21 @@ bits-in-range-requires-2 c κs = search needs
 
 returns-2 : tie.Need-returns-2
 returns-2 c =
-    rw (sym (c .before .before .before .bits-in-range .ensures) ∙ not-false _ (c .before .before .if1 .left), sym (c .before .bits-in-range2 .ensures) ∙ not-true _ (c .if2 .taken)) refl
+    rw (
+      sym (c .before .before .before .bits-in-range .ensures) ∙ not-false _ (c .before .before .if1 .left),
+      sym (c .before .bits-in-range2 .ensures) ∙ not-true _ (c .if2 .taken),
+    ) refl
 
 bits-in-range-requires-3 : tie.Need-bits-in-range-requires-3
 bits-in-range-requires-3 c κs = search needs
 
 returns-3 : tie.Need-returns-3
 returns-3 c =
-    rw (sym (c .before .before .before .before .bits-in-range .ensures) ∙ not-false _ (c .before .before .before .if1 .left), sym (c .before .before .bits-in-range2 .ensures) ∙ not-false _ (c .before .if2 .left), and-one)
+    rw (
+      sym (c .before .before .before .before .bits-in-range .ensures) ∙ not-false _ (c .before .before .before .if1 .left),
+      sym (c .before .before .bits-in-range2 .ensures) ∙ not-false _ (c .before .if2 .left),
+      and-one,
+    )
     (c .bits-in-range3 .ensures)
 
 pub floats-ok-spec : {M : Type 1} → statement M

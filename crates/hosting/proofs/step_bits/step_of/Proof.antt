@@ -14,19 +14,23 @@ float-of-requires-2 : tie.Need-float-of-requires-2
 float-of-requires-2 c κs = held _ _ _ (in-slant _ (c .before .before .if1 .left) (c .if2 .taken) ∙ c .before .before .before .before .pre) .0
 
 float-of-requires-3 : tie.Need-float-of-requires-3
-float-of-requires-3 c κs = held _ _ _ (in-slant _ (c .before .before .before .if1 .left) (c .before .if2 .taken) ∙ c .before .before .before .before .before .pre) .1
+float-of-requires-3 c κs =
+    held _ _ _ (in-slant _ (c .before .before .before .if1 .left) (c .before .if2 .taken) ∙ c .before .before .before .before .before .pre) .1
 
 returns-2 : tie.Need-returns-2
-returns-2 c = rw (c .before .float-of2 .ensures, c .float-of3 .ensures) (sym (slant-is _ (c .before .before .before .before .if1 .left) (c .before .before .if2 .taken)))
+returns-2 c = rw (c .before .float-of2 .ensures, c .float-of3 .ensures)
+    (sym (slant-is _ (c .before .before .before .before .if1 .left) (c .before .before .if2 .taken)))
 
 float-of-requires-4 : tie.Need-float-of-requires-4
 float-of-requires-4 c κs = held _ _ _ (in-turn _ (c .before .before .if1 .left) (c .if2 .left) ∙ c .before .before .before .before .pre) .0
 
 float-of-requires-5 : tie.Need-float-of-requires-5
-float-of-requires-5 c κs = held _ _ _ (in-turn _ (c .before .before .before .if1 .left) (c .before .if2 .left) ∙ c .before .before .before .before .before .pre) .1
+float-of-requires-5 c κs =
+    held _ _ _ (in-turn _ (c .before .before .before .if1 .left) (c .before .if2 .left) ∙ c .before .before .before .before .before .pre) .1
 
 float-of-requires-6 : tie.Need-float-of-requires-6
-float-of-requires-6 c κs = held _ _ _ (in-turn _ (c .before .before .before .before .if1 .left) (c .before .before .if2 .left) ∙ c .before .before .before .before .before .before .pre) .2
+float-of-requires-6 c κs = held _ _ _ (in-turn _ (c .before .before .before .before .if1 .left) (c .before .before .if2 .left)
+    ∙ c .before .before .before .before .before .before .pre) .2
 
 returns-3 : tie.Need-returns-3
 returns-3 c =

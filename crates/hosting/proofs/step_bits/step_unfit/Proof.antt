@@ -15,7 +15,8 @@ unused-set-requires : tie.Need-unused-set-requires
 unused-set-requires c κs = search needs
 
 returns : tie.Need-returns
-returns c = rw (ap (stepFits _) (sym (c .before .before .before .step-of .ensures)) ∙ sym (c .before .before .fits2 .ensures) ∙ c .before .if1 .taken) (c .unused-set .ensures)
+returns c = rw (ap (stepFits _) (sym (c .before .before .before .step-of .ensures)) ∙ sym (c .before .before .fits2 .ensures) ∙ c .before .if1 .taken)
+    (c .unused-set .ensures)
 
 returns-2 : tie.Need-returns-2
 returns-2 c = rw (ap (stepFits _) (sym (c .before .before .step-of .ensures)) ∙ sym (c .before .fits2 .ensures) ∙ c .if1 .left) refl

@@ -15,13 +15,15 @@ any-set-requires-2 : tie.Need-any-set-requires-2
 any-set-requires-2 c κs = search needs
 
 returns-2 : tie.Need-returns-2
-returns-2 c = c .any-set2 .ensures ∙ unused-slant (c .before .before .before .before .before .args .t) (c .before .before .before .if1 .left) (c .before .if2 .taken)
+returns-2 c = c .any-set2 .ensures
+    ∙ unused-slant (c .before .before .before .before .before .args .t) (c .before .before .before .if1 .left) (c .before .if2 .taken)
 
 any-set-requires-3 : tie.Need-any-set-requires-3
 any-set-requires-3 c κs = search needs
 
 returns-3 : tie.Need-returns-3
-returns-3 c = c .any-set3 .ensures ∙ unused-turn (c .before .before .before .before .before .args .t) (c .before .before .before .if1 .left) (c .before .if2 .left)
+returns-3 c = c .any-set3 .ensures
+    ∙ unused-turn (c .before .before .before .before .before .args .t) (c .before .before .before .if1 .left) (c .before .if2 .left)
 
 pub unused-set-spec : {M : Type 1} → statement M
 unused-set-spec =

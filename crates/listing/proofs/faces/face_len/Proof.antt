@@ -5,7 +5,7 @@ use native.Mathlib.Omega.{arith}
 use lib.ListN.{length, take}
 use borrow.Author.Needs.{needs}
 use Rattle.simplex.specs.Cell.{Cell}
-use Rattle.boundary.specs.Walk.{faceAt}
+use Rattle.boundary.specs.Inner.Walk.{faceAt}
 use Rattle.boundary.proofs.FaceWords.{face-row}
 use Rattle.printing.specs.Fields.{fields}
 use Rattle.listing.specs.Lines.{faceLine}

@@ -5,7 +5,7 @@ use Prim.Native.Nat.{_+_, _*_, _≤_}
 use native.Mathlib.Omega.{arith}
 use lib.ListN.{length, length-append}
 use borrow.Author.Needs.{needs}
-use Rattle.boundary.specs.Walk.{faceAt, tableFaces, facesFrom, AtFace}
+use Rattle.boundary.specs.Inner.Walk.{faceAt, tableFaces, facesFrom, AtFace}
 use Rattle.boundary.proofs.Sizes.{faces-few}
 use Rattle.boundary.proofs.Walking.{from-start, from-end, face-next}
 use Rattle.listing.specs.Lines.{faceLine, faceLines}

@@ -8,7 +8,7 @@ use lib.Seq.{take-at}
 use borrow.Author.Needs.{needs}
 use Rattle.words.proofs.Placed.{placed-first}
 use Rattle.words.proofs.Writing.{Left, left-starts, left-next, left-ends}
-use Rattle.boundary.specs.Walk.{faceAt}
+use Rattle.boundary.specs.Inner.Walk.{faceAt}
 use Rattle.boundary.proofs.FaceWords.{face-row}
 use Rattle.listing.proofs.faces.fill_row.Statement.{statement}
 use Rattle.listing.proofs.faces.fill_row.Tie as tie

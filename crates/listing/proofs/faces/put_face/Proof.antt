@@ -5,7 +5,7 @@ use Prim.Native.Nat.{ℕ}
 use lib.ListN.{length, take}
 use borrow.Author.Needs.{needs}
 use Rattle.simplex.specs.SignWords.{signOf}
-use Rattle.boundary.specs.Walk.{faceAt}
+use Rattle.boundary.specs.Inner.Walk.{faceAt}
 use Rattle.boundary.proofs.FaceWords.{face-row}
 use Rattle.printing.specs.Decimal.{digits}
 use Rattle.printing.specs.Fields.{line}

@@ -3,7 +3,7 @@ use native.Mathlib.Omega.{arith}
 use lib.ListN.{length}
 use borrow.Author.Needs.{needs}
 use Rattle.listing.specs.Lines.{faceLine}
-use Rattle.boundary.specs.Walk.{facesFrom}
+use Rattle.boundary.specs.Inner.Walk.{facesFrom}
 use Rattle.boundary.proofs.Walking.{face-less, Walked, walk-starts, walk-fits, walk-goes, walk-ends}
 use Rattle.listing.proofs.faces.put_faces.Statement.{statement}
 use Rattle.listing.proofs.faces.put_faces.Tie as tie

@@ -11,7 +11,14 @@ digits-len-requires : tie.Need-digits-len-requires
 digits-len-requires c κs = search needs
 
 add-result : tie.Need-add-result
-add-result c = omega (arith, c .digits-len .ensures, digits-length (c .before .args .d), digits-length (c .before .args .n), digits-length (c .before .args .v), digits-length (c .before .args .faces))
+add-result c = omega (
+  arith,
+  c .digits-len .ensures,
+  digits-length (c .before .args .d),
+  digits-length (c .before .args .n),
+  digits-length (c .before .args .v),
+  digits-length (c .before .args .faces),
+)
 
 digits-len-requires-2 : tie.Need-digits-len-requires-2
 digits-len-requires-2 c κs = search needs
@@ -19,7 +26,15 @@ digits-len-requires-2 c κs = search needs
 add-result-2 : tie.Need-add-result-2
 add-result-2 c =
     let start = c .before .before in
-    omega (arith, c .before .digits-len .ensures, c .digits-len2 .ensures, digits-length (start .args .d), digits-length (start .args .n), digits-length (start .args .v), digits-length (start .args .faces))
+    omega (
+      arith,
+      c .before .digits-len .ensures,
+      c .digits-len2 .ensures,
+      digits-length (start .args .d),
+      digits-length (start .args .n),
+      digits-length (start .args .v),
+      digits-length (start .args .faces),
+    )
 
 digits-len-requires-3 : tie.Need-digits-len-requires-3
 digits-len-requires-3 c κs = search needs
@@ -27,7 +42,16 @@ digits-len-requires-3 c κs = search needs
 add-result-3 : tie.Need-add-result-3
 add-result-3 c =
     let start = c .before .before .before in
-    omega (arith, c .before .before .digits-len .ensures, c .before .digits-len2 .ensures, c .digits-len3 .ensures, digits-length (start .args .d), digits-length (start .args .n), digits-length (start .args .v), digits-length (start .args .faces))
+    omega (
+      arith,
+      c .before .before .digits-len .ensures,
+      c .before .digits-len2 .ensures,
+      c .digits-len3 .ensures,
+      digits-length (start .args .d),
+      digits-length (start .args .n),
+      digits-length (start .args .v),
+      digits-length (start .args .faces),
+    )
 
 digits-len-requires-4 : tie.Need-digits-len-requires-4
 digits-len-requires-4 c κs = search needs
@@ -35,12 +59,42 @@ digits-len-requires-4 c κs = search needs
 add-result-4 : tie.Need-add-result-4
 add-result-4 c =
     let start = c .before .before .before .before in
-    omega (arith, c .before .before .before .digits-len .ensures, c .before .before .digits-len2 .ensures, c .before .digits-len3 .ensures, c .digits-len4 .ensures, digits-length (start .args .d), digits-length (start .args .n), digits-length (start .args .v), digits-length (start .args .faces))
+    omega (
+      arith,
+      c .before .before .before .digits-len .ensures,
+      c .before .before .digits-len2 .ensures,
+      c .before .digits-len3 .ensures,
+      c .digits-len4 .ensures,
+      digits-length (start .args .d),
+      digits-length (start .args .n),
+      digits-length (start .args .v),
+      digits-length (start .args .faces),
+    )
 
 returns : tie.Need-returns
 returns c =
     let start = c .before .before .before .before in
-    let sum = first-sum (start .args .d) (start .args .n) (start .args .v) (start .args .faces) in (omega (arith, c .before .before .before .digits-len .ensures, c .before .before .digits-len2 .ensures, c .before .digits-len3 .ensures, c .digits-len4 .ensures, sum), omega (arith, c .before .before .before .digits-len .ensures, c .before .before .digits-len2 .ensures, c .before .digits-len3 .ensures, c .digits-len4 .ensures, digits-length (start .args .d), digits-length (start .args .n), digits-length (start .args .v), digits-length (start .args .faces)))
+    let sum = first-sum (start .args .d) (start .args .n) (start .args .v) (start .args .faces) in (
+      omega (
+        arith,
+        c .before .before .before .digits-len .ensures,
+        c .before .before .digits-len2 .ensures,
+        c .before .digits-len3 .ensures,
+        c .digits-len4 .ensures,
+        sum,
+      ),
+      omega (
+        arith,
+        c .before .before .before .digits-len .ensures,
+        c .before .before .digits-len2 .ensures,
+        c .before .digits-len3 .ensures,
+        c .digits-len4 .ensures,
+        digits-length (start .args .d),
+        digits-length (start .args .n),
+        digits-length (start .args .v),
+        digits-length (start .args .faces),
+      ),
+    )
 
 pub first-len-spec : {M : Type 1} → statement M
 first-len-spec =

@@ -5,7 +5,7 @@ use Prim.Native.Nat.{ℕ, _-_, _+_}
 use native.Mathlib.Omega.{arith}
 use lib.ListN.{length-append, length}
 use borrow.Author.Needs.{needs}
-use Rattle.boundary.specs.Walk.{tableFaces}
+use Rattle.boundary.specs.Inner.Walk.{tableFaces}
 use Rattle.listing.specs.Lines.{firstLine, vertexLines, faceLines, keyText}
 use Rattle.listing.proofs.Bounds.{vertices-length}
 use Rattle.listing.proofs.key.key_size.Statement.{statement}
@@ -32,7 +32,14 @@ add-bytes-2 c =
     let start = c .before .before .before .before .before .before in
     let v = start .args .v in
     let long = vertices-length (start .args .n) v (start .args .points .now) (start .pre .1 .axes) in
-    omega (arith, c .before .before .first-len .ensures .1, c .before .vertices-len .ensures, c .before .before .before .faces-size .ensures .1 .1, long, start .pre .1 .vertices)
+    omega (
+      arith,
+      c .before .before .first-len .ensures .1,
+      c .before .vertices-len .ensures,
+      c .before .before .before .faces-size .ensures .1 .1,
+      long,
+      start .pre .1 .vertices,
+    )
 
 returns : tie.Need-returns
 unfolding keyText
@@ -47,7 +54,14 @@ returns c =
     let first = c .before .before .first-len .ensures .0 ∙ ap (λ (k : ℕ). length (firstLine d n v k)) (size .faces) in
     record {
       faces = size .faces;
-      text = omega (arith, first, c .before .vertices-len .ensures, size .bytes, length-append (firstLine d n v (length fs)) (vertexLines n v ps ++ faceLines fs), length-append (vertexLines n v ps) (faceLines fs));
+      text = omega (
+        arith,
+        first,
+        c .before .vertices-len .ensures,
+        size .bytes,
+        length-append (firstLine d n v (length fs)) (vertexLines n v ps ++ faceLines fs),
+        length-append (vertexLines n v ps) (faceLines fs),
+      );
     }
 
 pub key-size-spec : {M : Type 1} → statement M

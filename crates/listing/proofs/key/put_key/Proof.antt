@@ -58,7 +58,8 @@ returns c =
     let start = last .before .before .before .before .before .before .before .before in
     key-put (start .args .d) (start .args .n) (start .args .v) (start .args .points .now) _ (start .args .faces) (start .pre .2)
     (start .args .buf .now) (start .pre .3)
-    (c .before .before .before .before .before .before .before .before .before .before .first-line .ensures) (c .before .before .before .before .before .before .put-vertices .ensures) (c .before .before .put-faces .ensures)
+    (c .before .before .before .before .before .before .before .before .before .before .first-line .ensures)
+    (c .before .before .before .before .before .before .put-vertices .ensures) (c .before .before .put-faces .ensures)
 
 pub put-key-spec : {M : Type 1} → statement M
 put-key-spec =

@@ -11,15 +11,19 @@ use Rattle.listing.proofs.vertices.put_vertices.Statement.{statement}
 use Rattle.listing.proofs.vertices.put_vertices.Tie as tie
 
 abbrev Inv-loop : tie.InvT-loop
-Inv-loop n v points buf₀ at cur₀ p₀ buf cur p = (p ≤ v) × Left at (vertexLines n v points) buf₀ cur (concat (drop p (tabulate v (vertexLine n points)))) buf
+Inv-loop n v points buf₀ at cur₀ p₀ buf cur p =
+    (p ≤ v) × Left at (vertexLines n v points) buf₀ cur (concat (drop p (tabulate v (vertexLine n points)))) buf
 
 abbrev μ-loop : tie.MeasureT-loop
 μ-loop n v points buf₀ at cur₀ p₀ buf cur p = v - p
 
 loop-holds : tie.Need-loop-holds Inv-loop μ-loop
 loop-holds c =
-    let start = c .before .before in
-    (omega arith, left-starts (start .args .at) (vertexLines (start .args .n) (start .args .v) (start .args .points .now)) (start .args .buf .now) (start .pre .1))
+    let start = c .before .before in (
+      omega arith,
+      left-starts (start .args .at) (vertexLines (start .args .n) (start .args .v) (start .args .points .now))
+          (start .args .buf .now) (start .pre .1),
+    )
 
 put-vertex-requires : tie.Need-put-vertex-requires Inv-loop μ-loop
 put-vertex-requires c κs =
@@ -28,7 +32,12 @@ put-vertex-requires c κs =
     let v = start .args .v in
     let p = turn .loop .p in
     let f = vertexLine (start .args .n) (start .args .points .now) in (
-      record { axes = start .pre .0 .axes; number = omega (arith, start .pre .0 .vertices); within = point-within (start .args .n) (start .args .v) (turn .loop .p) _ (start .pre .0 .long) (c .before .loop-test .taken); ranged = start .pre .0 .ranged },
+      record {
+        axes = start .pre .0 .axes;
+        number = omega (arith, start .pre .0 .vertices);
+        within = point-within (start .args .n) (start .args .v) (turn .loop .p) _ (start .pre .0 .long) (c .before .loop-test .taken);
+        ranged = start .pre .0 .ranged;
+      },
       left-fits (f p) (concat (drop (p + 1) (tabulate v f))) (rw (lines-rest v f p (c .before .loop-test .taken)) at (turn .loop .inv .1)),
     )
 
@@ -46,7 +55,8 @@ loop-again c =
     let p = turn .loop .p in
     let f = vertexLine (start .args .n) (start .args .points .now) in (
       omega arith,
-      left-goes (f p) (concat (drop (p + 1) (tabulate v f))) _ _ (rw (lines-rest v f p (c .before .before .before .before .loop-test .taken)) at (turn .loop .inv .1)) (c .before .before .put-vertex .ensures),
+      left-goes (f p) (concat (drop (p + 1) (tabulate v f))) _ _ (rw (lines-rest v f p (c .before .before .before .before .loop-test .taken))
+          at (turn .loop .inv .1)) (c .before .before .put-vertex .ensures),
     )
 
 same-length : tie.Need-same-length Inv-loop μ-loop

@@ -20,7 +20,8 @@ use Rattle.listing.proofs.vertices.vertex_len.Statement.{statement}
 use Rattle.listing.proofs.vertices.vertex_len.Tie as tie
 
 abbrev Inv-loop : tie.InvT-loop
-Inv-loop n p points k₀ base j₀ k j = (j ≤ n) × (k + length (restOfLine (map coordinate (drop j (part n p points)))) ≡ 1 + length (vertexLine n points p))
+Inv-loop n p points k₀ base j₀ k j =
+    (j ≤ n) × (k + length (restOfLine (map coordinate (drop j (part n p points)))) ≡ 1 + length (vertexLine n points p))
 
 abbrev μ-loop : tie.MeasureT-loop
 μ-loop n p points k₀ base j₀ k j = n - j
@@ -58,7 +59,11 @@ coordinate-len-requires c κs =
 add-k-2 : tie.Need-add-k-2 Inv-loop μ-loop
 add-k-2 c =
     let start = c .before .before .before .before .before .before in
-    omega (arith, c .coordinate-len .ensures, coordinate-length (getD (start .args .points .now) (start .args .p * start .args .n + c .before .before .before .loop .j) nan))
+    omega (
+      arith,
+      c .coordinate-len .ensures,
+      coordinate-length (getD (start .args .points .now) (start .args .p * start .args .n + c .before .before .before .loop .j) nan),
+    )
 
 add-k-3 : tie.Need-add-k-3 Inv-loop μ-loop
 add-k-3 c =
@@ -106,7 +111,12 @@ loop-again c =
 returns : tie.Need-returns Inv-loop μ-loop
 returns c =
     let start = c .before .before .before .before in
-    omega (arith, c .before .loop .inv .1, ap length (points-end (start .args .n) (start .args .p) (start .args .points .now) (start .pre .within) (c .before .loop .j) (c .loop-test .left)))
+    omega (
+      arith,
+      c .before .loop .inv .1,
+      ap length
+          (points-end (start .args .n) (start .args .p) (start .args .points .now) (start .pre .within) (c .before .loop .j) (c .loop-test .left)),
+    )
 
 pub vertex-len-spec : {M : Type 1} → statement M
 vertex-len-spec =

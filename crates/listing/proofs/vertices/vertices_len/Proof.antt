@@ -23,7 +23,12 @@ loop-holds c = (omega arith, omega arith)
 vertex-len-requires : tie.Need-vertex-len-requires Inv-loop μ-loop
 vertex-len-requires c κs =
     let start = c .before .before .before in
-    record { axes = start .pre .axes; number = omega (arith, start .pre .vertices); within = point-within (start .args .n) (start .args .v) (c .before .loop .p) _ (start .pre .long) (c .loop-test .taken); ranged = start .pre .ranged }
+    record {
+      axes = start .pre .axes;
+      number = omega (arith, start .pre .vertices);
+      within = point-within (start .args .n) (start .args .v) (c .before .loop .p) _ (start .pre .long) (c .loop-test .taken);
+      ranged = start .pre .ranged;
+    }
 
 add-k : tie.Need-add-k Inv-loop μ-loop
 add-k c =
@@ -59,7 +64,13 @@ loop-again c =
     let p = turn .loop .p in
     let f = vertexLine n (start .args .points .now) in (
       omega arith,
-      omega (arith, c .vertex-len .ensures, turn .loop .inv .1, ap length (lines-rest v f p (c .before .loop-test .taken)), length-append (f p) (concat (drop (p + 1) (tabulate v f)))),
+      omega (
+        arith,
+        c .vertex-len .ensures,
+        turn .loop .inv .1,
+        ap length (lines-rest v f p (c .before .loop-test .taken)),
+        length-append (f p) (concat (drop (p + 1) (tabulate v f))),
+      ),
     )
 
 returns : tie.Need-returns Inv-loop μ-loop

@@ -11,7 +11,7 @@ use borrow.Author.Needs.{needs}
 use borrow.Author.Tests.{not-true, not-false}
 use Rattle.words.specs.Records.{tabulate, part, allOf}
 use Rattle.words.proofs.Loops.{all-goes, all-stops, all-ends}
-use Rattle.points.specs.Stay.{staysIn, allStay}
+use Rattle.points.specs.Inner.Stay.{staysIn, allStay}
 use Rattle.words.proofs.Records.{record-fits, tabulate-length, tabulate-at}
 use Rattle.points.proofs.LevelLaws.{loaded}
 use Rattle.points.proofs.levels.all_stay.Statement.{statement}

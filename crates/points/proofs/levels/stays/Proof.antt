@@ -10,7 +10,7 @@ use lib.Seq.{length-front, take-at, length-take-le}
 use borrow.Author.Needs.{needs}
 use borrow.Author.Tests.{not-true, not-false}
 use Rattle.words.specs.Records.{allOf}
-use Rattle.points.specs.Stay.{staysIn}
+use Rattle.points.specs.Inner.Stay.{staysIn}
 use Rattle.points.specs.Step.{inRange, movedPoint}
 use Rattle.points.proofs.Staying.{stays-one}
 use Rattle.points.proofs.levels.stays.Statement.{statement}

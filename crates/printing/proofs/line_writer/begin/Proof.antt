@@ -31,8 +31,8 @@ use denote.Triple.Entry.{onEntry}
 use denote.Triple.Spec.{Meets, tripleOf}
 use denote.Triple.Table.{entered, cited}
 use denote.Triple.Walked.{says, needs, Stays, stay-dropped, walkOf, goes-dropped, ends-at, walked, walk-meets}
-use Rattle.words.specs.Placed.{Put}
-use Rattle.printing.specs.Advanced.{writerAt}
+use Rattle.words.specs.Inner.Placed.{Put}
+use Rattle.printing.specs.Inner.Advanced.{writerAt}
 use Rattle.printing.proofs.Held.{machine, handed}
 use Rattle.printing.proofs.Lending.{valueOf, bytesAt, bytesOwn, Puts, puts}
 use Rattle.printing.proofs.Locals.{alloc3, cell, cells, free3}

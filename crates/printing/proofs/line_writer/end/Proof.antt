@@ -41,7 +41,7 @@ use denote.Triple.Statement.{Contract, Triple}
 use denote.Triple.Table.{entered, cited}
 use denote.Triple.Walked.{says, needs, Stays, walkOf, ends-at, walked, walk-meets}
 use Rattle.printing.specs.declared.line_writer.LineWriter.{LineWriter}
-use Rattle.words.specs.Placed.{Put}
+use Rattle.words.specs.Inner.Placed.{Put}
 use Rattle.printing.proofs.Held.{lifetime, writer, machine, writer-gave, writer-gave-goes}
 use Rattle.printing.proofs.Lending.{valueOf, bytesOwn}
 use Rattle.printing.proofs.Locals.{alloc3, cell, cells, free-cell, free3}
@@ -138,7 +138,8 @@ module _ {M : Type 1} (𝓤 : URA M) (H : Heap 𝓤) (A : Atoms 𝓤) (W : Given
         calls-at ! (fmOf 𝓤 H (W .laws) 𝓣) (Callee 𝓤 H A mem run) known to (and-then ! (cell ! 3 refl)
         (and-then ! (cell ! 7 refl) (and-then ! (lit ! tt) (no-more !)))) (λ w.
         use1 W
-        (later (some (λ (r : ℕ). ((‵ (flft κ q) ⊛ ‵ ftrue) ⊛ ‵ (usize .own r (w ∷ []))) ⊛ raw (ensured 𝓤 H A callee.ended (callee.clauses 𝓤 H A mem run) (κ, tt) a tt r))))
+        (later (some (λ (r : ℕ). ((‵ (flft κ q) ⊛ ‵ ftrue) ⊛ ‵ (usize .own r (w ∷ [])))
+        ⊛ raw (ensured 𝓤 H A callee.ended (callee.clauses 𝓤 H A mem run) (κ, tt) a tt r))))
         (id⊢ 𝓤 _) $ await ! tt $ pick ! (λ r.
         -- what `put_byte` ensures, at some last list
         split ! $ move ! (1 ∷ []) $

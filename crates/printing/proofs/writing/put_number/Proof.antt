@@ -5,7 +5,7 @@ use Prim.Native.Nat.{_/_, _≤_, _<_, _-_, _+_}
 use native.Mathlib.Omega.{arith}
 use lib.ListN.{length-append, length-set, length}
 use borrow.Author.Needs.{needs}
-use Rattle.words.specs.Placed.{placed}
+use Rattle.words.specs.Inner.Placed.{placed}
 use Rattle.words.proofs.Placed.{placed-one, placed-last}
 use Rattle.printing.specs.Decimal.{digit, digits}
 use Rattle.printing.proofs.Digits.{digits-one, digits-more, digits-some}

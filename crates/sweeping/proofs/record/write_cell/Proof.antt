@@ -7,11 +7,11 @@ use native.Mathlib.Omega.{arith}
 use borrow.Author.Needs.{needs}
 use lib.ListN.{length, take, set, length-set, length-take}
 use Rattle.words.specs.Records.{tabulate}
-use Rattle.words.specs.Placed.{placed}
+use Rattle.words.specs.Inner.Placed.{placed}
 use Rattle.words.proofs.Placed.{placed-length}
-use Rattle.sweeping.specs.Written.{recordWords}
+use Rattle.sweeping.specs.Inner.Written.{recordWords}
 use Rattle.simplex.specs.SignWords.{turnedSign}
-use Rattle.sweeping.specs.RecordWords.{liftedFrom}
+use Rattle.sweeping.specs.Inner.RecordWords.{liftedFrom}
 use Rattle.sweeping.proofs.Pieces.{placed-start, placed-piece}
 use Rattle.sweeping.proofs.RecordLaws.{record-long, word-sign, word-lower, word-upper}
 use Rattle.sweeping.proofs.record.write_cell.Statement.{statement}

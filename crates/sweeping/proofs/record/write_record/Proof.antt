@@ -7,10 +7,10 @@ use borrow.Author.Needs.{needs}
 use lib.ListN.{length, take, length-take}
 use lib.Seq.{take-length}
 use Rattle.words.specs.Records.{tabulate}
-use Rattle.words.specs.Placed.{placed}
+use Rattle.words.specs.Inner.Placed.{placed}
 use Rattle.words.proofs.Placed.{placed-length}
-use Rattle.sweeping.specs.Written.{recordWords}
-use Rattle.sweeping.specs.Across.{wingWord}
+use Rattle.sweeping.specs.Inner.Written.{recordWords}
+use Rattle.sweeping.specs.Inner.Across.{wingWord}
 use Rattle.sweeping.proofs.Pieces.{placed-piece}
 use Rattle.sweeping.proofs.RecordLaws.{record-long, word-wing}
 use Rattle.sweeping.proofs.AcrossLaws.{sides-fit, wing-word}

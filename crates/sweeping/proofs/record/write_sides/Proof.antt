@@ -7,10 +7,10 @@ use borrow.Author.Needs.{needs}
 use lib.ListN.{length, take, length-set}
 use lib.Seq.{take-length}
 use Rattle.words.specs.Records.{tabulate}
-use Rattle.words.specs.Placed.{placed}
+use Rattle.words.specs.Inner.Placed.{placed}
 use Rattle.words.proofs.Records.{tabulate-at, tabulate-length}
 use Rattle.words.proofs.Placed.{placed-none, placed-word}
-use Rattle.sweeping.specs.Across.{sideWord}
+use Rattle.sweeping.specs.Inner.Across.{sideWord}
 use Rattle.sweeping.proofs.record.write_sides.Statement.{statement}
 use Rattle.sweeping.proofs.record.write_sides.Tie as tie
 

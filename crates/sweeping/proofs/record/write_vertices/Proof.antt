@@ -7,11 +7,11 @@ use borrow.Author.Needs.{needs}
 use lib.ListN.{length, take, length-set}
 use lib.Seq.{take-length}
 use Rattle.words.specs.Records.{tabulate}
-use Rattle.words.specs.Placed.{placed}
+use Rattle.words.specs.Inner.Placed.{placed}
 use Rattle.words.proofs.Records.{tabulate-at, tabulate-length}
 use Rattle.words.proofs.Placed.{placed-none, placed-word}
 use Rattle.prism.specs.Cells.{atLevel}
-use Rattle.sweeping.specs.RecordWords.{liftedFrom}
+use Rattle.sweeping.specs.Inner.RecordWords.{liftedFrom}
 use Rattle.sweeping.proofs.record.write_vertices.Statement.{statement}
 use Rattle.sweeping.proofs.record.write_vertices.Tie as tie
 

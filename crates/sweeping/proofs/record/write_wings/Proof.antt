@@ -7,10 +7,10 @@ use borrow.Author.Needs.{needs}
 use lib.ListN.{length, take, set, length-set, length-take}
 use lib.Seq.{take-length}
 use Rattle.words.specs.Records.{tabulate}
-use Rattle.words.specs.Placed.{placed}
+use Rattle.words.specs.Inner.Placed.{placed}
 use Rattle.words.proofs.Records.{tabulate-at, tabulate-length}
 use Rattle.words.proofs.Placed.{placed-length, placed-word}
-use Rattle.sweeping.specs.Across.{sideWord, wingWord}
+use Rattle.sweeping.specs.Inner.Across.{sideWord, wingWord}
 use Rattle.sweeping.proofs.Pieces.{placed-start, placed-piece}
 use Rattle.sweeping.proofs.AcrossLaws.{wing-low, wing-high, wing-last}
 use Rattle.sweeping.proofs.record.write_wings.Statement.{statement}

@@ -6,7 +6,7 @@ use borrow.Author.Needs.{needs}
 use borrow.Author.Tests.{eq-eqb, ne-eqb}
 use Rattle.records.specs.Layout.{empty}
 use Rattle.prism.specs.Wings.{cellNumber}
-use Rattle.sweeping.specs.Written.{solidWing}
+use Rattle.sweeping.specs.Inner.Written.{solidWing}
 use Rattle.sweeping.proofs.wings.face_first.Statement.{statement}
 use Rattle.sweeping.proofs.wings.face_first.Tie as tie
 

@@ -6,7 +6,7 @@ use borrow.Author.Needs.{needs}
 use borrow.Author.Tests.{eq-eqb, ne-eqb}
 use Rattle.records.specs.Layout.{empty}
 use Rattle.prism.specs.Wings.{backTo}
-use Rattle.sweeping.specs.Written.{solidWing}
+use Rattle.sweeping.specs.Inner.Written.{solidWing}
 use Rattle.sweeping.proofs.wings.face_row.Statement.{statement}
 use Rattle.sweeping.proofs.wings.face_row.Tie as tie
 

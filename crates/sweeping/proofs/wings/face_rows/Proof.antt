@@ -5,8 +5,8 @@ use native.Mathlib.Omega.{arith}
 use native.Mathlib.Nat.{not-suc-le-zero}
 use lib.ListN.{length, length-set}
 use borrow.Author.Needs.{needs}
-use Rattle.sweeping.specs.Across.{Holds, faceRow}
-use Rattle.sweeping.specs.Written.{solidWing}
+use Rattle.sweeping.specs.Inner.Across.{Holds, faceRow}
+use Rattle.sweeping.specs.Inner.Written.{solidWing}
 use Rattle.sweeping.proofs.Pieces.{holds-more}
 use Rattle.sweeping.proofs.wings.face_rows.Statement.{statement}
 use Rattle.sweeping.proofs.wings.face_rows.Tie as tie

@@ -5,7 +5,7 @@ use native.Mathlib.Omega.{arith}
 use native.Mathlib.Nat.{not-suc-le-zero}
 use lib.ListN.{length, length-set}
 use borrow.Author.Needs.{needs}
-use Rattle.sweeping.specs.Across.{Holds, sideCell}
+use Rattle.sweeping.specs.Inner.Across.{Holds, sideCell}
 use Rattle.sweeping.proofs.Pieces.{holds-more}
 use Rattle.sweeping.proofs.wings.side_cells.Statement.{statement}
 use Rattle.sweeping.proofs.wings.side_cells.Tie as tie

@@ -6,8 +6,8 @@ use native.Mathlib.Omega.{arith}
 use borrow.Author.Needs.{needs}
 use lib.ListN.{length}
 use Rattle.words.specs.Records.{tabulate, concat}
-use Rattle.words.specs.Placed.{placed}
-use Rattle.sweeping.specs.Written.{recordWords}
+use Rattle.words.specs.Inner.Placed.{placed}
+use Rattle.sweeping.specs.Inner.Written.{recordWords}
 use Rattle.words.proofs.Placed.{placed-none, concat-fits, placed-record}
 use Rattle.sweeping.proofs.SweptWords.{prism-is}
 use Rattle.sweeping.proofs.writing.write_prism.Statement.{statement}

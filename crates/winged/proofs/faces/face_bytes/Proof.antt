@@ -8,9 +8,9 @@ use borrow.Author.Needs.{needs, below-set}
 use Rattle.words.specs.Bytes.{bytesOf}
 use Rattle.words.proofs.Writing.{Left, left-starts, left-ends}
 use Rattle.records.specs.Layout.{faceSize, faceWords}
-use Rattle.boundary.specs.Walk.{faceAt}
+use Rattle.boundary.specs.Inner.Walk.{faceAt}
 use Rattle.boundary.proofs.FaceWords.{face-long}
-use Rattle.winged.specs.Sent.{faceBytes}
+use Rattle.winged.specs.Inner.Sent.{faceBytes}
 use Rattle.winged.proofs.FaceBytes.{bytes-fit, left-bytes}
 use Rattle.winged.proofs.faces.face_bytes.Statement.{statement}
 use Rattle.winged.proofs.faces.face_bytes.Tie as tie

@@ -15,7 +15,7 @@ use Rattle.rules.specs.Limits.{maxDimension}
 use Rattle.rules.specs.Shapes.{shapeOk}
 use Rattle.records.specs.Layout.{tableLength}
 use Rattle.rules.proofs.InLimits.{limits-are}
-use Rattle.winged.specs.Sent.{tableRoom, facesAnswer, facesAfter}
+use Rattle.winged.specs.Inner.Sent.{tableRoom, facesAnswer, facesAfter}
 use Rattle.winged.proofs.Inward.{decoded-front, table-fits}
 use Rattle.winged.proofs.FaceOutcomes.{host-outside, host-wrong, host-right}
 use Rattle.winged.proofs.faces.faces_bytes.Statement.{statement}
@@ -42,8 +42,10 @@ abbrev count : tie.Else2 → ℕ
 count c = tableLength (start (c .before) .args .d) (start (c .before) .args .s)
 
 front : (c : tie.After-decode) →
-    (count (c .before .before) ≤ length (c .decode .last .1 .0)) × (take (count (c .before .before)) (c .decode .last .1 .0) ≡ words16 (table (c .before .before)))
-front c = decoded-front (table (c .before .before)) (c .decode .last .1 .0) _ (count (c .before .before)) (c .decode .ensures) (c .before .before .if2 .left)
+    (count (c .before .before) ≤ length (c .decode .last .1 .0))
+    × (take (count (c .before .before)) (c .decode .last .1 .0) ≡ words16 (table (c .before .before)))
+front c = decoded-front (table (c .before .before)) (c .decode .last .1 .0) _ (count (c .before .before))
+    (c .decode .ensures) (c .before .before .if2 .left)
 
 within-requires : tie.Need-within-requires
 within-requires c κs = search needs

@@ -17,16 +17,16 @@ use Rattle.words.specs.Bytes.{bytesOf}
 use Rattle.words.specs.Records.{concat}
 use Rattle.words.proofs.Bytes.{bytes-length}
 use Rattle.records.specs.Layout.{tableLength, facesWords}
-use Rattle.records.specs.Inside.{Table}
+use Rattle.records.specs.Inner.Inside.{Table}
 use Rattle.boundary.specs.Faces.{FacesInput, boundaryCells, facesLength, facesRules}
-use Rattle.boundary.specs.Walk.{tableFaces}
+use Rattle.boundary.specs.Inner.Walk.{tableFaces}
 use Rattle.boundary.proofs.Sizes.{words-long}
 use Rattle.rules.specs.Limits.{maxDimension}
 use Rattle.rules.proofs.InLimits.{Limits, limits-are}
 use Rattle.boundary.proofs.Order.{refuses, accepts}
-use Rattle.complex.specs.Table.{sound}
+use Rattle.solids.specs.Table.{sound}
 use Rattle.words.proofs.Placed.{placed-first}
-use Rattle.winged.specs.Sent.{facesIn, facesBytes}
+use Rattle.winged.specs.Inner.Sent.{facesIn, facesBytes}
 use Rattle.winged.proofs.FaceBytes.{bytes-faces}
 use Rattle.winged.proofs.FaceOutcomes.{told-refused, told-accepted}
 use Rattle.winged.proofs.faces.faces_from.Statement.{statement}
@@ -59,7 +59,8 @@ needed c = ap₂ _*_ (c .count-faces .ensures .0) (add-one (from c .args .d))
 
 few : (c : tie.After-count-faces) → c .count-faces .result * (from c .args .d + 1) ≤ 262144
 few c =
-    mul-le-mul {n₁ = c .count-faces .result} {m₁ = from c .args .d + 1} {n₂ = 32768} {m₂ = 8} (c .count-faces .ensures .1) (omega (arith, limits (from c) .dimension))
+    mul-le-mul {n₁ = c .count-faces .result} {m₁ = from c .args .d + 1} {n₂ = 32768}
+    {m₂ = 8} (c .count-faces .ensures .1) (omega (arith, limits (from c) .dimension))
 
 is-sound-requires : tie.Need-is-sound-requires
 is-sound-requires c κs = search needs

@@ -2,8 +2,8 @@
 use native.Mathlib.Omega.{arith}
 use lib.ListN.{length}
 use borrow.Author.Needs.{needs}
-use Rattle.winged.specs.Sent.{faceBytes}
-use Rattle.boundary.specs.Walk.{facesFrom}
+use Rattle.winged.specs.Inner.Sent.{faceBytes}
+use Rattle.boundary.specs.Inner.Walk.{facesFrom}
 use Rattle.boundary.proofs.Walking.{face-less, Walked, walk-starts, walk-fits, walk-goes, walk-ends}
 use Rattle.winged.proofs.faces.write_bytes.Statement.{statement}
 use Rattle.winged.proofs.faces.write_bytes.Tie as tie

@@ -12,7 +12,7 @@ use Rattle.rules.specs.Calls.{Outcome, accepted, after}
 use Rattle.rules.specs.Numbers.{outcomeOf}
 use Rattle.sweep.specs.Sweep.{sweptWords, sweepInput}
 use Rattle.winged.specs.Host.{wordsIn}
-use Rattle.winged.specs.Sent.{sweepRead}
+use Rattle.winged.specs.Inner.Sent.{sweepRead}
 use Rattle.winged.proofs.Outward.{room-fits, lent-fits, lent-is, send-fits, relayed}
 use Rattle.winged.proofs.Inward.{sweep-host, sweep-long, sweep-room, words-apart}
 use Rattle.winged.proofs.host.sweep_bytes.Statement.{statement}
@@ -73,7 +73,8 @@ send-requires c κs =
     let w = c .before .before .before in
     let r = w .before .before .before in
     let a = start r .args in
-    send-fits (a .words .now) (left (w .before)) (r .room .result) (same w) (answer (w .before)) (take (r .room .result) (a .words .now)) (a .swept .now)
+    send-fits (a .words .now) (left (w .before)) (r .room .result) (same w)
+    (answer (w .before)) (take (r .room .result) (a .words .now)) (a .swept .now)
     (outcomeOf (w .before .sweep-words .result)) (long (w .before)) (w .before .sweep-words .ensures .1) (m r .1)
 
 same-length : tie.Need-same-length
@@ -90,11 +91,13 @@ returns c =
     let a = start r .args in
     let o = outcomeOf (w .before .sweep-words .result) in
     let cut = length-take-le (r .room .result) (a .words .now) (m r .0) ∙ r .room .ensures in
-    let read = w .before .sweep-words .ensures .0 ∙ ap (λ x. sweepRead (a .d) (a .v) (a .s) (a .h) (a .table .now) x) cut ∙ sweep-room (a .d) (a .v) (a .s) (a .h) (a .table .now) (wordsIn (a .swept .now)) in
+    let read = w .before .sweep-words .ensures .0 ∙ ap (λ x. sweepRead (a .d) (a .v) (a .s) (a .h) (a .table .now) x) cut
+    ∙ sweep-room (a .d) (a .v) (a .s) (a .h) (a .table .now) (wordsIn (a .swept .now)) in
     let host = sweep-host (a .d) (a .v) (a .s) (a .h) (a .table .now) (wordsIn (a .swept .now)) (a .swept .now) o refl read in (
       toZ-ofZ w64 _ (search needs) ∙ call .ensures .0 ∙ host .0,
       call .ensures .1
-          ∙ relayed (a .words .now) (left (w .before)) (r .room .result) (same w) (answer (w .before)) (take (r .room .result) (a .words .now)) (a .swept .now) o (long (w .before)) (w .before .sweep-words .ensures .1)
+          ∙ relayed (a .words .now) (left (w .before)) (r .room .result) (same w) (answer (w .before))
+          (take (r .room .result) (a .words .now)) (a .swept .now) o (long (w .before)) (w .before .sweep-words .ensures .1)
           ∙ ap (λ t. after o (bytesOf t) (a .swept .now)) (words-apart (a .d) (a .v) (a .s) (a .h) (words16 (a .table .now)) _ _) ∙ host .1,
     )
 

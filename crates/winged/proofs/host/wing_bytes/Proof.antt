@@ -9,9 +9,9 @@ use mir.Syntax.{w64}
 use mir.ValLaws.{toZ-ofZ}
 use Rattle.rules.specs.Calls.{Outcome, accepted, after}
 use Rattle.rules.specs.Numbers.{outcomeOf}
-use Rattle.complex.specs.Table.{tableOfList}
+use Rattle.solids.specs.Table.{tableOfList}
 use Rattle.winged.specs.Host.{wordsIn, hostList}
-use Rattle.winged.specs.Sent.{wingRead}
+use Rattle.winged.specs.Inner.Sent.{wingRead}
 use Rattle.winged.proofs.Outward.{room-fits, lent-fits, lent-is, send-fits, relayed}
 use Rattle.winged.proofs.Inward.{wing-host, wing-long, wing-room}
 use Rattle.winged.proofs.host.wing_bytes.Statement.{statement}
@@ -69,7 +69,8 @@ send-requires c κs =
     let w = c .before .before .before in
     let r = w .before .before .before in
     let a = start r .args in
-    send-fits (a .words .now) (left (w .before)) (r .room .result) (same w) (answer (w .before)) (take (r .room .result) (a .words .now)) (a .table .now)
+    send-fits (a .words .now) (left (w .before)) (r .room .result) (same w)
+    (answer (w .before)) (take (r .room .result) (a .words .now)) (a .table .now)
     (outcomeOf (w .before .wing-words .result)) (long (w .before)) (w .before .wing-words .ensures .1) (m r .1)
 
 same-length : tie.Need-same-length
@@ -86,11 +87,13 @@ returns c =
     let a = start r .args in
     let o = outcomeOf (w .before .wing-words .result) in
     let cut = length-take-le (r .room .result) (a .words .now) (m r .0) ∙ r .room .ensures in
-    let read = w .before .wing-words .ensures .0 ∙ ap (λ x. wingRead (a .d) (a .v) (a .s) (a .cells .now) x) cut ∙ wing-room (a .d) (a .v) (a .s) (a .cells .now) (wordsIn (a .table .now)) in
+    let read = w .before .wing-words .ensures .0 ∙ ap (λ x. wingRead (a .d) (a .v) (a .s) (a .cells .now) x) cut
+    ∙ wing-room (a .d) (a .v) (a .s) (a .cells .now) (wordsIn (a .table .now)) in
     let host = wing-host (a .d) (a .v) (a .s) (a .cells .now) (wordsIn (a .table .now)) (a .table .now) o refl read in (
       toZ-ofZ w64 _ (search needs) ∙ call .ensures .0 ∙ host .0,
       call .ensures .1
-          ∙ relayed (a .words .now) (left (w .before)) (r .room .result) (same w) (answer (w .before)) (take (r .room .result) (a .words .now)) (a .table .now) o (long (w .before)) (w .before .wing-words .ensures .1)
+          ∙ relayed (a .words .now) (left (w .before)) (r .room .result) (same w) (answer (w .before))
+          (take (r .room .result) (a .words .now)) (a .table .now) o (long (w .before)) (w .before .wing-words .ensures .1)
           ∙ host .1,
     )
 

@@ -44,8 +44,11 @@ in-limits-requires c κs = search needs
 
 returns : tie.Need-returns
 returns c =
-    let a = c .before .before .before .before .args in
-    (sweep-outside (a .d) (a .v) (a .s) (a .h) (a .table .now) (length (a .out .now)) (sym (c .before .in-limits .ensures) ∙ not-true _ (c .if1 .taken)), refl)
+    let a = c .before .before .before .before .args in (
+      sweep-outside (a .d) (a .v) (a .s) (a .h) (a .table .now) (length (a .out .now))
+          (sym (c .before .in-limits .ensures) ∙ not-true _ (c .if1 .taken)),
+      refl,
+    )
 
 add-n : tie.Need-add-n
 add-n c = omega (arith, few c .0)
@@ -80,7 +83,8 @@ decode-requires c κs = omega (arith, c .before .if3 .left, c .before .before .i
 abbrev two : tie.After-decode → tie.Else2
 two c = c .before .before .before
 
-front : (c : tie.After-decode) → (count (two c) ≤ length (c .decode .last .1 .0)) × (take (count (two c)) (c .decode .last .1 .0) ≡ words16 (table (two c)))
+front : (c : tie.After-decode) →
+    (count (two c) ≤ length (c .decode .last .1 .0)) × (take (count (two c)) (c .decode .last .1 .0) ≡ words16 (table (two c)))
 front c = decoded-front (table (two c)) (c .decode .last .1 .0) _ (count (two c)) (c .decode .ensures) (two c .if2 .left)
 
 array-share-prefix-solid : tie.Need-array-share-prefix-solid

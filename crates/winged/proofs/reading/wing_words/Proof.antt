@@ -68,8 +68,10 @@ decode-requires c κs = omega (arith, few (c .before .before) .1, c .before .if2
 
 -- the decoded words
 front : (c : tie.After-decode) →
-    (count (c .before .before) ≤ length (c .decode .last .1 .0)) × (take (count (c .before .before)) (c .decode .last .1 .0) ≡ words16 (cells (c .before .before)))
-front c = decoded-front (cells (c .before .before)) (c .decode .last .1 .0) _ (count (c .before .before)) (c .decode .ensures) (c .before .before .if2 .left)
+    (count (c .before .before) ≤ length (c .decode .last .1 .0))
+    × (take (count (c .before .before)) (c .decode .last .1 .0) ≡ words16 (cells (c .before .before)))
+front c = decoded-front (cells (c .before .before)) (c .decode .last .1 .0) _ (count (c .before .before))
+    (c .decode .ensures) (c .before .before .if2 .left)
 
 array-share-prefix-list : tie.Need-array-share-prefix-list
 array-share-prefix-list c = front (c .before) .0

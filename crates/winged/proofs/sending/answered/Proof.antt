@@ -9,7 +9,7 @@ use mir.ValLaws.{toZ-pos, toZ-ofZ}
 use Rattle.rules.specs.Numbers.{outcomeOf}
 use Rattle.rules.specs.declared.refusal.Answer.{Answer}
 use Rattle.winged.specs.Host.{hostAnswer}
-use Rattle.winged.specs.Sent.{countOf}
+use Rattle.winged.specs.Inner.Sent.{countOf}
 use Rattle.winged.proofs.sending.answered.Statement.{statement}
 use Rattle.winged.proofs.sending.answered.Tie as tie
 

@@ -13,12 +13,13 @@ use Rattle.words.specs.Bytes.{bytesOf}
 use Rattle.rules.specs.Numbers.{outcomeOf}
 use Rattle.rules.specs.declared.refusal.Answer.{Answer}
 use Rattle.winged.specs.Host.{hostAnswer}
-use Rattle.winged.specs.Sent.{countOf, sent}
+use Rattle.winged.specs.Inner.Sent.{countOf, sent}
 use Rattle.winged.proofs.sending.send.Statement.{statement}
 use Rattle.winged.proofs.sending.send.Tie as tie
 
 -- the count that the answer has
-fits : (c : tie.After-a) → (c .a .given .0 .0 ≤ length (c .before .before .before .before .args .words .now)) × (c .a .given .0 .0 * 2 ≤ length (c .before .before .before .before .args .out .now))
+fits : (c : tie.After-a) → (c .a .given .0 .0 ≤ length (c .before .before .before .before .args .words .now))
+    × (c .a .given .0 .0 * 2 ≤ length (c .before .before .before .before .args .out .now))
 fits c =
     let s = c .before .before .before .before in
     let n = ap (λ (a : Answer). countOf (outcomeOf a)) (c .a .given .1) in
@@ -35,7 +36,12 @@ slice-aggregate-encode : tie.Need-slice-aggregate-encode
 slice-aggregate-encode c = sym (length-take-le _ (c .before .before .before .before .before .before .args .words .now) (fits (c .before .before) .0))
 
 encode-requires : tie.Need-encode-requires
-encode-requires c κs = omega (arith, fits (c .before .before .before) .1, length-take-le (c .before .before .before .a .given .0 .0) (c .before .before .before .before .before .before .before .args .words .now) (fits (c .before .before .before) .0))
+encode-requires c κs = omega (
+  arith,
+  fits (c .before .before .before) .1,
+  length-take-le (c .before .before .before .a .given .0 .0)
+      (c .before .before .before .before .before .before .before .args .words .now) (fits (c .before .before .before) .0),
+)
 
 cast-result : tie.Need-cast-result
 cast-result c = record { sfits = omega (arith, small (c .before .before .before .before .before .before)) }
@@ -59,7 +65,8 @@ returns c =
     let n = e .a .given .0 .0 in
     let call = c .before .before .encode in (
       toZ-pos w64 n (small e) ∙ ap (λ (a : Answer). hostAnswer (outcomeOf a)) (sym (e .a .given .1)),
-      call .ensures ∙ ap (λ m. bytesOf (take n (s .args .words .now)) ++ drop (m * 2) (s .args .out .now)) (length-take-le n (s .args .words .now) (fits e .0))
+      call .ensures
+          ∙ ap (λ m. bytesOf (take n (s .args .words .now)) ++ drop (m * 2) (s .args .out .now)) (length-take-le n (s .args .words .now) (fits e .0))
           ∙ ap (λ (a : Answer). sent (outcomeOf a) (s .args .words .now) (s .args .out .now)) (sym (e .a .given .1)),
     )
 
@@ -67,7 +74,8 @@ returns-2 : tie.Need-returns-2
 returns-2 c =
     let e = c .before .before .before in
     let s = e .before .before .before .before in (
-      toZ-ofZ w64 _ (search needs) ∙ c .minus .ensures ∙ ap (λ k. negℤ (pos k)) (c .before .number .ensures) ∙ ap (λ (a : Answer). hostAnswer (outcomeOf a)) (sym (e .a2 .given .1)),
+      toZ-ofZ w64 _ (search needs) ∙ c .minus .ensures ∙ ap (λ k. negℤ (pos k)) (c .before .number .ensures)
+          ∙ ap (λ (a : Answer). hostAnswer (outcomeOf a)) (sym (e .a2 .given .1)),
       ap (λ (a : Answer). sent (outcomeOf a) (s .args .words .now) (s .args .out .now)) (sym (e .a2 .given .1)),
     )
 

@@ -1,7 +1,0 @@
--- One name that opens what is said of lists and tables, so that an example is proved by computing both sides.
-use Rattle.complex.specs.Accept.{solidRules, acceptable}
-use Rattle.complex.specs.Table.{tableOfList, ownTable, sound}
-
-unfoldable pub computing : Unit {0}
-unfolding solidRules acceptable tableOfList ownTable sound
-computing = tt

@@ -1,3 +1,0 @@
--- What the program key prints.
-pub mod Key
-pub mod Stages

@@ -1,0 +1,149 @@
+-- `stages::page_key` meets its contract: the first stage is lent the front of the buffers, which is what read wrote. Assumes nothing.
+use mathlib.Core.Path.{_≡_, sym, ap, ap₂, _∙_}
+use mathlib.Core.List.{List}
+use Prim.Native.Nat.{ℕ, _+_, _*_, _≤_}
+use native.Mathlib.Omega.{arith}
+use borrow.Author.Needs.{needs}
+use lib.Ieee.{Float}
+use lib.ListN.{length, take}
+use lib.Seq.{length-take-le}
+use Rattle.rules.specs.Calls.{Outcome, accepted}
+use Rattle.rules.specs.Numbers.{numberOf}
+use Rattle.read.specs.declared.Header.{Header}
+use Rattle.file.specs.File.{filePoints}
+use Rattle.file.specs.Tests.{fileWords}
+use Rattle.read.specs.Read.{readOutcome, headerOutcome}
+use Rattle.page.specs.Key.{readIn}
+use Rattle.page.specs.Inner.Stages.{counted, pageAfter, wingedKey}
+use Rattle.page.proofs.Printed.{FileFacts, file-facts, cells-front, points-front, key-long, key-refused, key-read}
+use Rattle.page.proofs.stages.page_key.Statement.{statement}
+use Rattle.page.proofs.stages.page_key.Tie as tie
+
+abbrev start : tie.After-read → tie.Start
+start c = c .before .before .before .before .before .before
+
+abbrev bytes : tie.After-read → List ℕ
+bytes c = start c .args .input .now
+
+abbrev call : tie.After-x → tie.After-read
+call c = c .before .before .before .before
+
+abbrev header : tie.After-x → Header
+header c = c .x .given .0 .0
+
+ok : (c : tie.After-x) → readOutcome (readIn (bytes (call c))) ≡ accepted (header c)
+ok c = sym (call c .read .ensures .0) ∙ ap headerOutcome (c .x .given .1)
+
+facts : (c : tie.After-x) → FileFacts (bytes (call c)) (header c)
+facts c = file-facts (bytes (call c)) (header c) (ok c)
+
+abbrev words : tie.After-x → ℕ
+words c = header c .s * (header c .d + 2)
+
+abbrev floats : tie.After-x → ℕ
+floats c = header c .v * header c .n
+
+abbrev cells : tie.After-x → List ℕ
+cells c = call c .read .last .1 .0
+
+abbrev points : tie.After-x → List Float
+points c = call c .read .last .1 .1 .0
+
+front : (c : tie.After-x) → (words c ≤ length (cells c)) × (take (words c) (cells c) ≡ fileWords (bytes (call c)))
+front c = cells-front (bytes (call c)) (header c) (ok c) _ (cells c) (call c .read .ensures .1 .0)
+
+front-points : (c : tie.After-x) → (floats c ≤ length (points c)) × (take (floats c) (points c) ≡ filePoints (bytes (call c)))
+front-points c = points-front (bytes (call c)) (header c) (ok c) _ (points c) (call c .read .ensures .1 .1)
+
+returns : tie.Need-returns
+returns c =
+    let a = c .before .before .before .args in
+    let long = sym (key-long (a .input .now) (c .if1 .taken)) in
+    (ap counted long, ap (λ o. pageAfter o (a .page .now)) long)
+
+slice-aggregate-read : tie.Need-slice-aggregate-read
+slice-aggregate-read c = search needs
+
+slice-aggregate-read-2 : tie.Need-slice-aggregate-read-2
+slice-aggregate-read-2 c = search needs
+
+read-requires : tie.Need-read-requires
+read-requires c κs = search needs
+
+enum-known-x : tie.Need-enum-known-x
+enum-known-x c = search needs
+
+add-words : tie.Need-add-words
+add-words c = omega (arith, facts (c .before) .dimension)
+
+mul-words : tie.Need-mul-words
+mul-words c = omega (arith, facts (c .before) .few-words)
+
+mul-floats : tie.Need-mul-floats
+mul-floats c = omega (arith, facts (c .before) .few-floats)
+
+array-share-prefix-cells : tie.Need-array-share-prefix-cells
+array-share-prefix-cells c = front (c .before) .0
+
+slice-aggregate-winged-key : tie.Need-slice-aggregate-winged-key
+slice-aggregate-winged-key c = sym (length-take-le _ (cells (c .before .before)) (front (c .before .before) .0))
+
+array-share-prefix-points : tie.Need-array-share-prefix-points
+array-share-prefix-points c = front-points (c .before .before) .0
+
+slice-aggregate-winged-key-2 : tie.Need-slice-aggregate-winged-key-2
+slice-aggregate-winged-key-2 c = sym (length-take-le _ (points (c .before .before .before)) (front-points (c .before .before .before) .0))
+
+winged-key-requires : tie.Need-winged-key-requires
+winged-key-requires c κs = search needs
+
+enum-known-r : tie.Need-enum-known-r
+enum-known-r c = search needs
+
+same-length : tie.Need-same-length
+same-length c = search needs
+
+returns-2 : tie.Need-returns-2
+returns-2 c =
+    let x = c .before .before .before .before .before .before .before in
+    let s = start (call x) in
+    let b = bytes (call x) in
+    let h = header x in
+    let page = s .args .page .now in
+    let next = c .before .before .winged-key .ensures in
+    let stage =
+    ap₂ {C = Outcome (List ℕ)} (λ ws ps. wingedKey (h .d) (h .n) (h .v) (h .s) (h .h) (h .step) ws ps (length page)) (front x .1) (front-points x .1)
+    ∙ ap (λ room. wingedKey (h .d) (h .n) (h .v) (h .s) (h .h) (h .step) (fileWords b) (filePoints b) room) (s .pre)
+    ∙ sym (key-read b h (ok x) (call x .before .before .before .if1 .left)) in
+    (next .0 ∙ ap counted stage, next .1 ∙ ap (λ o. pageAfter o page) stage)
+
+returns-3 : tie.Need-returns-3
+returns-3 c =
+    let call = c .before .before .before .before .before in
+    let page = start call .args .page .now in
+    let stage =
+    sym (key-refused (bytes call) (call .before .before .before .if1 .left) (numberOf (c .before .r .given .0 .0))
+    (sym (call .read .ensures .0) ∙ ap headerOutcome (c .before .r .given .1))) in
+    (ap counted stage, ap (λ o. pageAfter o page) stage)
+
+pub page-key-spec : {M : Type 1} → statement M
+page-key-spec =
+    tie.close
+    (tie.spec
+    returns
+    slice-aggregate-read
+    slice-aggregate-read-2
+    read-requires
+    enum-known-x
+    add-words
+    mul-words
+    mul-floats
+    array-share-prefix-cells
+    slice-aggregate-winged-key
+    array-share-prefix-points
+    slice-aggregate-winged-key-2
+    winged-key-requires
+    enum-known-r
+    same-length
+    returns-2
+    returns-3)

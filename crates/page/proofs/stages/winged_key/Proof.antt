@@ -1,0 +1,95 @@
+-- `stages::winged_key` meets its contract: the next stage is lent the front of the buffer, which is what wing wrote. Assumes nothing.
+use mathlib.Core.Path.{_≡_, sym, ap, _∙_}
+use mathlib.Core.List.{List}
+use Prim.Native.Nat.{ℕ, _≤_}
+use borrow.Author.Needs.{needs}
+use lib.ListN.{length, take}
+use lib.Seq.{length-take-le}
+use Rattle.rules.specs.Calls.{accepted}
+use Rattle.rules.specs.Numbers.{numberOf, outcomeOf}
+use Rattle.solids.specs.Table.{tableOfList}
+use Rattle.wing.specs.Wing.{WingInput, wingInput, wingOutcome}
+use Rattle.page.specs.Key.{wordRoom}
+use Rattle.page.specs.Inner.Stages.{counted, pageAfter, sweptKey}
+use Rattle.page.proofs.Staged.{winged-front, winged-refused, winged-accepted}
+use Rattle.page.proofs.stages.winged_key.Statement.{statement}
+use Rattle.page.proofs.stages.winged_key.Tie as tie
+
+abbrev start : tie.After-wing → tie.Start
+start c = c .before .before .before .before .before
+
+abbrev told : tie.After-wing → WingInput
+told c = let a = start c .args in wingInput (a .d) (a .v) (a .s) (a .cells .now) wordRoom
+
+abbrev call : tie.After-m → tie.After-wing
+call c = c .before .before .before
+
+abbrev buffer : tie.After-m → List ℕ
+buffer c = call c .wing .last .1 .1 .1 .1 .0
+
+ok : (c : tie.After-m) → wingOutcome (told (call c)) ≡ accepted (c .m .given .0 .0)
+ok c = sym (call c .wing .ensures .0) ∙ ap outcomeOf (c .m .given .1)
+
+front : (c : tie.After-m) → (c .m .given .0 .0 ≤ length (buffer c)) × (take (c .m .given .0 .0) (buffer c) ≡ tableOfList (told (call c) .list))
+front c = winged-front (told (call c)) _ (buffer c) (c .m .given .0 .0) (call c .wing .ensures .1) (ok c)
+
+slice-aggregate-wing : tie.Need-slice-aggregate-wing
+slice-aggregate-wing c = search needs
+
+wing-requires : tie.Need-wing-requires
+wing-requires c κs = search needs
+
+enum-known-m : tie.Need-enum-known-m
+enum-known-m c = search needs
+
+array-share-prefix-table : tie.Need-array-share-prefix-table
+array-share-prefix-table c = front (c .before) .0
+
+slice-aggregate-swept-key : tie.Need-slice-aggregate-swept-key
+slice-aggregate-swept-key c = sym (length-take-le _ (buffer (c .before .before)) (front (c .before .before) .0))
+
+swept-key-requires : tie.Need-swept-key-requires
+swept-key-requires c κs = search needs
+
+enum-known-r : tie.Need-enum-known-r
+enum-known-r c = search needs
+
+same-length : tie.Need-same-length
+same-length c = search needs
+
+returns : tie.Need-returns
+returns c =
+    let m = c .before .before .before .before .before .before in
+    let a = start (call m) .args in
+    let page = a .page .now in
+    let next = c .before .before .swept-key .ensures in
+    let stage =
+    ap (λ ws. sweptKey (a .d) (a .n) (a .v) (a .s) (a .h) (a .step) ws (a .points .now) (length page)) (front m .1)
+    ∙ sym (winged-accepted (a .d) (a .n) (a .v) (a .s) (a .h) (a .step) (a .cells .now) (a .points .now) (length page) (m .m .given .0 .0) (ok m)) in
+    (next .0 ∙ ap counted stage, next .1 ∙ ap (λ o. pageAfter o page) stage)
+
+returns-2 : tie.Need-returns-2
+returns-2 c =
+    let call = c .before .before .before .before in
+    let a = start call .args in
+    let page = a .page .now in
+    let stage =
+    sym (winged-refused (a .d) (a .n) (a .v) (a .s) (a .h) (a .step) (a .cells .now)
+    (a .points .now) (length page) (numberOf (c .before .r .given .0 .0))
+    (sym (call .wing .ensures .0) ∙ ap outcomeOf (c .before .r .given .1))) in
+    (ap counted stage, ap (λ o. pageAfter o page) stage)
+
+pub winged-key-spec : {M : Type 1} → statement M
+winged-key-spec =
+    tie.close
+    (tie.spec
+    slice-aggregate-wing
+    wing-requires
+    enum-known-m
+    array-share-prefix-table
+    slice-aggregate-swept-key
+    swept-key-requires
+    enum-known-r
+    same-length
+    returns
+    returns-2)

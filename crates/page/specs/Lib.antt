@@ -1,0 +1,3 @@
+-- What the program key prints.
+pub mod Key
+pub mod Inner

@@ -1,0 +1,120 @@
+-- Lists of cells and tables as words, and back.
+--   Sized d es        each entry has d + 1 vertices and d + 1 wings
+use mathlib.Core.Path.{_≡_, ap, ap₂, refl, _∙_}
+use Prim.Native.Nat.{_*_, _<_, suc, zero, ℕ, _≤_}
+use mathlib.Core.List.{List, [], map, _∷_}
+use native.Mathlib.Omega.{arith}
+use lib.Seq.{drop-at, length-take-le, take-at}
+use mathlib.Core.Bool.{false, true}
+use lib.ListN.{drop, getD, length, length-append, length-drop, length-map, take}
+use native.Mathlib.Nat.{le-of-suc-le-suc, mul-le-mul-right, not-suc-le-zero, suc-mul}
+use Rattle.words.specs.Records.{concat, part, tabulate}
+use Rattle.words.proofs.Records.{EachLong, concat-length, part-concat, tabulate-ext, tabulate-getD, tabulate-length}
+use Rattle.simplex.specs.Cell.{Cell, Sign, cell}
+use Rattle.simplex.specs.Faces.{without}
+use Rattle.simplex.proofs.Counts.{All}
+use Rattle.simplex.proofs.Rows.{Long}
+use Rattle.simplex.specs.SignWords.{signOf, signWord}
+use Rattle.records.specs.Layout.{Entry, cellOf, cellWords, cellsOf, entriesOf, entryOf, entryWords, listSize, ownList, recordSize, tableWords}
+use Rattle.solids.specs.Table.{entriesFrom, entryAt}
+use Rattle.solids.specs.Wings.{neighbour}
+use Rattle.solids.proofs.Tables.{cellAt, wings-tabulated}
+
+sign-back : (s : Sign) → signOf (signWord s) ≡ s
+sign-back true = refl
+sign-back false = refl
+
+pub cell-back : (c : Cell) → cellOf (cellWords c) ≡ c
+cell-back c = ap (λ s. cell s (c .row)) (sign-back (c .sign))
+
+-- the words of cells of one length are records
+words-long : (d : ℕ) (cs : List Cell) → All (Long (suc d)) cs → EachLong (listSize d) (map cellWords cs)
+words-long d [] a = tt
+words-long d (c ∷ cs) a = (omega (arith, a .0), words-long d cs (a .1))
+
+-- record p of a list's words
+pub list-record : (d : ℕ) (cs : List Cell) (p : ℕ) → All (Long (suc d)) cs → p < length cs →
+    part (listSize d) p (concat (map cellWords cs)) ≡ cellWords (cellAt cs p)
+list-record d cs p long h = part-concat (listSize d) p (map cellWords cs) (words-long d cs long) (rw (length-map cs cellWords) h) ∙ at cs p h
+  where
+    at : (cs : List Cell) (p : ℕ) → p < length cs → getD (map cellWords cs) p [] ≡ cellWords (cellAt cs p)
+    at [] p h = absurd (not-suc-le-zero h)
+    at (c ∷ cs) zero h = refl
+    at (c ∷ cs) (suc p) h = at cs p (le-of-suc-le-suc h)
+
+-- a list's words give the list back
+pub cells-back : (d : ℕ) (cs : List Cell) → All (Long (suc d)) cs → cellsOf d (length cs) (concat (map cellWords cs)) ≡ cs
+cells-back d cs long =
+    tabulate-ext (length cs) (λ p. cellOf (part (listSize d) p (concat (map cellWords cs)))) (λ p. cellAt cs p)
+    (λ p h. ap cellOf (list-record d cs p long h) ∙ cell-back (cellAt cs p))
+    ∙ tabulate-getD (cell true []) cs
+
+pub list-length : (d : ℕ) (cs : List Cell) → All (Long (suc d)) cs → length (concat (map cellWords cs)) ≡ length cs * listSize d
+list-length d cs long = concat-length (listSize d) (map cellWords cs) (words-long d cs long) ∙ ap (λ n. n * listSize d) (length-map cs cellWords)
+
+abbrev pub Sized : ℕ → List Entry → Type 0
+Sized d [] = Unit {0}
+Sized d (e ∷ es) = (length (e .cell .row) ≡ suc d) × (length (e .wings) ≡ suc d) × Sized d es
+
+records-long : (d : ℕ) (es : List Entry) → Sized d es → EachLong (recordSize d) (map entryWords es)
+records-long d [] a = tt
+records-long d (e ∷ es) a = (omega (arith, length-append (cellWords (e .cell)) (e .wings), a .0, a .1), records-long d es (a .2))
+
+pub table-length : (d : ℕ) (es : List Entry) → Sized d es → length (tableWords es) ≡ length es * recordSize d
+table-length d es a = concat-length (recordSize d) (map entryWords es) (records-long d es a) ∙ ap (λ n. n * recordSize d) (length-map es entryWords)
+
+-- record p of a table's words
+pub record-at : (d : ℕ) (es : List Entry) (p : ℕ) → Sized d es → p < length es → part (recordSize d) p (tableWords es) ≡ entryWords (entryAt es p)
+record-at d es p a h = part-concat (recordSize d) p (map entryWords es) (records-long d es a) (rw (length-map es entryWords) h) ∙ at es p h
+  where
+    at : (es : List Entry) (p : ℕ) → p < length es → getD (map entryWords es) p [] ≡ entryWords (entryAt es p)
+    at [] p h = absurd (not-suc-le-zero h)
+    at (e ∷ es) zero h = refl
+    at (e ∷ es) (suc p) h = at es p (le-of-suc-le-suc h)
+
+sized-at : (d : ℕ) (es : List Entry) (p : ℕ) → Sized d es → p < length es → length (entryAt es p .cell .row) ≡ suc d
+sized-at d [] p a h = absurd (not-suc-le-zero h)
+sized-at d (e ∷ es) zero a h = a .0
+sized-at d (e ∷ es) (suc p) a h = sized-at d es p (a .2) (le-of-suc-le-suc h)
+
+entry-back : (d : ℕ) (e : Entry) → length (e .cell .row) ≡ suc d → entryOf d (entryWords e) ≡ e
+entry-back d e l =
+    let n : length (cellWords (e .cell)) ≡ listSize d = omega arith in
+    ap₂ {C = Entry} (λ c ws. record { cell = c; wings = ws }) (ap cellOf (take-at (cellWords (e .cell)) (e .wings) (listSize d) n)
+    ∙ cell-back (e .cell)) (drop-at (cellWords (e .cell)) (e .wings) (listSize d) n)
+
+-- a table's words give the table back
+pub entries-back : (d : ℕ) (es : List Entry) → Sized d es → entriesOf d (length es) (tableWords es) ≡ es
+entries-back d es a =
+    tabulate-ext (length es) (λ p. entryOf d (part (recordSize d) p (tableWords es))) (λ p. entryAt es p)
+    (λ p h. ap (entryOf d) (record-at d es p a h) ∙ entry-back d (entryAt es p) (sized-at d es p a h))
+    ∙ tabulate-getD (record { cell = cell true []; wings = [] }) es
+
+-- a table without its wings is the list of its cells
+pub own-list : (d : ℕ) (es : List Entry) → Sized d es →
+    ownList d (length es) (tableWords es) ≡ concat (map cellWords (map (λ (e : Entry). e .cell) es))
+own-list d es a =
+    ap concat
+    (tabulate-ext (length es) (λ p. take (listSize d) (part (recordSize d) p (tableWords es))) (λ p. cellWords (entryAt es p .cell))
+    (λ p h. ap (take (listSize d)) (record-at d es p a h)
+    ∙ take-at (cellWords (entryAt es p .cell)) (entryAt es p .wings) (listSize d)
+    (let n : length (entryAt es p .cell .row) ≡ suc d = sized-at d es p a h in omega arith))
+    ∙ words es)
+  where
+    words : (es : List Entry) → tabulate (length es) (λ p. cellWords (entryAt es p .cell)) ≡ map cellWords (map (λ (e : Entry). e .cell) es)
+    words [] = refl
+    words (e ∷ es) = ap {B = List (List ℕ)} (λ r. cellWords (e .cell) ∷ r) (words es)
+
+-- the table of a solid is of one size
+pub table-sized : (d : ℕ) (all : List Cell) (p : ℕ) (cs : List Cell) → All (Long (suc d)) cs → Sized d (entriesFrom all p cs)
+table-sized d all p [] a = tt
+table-sized d all p (c ∷ cs) a = (
+  a .0,
+  ap length (wings-tabulated all p c) ∙ tabulate-length (length (c .row)) (λ j. neighbour p (without j (c .row)) all) ∙ a .0,
+  table-sized d all (suc p) cs (a .1),
+)
+
+-- record p of words
+pub part-length : (n p s : ℕ) (ws : List ℕ) → p < s → s * n ≤ length ws → length (part n p ws) ≡ n
+part-length n p s ws h e =
+    length-take-le n (drop (p * n) ws) (rw (length-drop (p * n) ws) (omega (arith, suc-mul p n, mul-le-mul-right {m = suc p} {n = s} n h)))

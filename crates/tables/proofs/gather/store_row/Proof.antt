@@ -1,0 +1,71 @@
+-- The loop's invariant: the words passed are in their places. Assumes nothing.
+use mathlib.Core.Path.{_≡_, ap, _∙_}
+use Prim.Native.Nat.{ℕ, _*_, _-_, _≤_}
+use native.Mathlib.Omega.{arith}
+use lib.Seq.{paste, paste-zero}
+use borrow.Author.Needs.{needs}
+use Rattle.tables.proofs.Reading.{store-more}
+use Rattle.tables.proofs.gather.store_row.Statement.{statement}
+use Rattle.tables.proofs.gather.store_row.Tie as tie
+
+abbrev Inv-loop : tie.InvT-loop
+Inv-loop p rows₀ row j₀ rows j = (j ≤ 8) × (rows ≡ paste rows₀ (p * 8) row j)
+
+abbrev μ-loop : tie.MeasureT-loop
+μ-loop p rows₀ row j₀ rows j = 8 - j
+
+loop-holds : tie.Need-loop-holds Inv-loop μ-loop
+loop-holds c = (omega arith, paste-zero _ (c .args .p * 8) (c .args .t1))
+
+mul-rows : tie.Need-mul-rows Inv-loop μ-loop
+mul-rows c = search needs
+
+array-read-rows : tie.Need-array-read-rows Inv-loop μ-loop
+array-read-rows c = search needs
+
+mul-rows-2 : tie.Need-mul-rows-2 Inv-loop μ-loop
+mul-rows-2 c = search needs
+
+add-rows : tie.Need-add-rows Inv-loop μ-loop
+add-rows c = search needs
+
+mul-rows-3 : tie.Need-mul-rows-3 Inv-loop μ-loop
+mul-rows-3 c = search needs
+
+element-write-rows : tie.Need-element-write-rows Inv-loop μ-loop
+element-write-rows c = search needs
+
+add-j : tie.Need-add-j Inv-loop μ-loop
+add-j c = search needs
+
+loop-less : tie.Need-loop-less Inv-loop μ-loop
+loop-less c = search needs
+
+loop-again : tie.Need-loop-again Inv-loop μ-loop
+loop-again c =
+    let a = c .before .before .args in
+    (omega arith, store-more _ _ (a .p * 8) _ _ (c .before .loop .inv .1) (omega arith) (omega arith))
+
+returns : tie.Need-returns Inv-loop μ-loop
+returns c =
+    let a = c .before .before .args in
+    let all : c .before .loop .j ≡ 8 = omega arith in
+    c .before .loop .inv .1 ∙ ap (λ (m : ℕ). paste (a .rows .now) (a .p * 8) (a .t1) m) all
+
+pub store-row-spec : {M : Type 1} → statement M
+store-row-spec =
+    tie.close
+    (tie.spec
+    Inv-loop
+    μ-loop
+    loop-holds
+    mul-rows
+    array-read-rows
+    mul-rows-2
+    add-rows
+    mul-rows-3
+    element-write-rows
+    add-j
+    loop-less
+    loop-again
+    returns)

@@ -1,0 +1,100 @@
+-- `is_sound` answers `sound`: each return is a case of SoundCases. Assumes nothing.
+use mathlib.Core.Path.{_≡_, sym, ap, _∙_}
+use mathlib.Core.Bool.{Bool, false, not}
+use Prim.Native.Nat.{ℕ}
+use native.Mathlib.Omega.{arith}
+use lib.Dec.{eqb}
+use lib.ListN.{length, length-replicate}
+use borrow.Author.Needs.{needs}
+use borrow.Author.Tests.{eqb-true, not-false}
+use Rattle.rules.specs.Limits.{maxDimension}
+use Rattle.rules.specs.Numbers.{verdictOf}
+use Rattle.rules.specs.Shapes.{shapeOk}
+use Rattle.rules.proofs.InLimits.{Limits, limits-are}
+use Rattle.records.specs.Layout.{tableLength}
+use Rattle.tables.proofs.SoundCases.{fresh-blank, unsound-outside, unsound-length, unsound-refused, sound-same}
+use Rattle.tables.proofs.sound.is_sound.Statement.{statement}
+use Rattle.tables.proofs.sound.is_sound.Tie as tie
+
+abbrev start : tie.Else1 → tie.Start
+start c = c .before .before .before
+
+inside : (c : tie.Else1) → let a = start c .args in not (shapeOk maxDimension (a .d) (a .v) (a .s)) ≡ false
+inside c = cc
+
+limits : (c : tie.Else1) → let a = start c .args in Limits maxDimension (a .d) (a .v) (a .s)
+limits c = limits-are _ _ _ _ (inside c)
+
+long : (c : tie.Else2) → let a = start (search needs) .args in not (eqb (length (a .table .now)) (tableLength (a .d) (a .s))) ≡ false
+long c = cc
+
+within-requires : tie.Need-within-requires
+within-requires c κs = search needs
+
+returns : tie.Need-returns
+returns c = unsound-outside _ _ _ _ (cc)
+
+table-words-requires : tie.Need-table-words-requires
+table-words-requires c κs = let l = limits c in (l .dimension, l .cells)
+
+differ-requires : tie.Need-differ-requires
+differ-requires c κs = search needs
+
+returns-2 : tie.Need-returns-2
+returns-2 c = unsound-length _ _ _ _ (inside (search needs)) (cc)
+
+add-take : tie.Need-add-take
+add-take c = let l = limits (search needs) in omega arith
+
+add-take-2 : tie.Need-add-take-2
+add-take-2 c = let l = limits (search needs) in omega arith
+
+take-requires : tie.Need-take-requires
+take-requires c κs =
+    let l = limits (search needs) in
+    let a = start (search needs) .args in
+    let e : length (a .table .now) ≡ tableLength (a .d) (a .s) = eqb-true _ _ (not-false _ (long (search needs))) in (
+      (l .dimension, omega arith, omega arith, l .cells, omega arith),
+      (length-replicate {A = ℕ} 32768 0, length-replicate {A = Bool} 4096 false, fresh-blank),
+    )
+
+enum-told : tie.Need-enum-told
+enum-told c = search needs
+
+returns-3 : tie.Need-returns-3
+returns-3 c =
+    let t : tie.After-take = search needs in
+    let v = c .enum-told .given in
+    unsound-refused _ _ _ _ (inside (search needs)) (long (search needs)) (v .0 .0) (sym (ap verdictOf (v .1)) ∙ t .take .ensures .0)
+
+enum-told-2 : tie.Need-enum-told-2
+enum-told-2 c = search needs
+
+same-requires : tie.Need-same-requires
+same-requires c κs = let l = limits (search needs) in (l .dimension, l .cells, eqb-true _ _ (not-false _ (long (search needs))))
+
+returns-4 : tie.Need-returns-4
+returns-4 c =
+    let t : tie.After-take = search needs in
+    let v : tie.After-enum-told2 = search needs in
+    let none = sym (ap verdictOf (v .enum-told2 .given .1)) ∙ t .take .ensures .0 in
+    sound-same _ _ _ _ (inside (search needs)) (long (search needs)) _ _ _ _ none
+    (t .take .ensures .1 (ap verdictOf (v .enum-told2 .given .1))) (c .same .ensures)
+
+pub is-sound-spec : {M : Type 1} → statement M
+is-sound-spec =
+    tie.close
+    (tie.spec
+    within-requires
+    returns
+    table-words-requires
+    differ-requires
+    returns-2
+    add-take
+    add-take-2
+    take-requires
+    enum-told
+    returns-3
+    enum-told-2
+    same-requires
+    returns-4)

@@ -1,0 +1,95 @@
+-- `write_table` answers `tableOutcome` and leaves `tableAfter`: each return is a case of Tabling. Assumes nothing.
+use mathlib.Core.Path.{_≡_, sym, ap, _∙_}
+use mathlib.Core.Bool.{Bool, false}
+use Prim.Native.Nat.{ℕ}
+use native.Mathlib.Omega.{arith}
+use lib.Dec.{ltb}
+use lib.ListN.{length, length-replicate}
+use borrow.Author.Needs.{needs}
+use borrow.Author.Tests.{ltb-false}
+use Rattle.rules.specs.Calls.{firstRefusal}
+use Rattle.rules.specs.Numbers.{verdictOf}
+use Rattle.solids.specs.Accept.{solidRules}
+use Rattle.records.specs.Layout.{listSize, tableLength}
+use Rattle.tables.specs.Inner.Held.{recordList}
+use Rattle.tables.proofs.SoundCases.{fresh-blank}
+use Rattle.tables.proofs.Tabling.{refuses, no-room, accepts}
+use Rattle.tables.proofs.Taking.{taken-written}
+use Rattle.tables.proofs.tabled.write_table.Statement.{statement}
+use Rattle.tables.proofs.tabled.write_table.Tie as tie
+
+add-take : tie.Need-add-take
+add-take c = search needs
+
+take-requires : tie.Need-take-requires
+take-requires c κs = (
+  (omega arith, omega arith, omega arith, omega arith, omega arith),
+  (length-replicate {A = ℕ} 32768 0, length-replicate {A = Bool} 4096 false, fresh-blank),
+)
+
+enum-known-verdict : tie.Need-enum-known-verdict
+enum-known-verdict c = search needs
+
+returns : tie.Need-returns
+returns c =
+    let s : tie.Start = search needs in
+    let t : tie.After-take = search needs in
+    let v = c .before .verdict .given in
+    refuses _ _ _ _ _ (s .pre .2) (v .0 .0) (sym (ap verdictOf (v .1)) ∙ t .take .ensures .0)
+
+enum-told : tie.Need-enum-told
+enum-told c = search needs
+
+-- rows 6 to 11 pass
+abbrev start : tie.After-enum-told → tie.Start
+start c = search needs
+
+none : (c : tie.After-enum-told) → let a = start c .args in
+    0 ≡ firstRefusal solidRules (recordList (listSize (a .d)) (a .d) (a .v) (a .s) (a .cells .now))
+none c = let t : tie.After-take = search needs in sym (ap verdictOf (c .enum-told .given .1)) ∙ t .take .ensures .0
+
+table-words-requires : tie.Need-table-words-requires
+table-words-requires c κs = search needs
+
+less-requires : tie.Need-less-requires
+less-requires c κs = search needs
+
+returns-2 : tie.Need-returns-2
+returns-2 c = let s : tie.Start = search needs in no-room _ _ _ _ _ (s .pre .2) (none (search needs)) (cc)
+
+fits : (c : tie.Else1) → let a = start (search needs) .args in ltb (length (a .table .now)) (tableLength (a .d) (a .s)) ≡ false
+fits c = cc
+
+fill-requires : tie.Need-fill-requires
+fill-requires c κs = (omega arith, omega arith, ltb-false _ _ (fits (search needs)))
+
+same-length : tie.Need-same-length
+same-length c = search needs
+
+returns-3 : tie.Need-returns-3
+returns-3 c =
+    let e : tie.Else1 = search needs in
+    let t = e .before .before .before in
+    let s = start t in
+    let a = s .args in
+    let call = t .before .before .take in
+    accepts _ _ _ _ _ (s .pre .2) (none t) _ _ (fits e) (e .before .before .table-words .ensures)
+    (c .before .before .fill .ensures
+    ∙ taken-written (a .d) (a .v) (a .s) (a .cells .now) _ _ _ (a .table .now) (omega arith)
+    (omega arith) (s .pre .2) (call .ensures .1 (ap verdictOf (t .enum-told .given .1))))
+
+pub write-table-spec : {M : Type 1} → statement M
+write-table-spec =
+    tie.close
+    (tie.spec
+    add-take
+    take-requires
+    enum-known-verdict
+    returns
+    enum-told
+    table-words-requires
+    less-requires
+    returns-2
+    fill-requires
+    same-length
+    returns-3)

@@ -1,0 +1,2 @@
+-- Cells and wings as the code holds them.
+pub mod Inner

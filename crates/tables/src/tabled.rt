@@ -1,0 +1,36 @@
+// The table of a list of cells, written into lent words.
+use crate::table::fill;
+use crate::take::take;
+use records::sizes::table_words;
+use rules::compare::less;
+use rules::refusal::Answer;
+use rules::refusal::Refusal;
+use rules::refusal::Verdict;
+ghost use mathlib.Core.Path.{_≡_};
+ghost use Prim.Native.Nat.{_*_, _≤_};
+ghost use lib.ListN.{length};
+ghost use Rattle.rules.specs.Numbers.{outcomeOf};
+ghost use Rattle.records.specs.Layout.{listSize};
+ghost use Rattle.tables.specs.Inner.Tabled.{tableOutcome, tableAfter};
+
+// Writes the table of the s cells of a list from the start of the lent words and answers the count of its words; or
+// says which of rows 6 to 11 and 15 is the first that refuses it, and writes nothing.
+pub fn write_table(d: usize, v: usize, s: usize, cells: &[u16], table: &mut [u16]) -> Answer
+    requires { ⌜ (d ≤ 7) × (s ≤ 4096) × (length (now cells) ≡ s * listSize d) ⌝ }
+    ensures answer { λ r. ⌜ outcomeOf r ≡ tableOutcome d v s (now (cells .entry)) (length (now (table .entry))) ⌝ }
+    ensures table { λ _. ⌜ now (table .exit) ≡ tableAfter d v s (now (cells .entry)) (now (table .entry)) ⌝ }
+{
+    let mut rows = [0u16; 32768];
+    let mut signs = [false; 4096];
+    let mut wings = [65535u16; 32768];
+    let verdict = take(d + 2, d, v, s, cells, &mut rows, &mut signs, &mut wings);
+    if let Verdict::Refuse(why) = verdict {
+        return Answer::Refused(why);
+    }
+    let count = table_words(d, s);
+    if less(table.len(), count) {
+        return Answer::Refused(Refusal::NoRoom);
+    }
+    fill(d, s, &rows, &signs, &wings, table);
+    Answer::Written(count)
+}
