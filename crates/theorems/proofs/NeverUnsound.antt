@@ -20,7 +20,7 @@ use Rattle.rules.specs.Calls.{Rule, firstRefusal, Outcome, accepted, refused, o
 use Rattle.rules.proofs.Accepting.{accepted-by}
 use Rattle.simplex.specs.Order.{ascending}
 use Rattle.solids.specs.Accept.{listedCells, solidOf, solidRules}
-use Rattle.records.specs.Layout.{spelled, listSize, tableLength, tableWords}
+use Rattle.records.specs.Layout.{cellOf, listSize, tableLength, tableWords}
 use Rattle.solids.specs.Table.{sound, tableOf, tableOfList}
 use Rattle.wing.specs.Wing.{WingInput, wingInput, wingOutcome, wingBuffer, wingRules}
 use Rattle.solids.proofs.Accepted.{accepted-solid}
@@ -96,7 +96,7 @@ wing-sound i n e =
     let facts = winged-is i n e in
     let solid = accepted-solid l (facts .size) (facts .cells) in
     let count : length (solidOf l) ≡ l .s =
-    length-map (listedCells l) ascending ∙ tabulate-length (l .s) (λ p. spelled (part (listSize (l .d)) p (l .words))) in
+    length-map (listedCells l) ascending ∙ tabulate-length (l .s) (λ p. cellOf (part (listSize (l .d)) p (l .words))) in
     ap (λ k. sound (l .d) (l .v) k (tableWords (tableOf (solidOf l)))) (sym count)
     ∙ table-sound (l .d) (l .v) (solidOf l) (solid .0) (solid .1) (ap (shapeOk maxDimension (l .d) (l .v)) count ∙ facts .shape)
 
@@ -151,7 +151,7 @@ calls-never b x =
     never-then (listOutcome (listIn b x)) _ 14
     (list-never (listIn b x)
     (sweep-sound (x .d) (x .v) (x .s) (x .h) (fileWords b) (replicate wordRoom 0) (length-replicate {A = ℕ} wordRoom 0) n k winged swept))
-    (λ j listOf e. let z : _≡_ {A = ℕ} 0 1 = cc in omega arith))))
+    (λ j listed e. let z : _≡_ {A = ℕ} 0 1 = cc in omega arith))))
 
 pub never-unsound : NeverUnsound
 unfolding keyOutcome
