@@ -28,7 +28,7 @@ use Rattle.solids.proofs.Tests.{or-false}
 use Rattle.points.specs.Step.{inRange, stepFits, stepFloats}
 use Rattle.points.specs.declared.step.Step.{Step}
 use Rattle.motion.specs.Move.{MoveInput, moveInput, movedLevels, movedLength, moveRules, moveOutcome, moveBuffer}
-use Rattle.page.proofs.Staged.{moved-front}
+use Rattle.motion.proofs.Lengths.{moved-front}
 use Rattle.hosting.specs.Floats.{floats64, floatBytes}
 use Rattle.hosting.specs.Moves.{MoveTold, toldStep, unusedSet, toldMove, hostMoveRules, hostMoveOutcome, hostMoveBuffer}
 use Rattle.hosting.specs.declared.step_bits.StepBits.{StepBits}

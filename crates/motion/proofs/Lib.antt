@@ -1,3 +1,4 @@
--- The order of the rules of the call move.
+-- The call move: the order of its rules, and what it leaves.
 pub mod Order
+pub mod Lengths
 pub mod FirstOfTwo

@@ -1,5 +1,5 @@
 -- The calls of the program, one after the other.
---   moved-front, swept-front, winged-front    what an accepted call leaves at the front of its buffer
+--   swept-front, winged-front                 what an accepted call leaves at the front of its buffer
 --   moved-limits, swept-limits                and its numbers
 --   list-counted, list-left                   the last call
 --   moved-.., swept-.., winged-..             each stage by its call's outcome
@@ -8,11 +8,9 @@ use mathlib.Core.Path.{_≡_, refl, sym, ap, _∙_}
 use mathlib.Core.Bool.{_&&_}
 use mathlib.Core.List.{List}
 use Prim.Native.Nat.{ℕ, suc, _*_, _≤_}
-use native.Mathlib.Nat.{mul-assoc}
-use lib.Dec.{eqb}
 use lib.Ieee.{Float}
 use lib.ListN.{length, take}
-use borrow.Author.Tests.{eqb-true, not-false, ltb-false}
+use borrow.Author.Tests.{ltb-false}
 use Rattle.rules.specs.Limits.{axesOk, maxSource, stepsOk, sweptVertices, verticesOk}
 use Rattle.rules.specs.Shapes.{shapeOk}
 use Rattle.rules.specs.Calls.{Outcome, accepted, refused, after}
@@ -24,19 +22,11 @@ use Rattle.sweep.specs.Sweep.{sweepOutcome, sweepBuffer, sweepRules, sweptLengt
 use Rattle.rules.proofs.InLimits.{SweepLimits, sweep-limits-are, move-limits-are}
 use Rattle.motion.specs.Move.{MoveInput, moveInput, movedLength, movedLevels, moveOutcome, moveBuffer, moveRules}
 use Rattle.points.specs.declared.step.Step.{Step}
-use Rattle.points.proofs.LevelLaws.{length-levels}
 use Rattle.list.specs.List.{ListInput, listInput, listText, listOutcome, listBuffer, listRules}
 use Rattle.wing.proofs.Lengths.{accepted-long}
 use Rattle.sweep.proofs.CallWords.{swept-long}
 use Rattle.page.specs.Key.{wordRoom, floatRoom, thenCall}
 use Rattle.page.specs.Inner.Stages.{counted, pageAfter, listKey, movedKey, sweptKey, wingedKey}
-
-moved-long : (i : MoveInput) (k : ℕ) → moveOutcome i ≡ accepted k → k ≡ length (movedLevels i)
-unfolding moveOutcome moveRules movedLevels
-moved-long i k e =
-    let by = accepted-by moveRules movedLength i k refl e in
-    let points = eqb-true (length (i .points)) (i .v * i .n) (not-false (eqb (length (i .points)) (i .v * i .n)) (by .1 .1 .0)) in
-    by .0 ∙ mul-assoc (suc (i .h)) (i .v) (i .n) ∙ sym (length-levels (i .step) (i .n) (i .v) (i .h) (i .points) points)
 
 pub moved-limits : (i : MoveInput) (k : ℕ) → moveOutcome i ≡ accepted k → (i .n ≤ 8) × (i .v ≤ 4096) × (i .h ≤ 64)
 unfolding moveOutcome moveRules
@@ -44,11 +34,6 @@ moved-limits i k e =
     let by = accepted-by moveRules movedLength i k refl e in
     let l = move-limits-are (i .n) (i .v) (i .h) (by .1 .0) in
     (l .axes, l .vertices, l .steps)
-
-pub moved-front : (i : MoveInput) (out w : List Float) (k : ℕ) → w ≡ moveBuffer i out →
-    moveOutcome i ≡ accepted k → (k ≤ length w) × (take k w ≡ movedLevels i)
-unfolding moveBuffer
-moved-front i out w k e a = front-of (movedLevels i) out w k (e ∙ ap (λ o. after o (movedLevels i) out) a) (moved-long i k a)
 
 module _ (d v s h : ℕ) (ws : List ℕ) (x k : ℕ) (a : sweepOutcome (sweepInput d v s h ws x) ≡ accepted k) where
   pub swept-limits : SweepLimits d v s h

@@ -16,7 +16,8 @@ use Rattle.motion.specs.Move.{MoveInput, moveInput, movedLevels, moveOutcome}
 use Rattle.list.specs.List.{listInput, listOutcome, listBuffer}
 use Rattle.page.specs.Key.{floatRoom}
 use Rattle.page.specs.Inner.Stages.{counted, pageAfter}
-use Rattle.page.proofs.Staged.{moved-front, moved-limits, moved-refused, moved-accepted, list-counted, list-left}
+use Rattle.page.proofs.Staged.{moved-limits, moved-refused, moved-accepted, list-counted, list-left}
+use Rattle.motion.proofs.Lengths.{moved-front}
 use Rattle.page.proofs.stages.moved_key.Statement.{statement}
 use Rattle.page.proofs.stages.moved_key.Tie as tie
 
