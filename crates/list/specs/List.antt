@@ -35,6 +35,9 @@ listInput d n v s table points room = record { d = d; n = n; v = v; s = s; table
 unfoldable pub listText : ListInput → List ℕ
 listText i = keyText (i .d) (i .n) (i .v) (i .points) (boundaryOf (entriesOf (i .d) (i .s) (i .table)))
 
+abbrev pub listLength : ListInput → ℕ
+listLength i = length (listText i)
+
 abbrev pub listTests : List (Rule ListInput)
 listTests =
     refuse 2 (λ i. not (shapeOk maxDimension (i .d) (i .v) (i .s) && axesOk (i .n)))
@@ -42,9 +45,6 @@ listTests =
     ∷ refuse 4 (λ i. not (allOf inRange (i .points)))
     ∷ refuse 14 (λ i. not (sound (i .d) (i .v) (i .s) (i .table)))
     ∷ []
-
-abbrev pub listLength : ListInput → ℕ
-listLength i = length (listText i)
 
 unfoldable pub listRules : List (Rule ListInput)
 listRules = listTests ++ noRoom (λ i. i .room) listLength ∷ []
