@@ -233,6 +233,12 @@ def edits_in(name, with_logs):
     return results
 
 
+def cost(name):
+    """About how long the edits of a crate take: its check, and a part of it for each."""
+    crate = ROOT / "crates" / name
+    return sum(p.stat().st_size for p in (crate / "proofs").rglob("*.antt")) * (4 + len(list((crate / "slips").glob("*.edit"))))
+
+
 def trial_as_it_is():
     with tempfile.TemporaryDirectory() as folder:
         root = pathlib.Path(folder)
@@ -246,9 +252,10 @@ def main():
     parser.add_argument("--slips", nargs="+", metavar="NAME", help="only the slips of these crates")
     given = parser.parse_args().slips
     names = given or [c.name for c in (ROOT / "crates").iterdir()]
-    names.sort(key=lambda name: -len(list((ROOT / "crates" / name / "slips").glob("*.edit"))))
+    names.sort(key=lambda name: -cost(name))
     tally = Tally()
-    with concurrent.futures.ThreadPoolExecutor(min(os.cpu_count() or 1, 4)) as pool:
+    # One more than there are cores, so that no core waits for a prover that reads its files.
+    with concurrent.futures.ThreadPoolExecutor(min((os.cpu_count() or 1) + 1, 4)) as pool:
         waiting = [pool.submit(edits_in, name, not given) for name in names]
         waiting.append(pool.submit(lambda: [trial_as_it_is()]))
         for done in waiting:
