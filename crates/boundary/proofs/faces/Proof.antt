@@ -27,9 +27,6 @@ limits c = limits-are _ _ _ _ (cc)
 table : (c : tie.Else2) → let a = start (search needs) .args in Table (a .d) (a .s) (a .table .now)
 table c = let l = limits (search needs) in record { dimension = l .dimension; cells = l .cells; long = eqb-true _ _ (not-false _ (cc)) }
 
-within-requires : tie.Need-within-requires
-within-requires c κs = search needs
-
 returns : tie.Need-returns
 unfolding facesRules
 returns c = refuses _ _ 2 cc
@@ -37,15 +34,9 @@ returns c = refuses _ _ 2 cc
 table-words-requires : tie.Need-table-words-requires
 table-words-requires c κs = let l = limits c in (l .dimension, l .cells)
 
-differ-requires : tie.Need-differ-requires
-differ-requires c κs = search needs
-
 returns-2 : tie.Need-returns-2
 unfolding facesRules
 returns-2 c = refuses _ _ 3 cc
-
-is-sound-requires : tie.Need-is-sound-requires
-is-sound-requires c κs = search needs
 
 returns-3 : tie.Need-returns-3
 unfolding facesRules
@@ -62,9 +53,6 @@ mul-less c =
     let l = limits (search needs) in
     omega (arith, mul-le-mul {n₁ = c .before .count-faces .result} {m₁ = c .face-size .result} {n₂ = 32768} {m₂ = 8} (omega arith) (omega arith))
 
-less-requires : tie.Need-less-requires
-less-requires c κs = search needs
-
 returns-4 : tie.Need-returns-4
 unfolding facesRules boundaryCells
 returns-4 c = refuses _ _ 15 cc
@@ -75,9 +63,6 @@ write-faces-requires c κs =
     let a = start (search needs) .args in
     let fits : length (tableFaces (a .d) (a .s) (a .table .now)) * faceSize (a .d) ≤ length (a .out .now) = ltb-false _ _ (cc) in
     (t, omega (arith, words-long (a .d) (a .s) (a .table .now) t))
-
-same-length : tie.Need-same-length
-same-length c = search needs
 
 returns-5 : tie.Need-returns-5
 unfolding facesRules boundaryCells
@@ -91,18 +76,18 @@ pub faces-spec : {M : Type 1} → statement M
 faces-spec =
     tie.close
     (tie.spec
-    within-requires
+    (λ c κs. search needs)
     returns
     table-words-requires
-    differ-requires
+    (λ c κs. search needs)
     returns-2
-    is-sound-requires
+    (λ c κs. search needs)
     returns-3
     count-faces-requires
     face-size-requires
     mul-less
-    less-requires
+    (λ c κs. search needs)
     returns-4
     write-faces-requires
-    same-length
+    (λ c. search needs)
     returns-5)

@@ -7,18 +7,6 @@ use Rattle.key.proofs.Fits.{text-written, text-taken}
 use Rattle.key.proofs.print_to.Statement.{statement}
 use Rattle.key.proofs.print_to.Tie as tie
 
-key-text-requires : tie.Need-key-text-requires
-key-text-requires c κs = search needs
-
-enum-known-n : tie.Need-enum-known-n
-enum-known-n c = search needs
-
-enum-told : tie.Need-enum-told
-enum-told c = search needs
-
-same-length : tie.Need-same-length
-same-length c = search needs
-
 returns : tie.Need-returns
 returns c =
     let call = c .before .before .before .before .before in
@@ -29,9 +17,6 @@ returns c =
     text-written (start .args .input .now) (start .args .text .now) (start .pre) new n
     (sym (ap outcomeOf (c .before .n .given .1)) ∙ call .key-text .ensures .0) (call .key-text .ensures .1) in
     ((w .0, sym (length-take-le n new (w .0))), w .1)
-
-same-length-2 : tie.Need-same-length-2
-same-length-2 c = search needs
 
 returns-2 : tie.Need-returns-2
 returns-2 c =
@@ -44,4 +29,4 @@ returns-2 c =
 pub print-to-spec : {M : Type 1} → statement M
 print-to-spec =
     tie.close
-    (tie.spec key-text-requires enum-known-n enum-told same-length returns same-length-2 returns-2)
+    (tie.spec (λ c κs. search needs) (λ c. search needs) (λ c. search needs) (λ c. search needs) returns (λ c. search needs) returns-2)

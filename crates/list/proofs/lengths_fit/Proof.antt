@@ -8,21 +8,9 @@ use Rattle.list.proofs.lengths_fit.Tie as tie
 mul-count : tie.Need-mul-count
 mul-count c = let s : tie.Start = search needs in omega (arith, mul-le-mul (s .pre .2) (s .pre .1))
 
-table-words-requires : tie.Need-table-words-requires
-table-words-requires c κs = search needs
-
-equal-requires : tie.Need-equal-requires
-equal-requires c κs = search needs
-
-equal-requires-2 : tie.Need-equal-requires-2
-equal-requires-2 c κs = search needs
-
-both-requires : tie.Need-both-requires
-both-requires c κs = search needs
-
 returns : tie.Need-returns
 returns c = cc
 
 pub lengths-fit-spec : {M : Type 1} → statement M
 lengths-fit-spec =
-    tie.close (tie.spec mul-count table-words-requires equal-requires equal-requires-2 both-requires returns)
+    tie.close (tie.spec mul-count (λ c κs. search needs) (λ c κs. search needs) (λ c κs. search needs) (λ c κs. search needs) returns)

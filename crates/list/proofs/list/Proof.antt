@@ -36,9 +36,6 @@ told c =
       record { axes = l .axes; vertices = l .vertices; long = eqb-true _ _ (long .1); ranged = not-false _ (cc) },
     )
 
-numbers-fit-requires : tie.Need-numbers-fit-requires
-numbers-fit-requires c κs = search needs
-
 returns : tie.Need-returns
 unfolding listRules
 returns c = refuses _ _ 2 cc
@@ -50,15 +47,9 @@ returns-2 : tie.Need-returns-2
 unfolding listRules
 returns-2 c = refuses _ _ 3 cc
 
-all-in-range-requires : tie.Need-all-in-range-requires
-all-in-range-requires c κs = search needs
-
 returns-3 : tie.Need-returns-3
 unfolding listRules
 returns-3 c = refuses _ _ 4 cc
-
-is-sound-requires : tie.Need-is-sound-requires
-is-sound-requires c κs = search needs
 
 returns-4 : tie.Need-returns-4
 unfolding listRules
@@ -66,9 +57,6 @@ returns-4 c = refuses _ _ 14 cc
 
 key-size-requires : tie.Need-key-size-requires
 key-size-requires c κs = told (search needs)
-
-less-requires : tie.Need-less-requires
-less-requires c κs = search needs
 
 -- what is compared with the room is the length of the key
 compared : (c : tie.After-less) → let a = start (search needs) .args in
@@ -87,9 +75,6 @@ put-key-requires c κs =
     let k : tie.After-key-size = search needs in
     (t .0, t .1, k .key-size .ensures .faces, ltb-false _ _ (cc (compared (search needs))))
 
-same-length : tie.Need-same-length
-same-length c = search needs
-
 returns-6 : tie.Need-returns-6
 unfolding listRules listText
 returns-6 c =
@@ -103,17 +88,17 @@ pub list-spec : {M : Type 1} → statement M
 list-spec =
     tie.close
     (tie.spec
-    numbers-fit-requires
+    (λ c κs. search needs)
     returns
     lengths-fit-requires
     returns-2
-    all-in-range-requires
+    (λ c κs. search needs)
     returns-3
-    is-sound-requires
+    (λ c κs. search needs)
     returns-4
     key-size-requires
-    less-requires
+    (λ c κs. search needs)
     returns-5
     put-key-requires
-    same-length
+    (λ c. search needs)
     returns-6)

@@ -3,17 +3,8 @@ use borrow.Author.Needs.{needs}
 use Rattle.list.proofs.numbers_fit.Statement.{statement}
 use Rattle.list.proofs.numbers_fit.Tie as tie
 
-within-requires : tie.Need-within-requires
-within-requires c κs = search needs
-
-axes-ok-requires : tie.Need-axes-ok-requires
-axes-ok-requires c κs = search needs
-
-both-requires : tie.Need-both-requires
-both-requires c κs = search needs
-
 returns : tie.Need-returns
 returns c = cc
 
 pub numbers-fit-spec : {M : Type 1} → statement M
-numbers-fit-spec = tie.close (tie.spec within-requires axes-ok-requires both-requires returns)
+numbers-fit-spec = tie.close (tie.spec (λ c κs. search needs) (λ c κs. search needs) (λ c κs. search needs) returns)

@@ -20,12 +20,6 @@ abbrev μ-loop : tie.MeasureT-loop
 place-of-requires : tie.Need-place-of-requires Inv-loop μ-loop
 place-of-requires c κs = (omega arith, c .pre .0 .0 .some, c .pre .0 .0 .most, c .pre .0 .1)
 
-mul-f : tie.Need-mul-f Inv-loop μ-loop
-mul-f c = search needs
-
-element-copy-out-f : tie.Need-element-copy-out-f Inv-loop μ-loop
-element-copy-out-f c = search needs
-
 loop-holds : tie.Need-loop-holds Inv-loop μ-loop
 loop-holds c =
     let s = c .before .before in
@@ -125,8 +119,8 @@ back-spec =
     Inv-loop
     μ-loop
     place-of-requires
-    mul-f
-    element-copy-out-f
+    (λ c. search needs)
+    (λ c. search needs)
     loop-holds
     cast-x
     place-of-requires-2

@@ -6,21 +6,6 @@ use Rattle.matching.proofs.Weights.{term-within, bucket-less, bucket-wh
 use Rattle.matching.proofs.bucket.Statement.{statement}
 use Rattle.matching.proofs.bucket.Tie as tie
 
-mul-term : tie.Need-mul-term
-mul-term c = search needs
-
-add-term : tie.Need-add-term
-add-term c = search needs
-
-mul-term-2 : tie.Need-mul-term-2
-mul-term-2 c = search needs
-
-element-copy-out-term : tie.Need-element-copy-out-term
-element-copy-out-term c = search needs
-
-term-requires : tie.Need-term-requires
-term-requires c κs = search needs
-
 sub-result : tie.Need-sub-result
 sub-result c =
     let s = c .before .before .before in
@@ -44,11 +29,11 @@ pub bucket-spec : {M : Type 1} → statement M
 bucket-spec =
     tie.close
     (tie.spec
-    mul-term
-    add-term
-    mul-term-2
-    element-copy-out-term
-    term-requires
+    (λ c. search needs)
+    (λ c. search needs)
+    (λ c. search needs)
+    (λ c. search needs)
+    (λ c κs. search needs)
     sub-result
     returns
     returns-2)

@@ -4,9 +4,6 @@ use borrow.Author.Tests.{lt-ltb, le-ltb}
 use Rattle.matching.proofs.kept.Statement.{statement}
 use Rattle.matching.proofs.kept.Tie as tie
 
-sub-result : tie.Need-sub-result
-sub-result c = search needs
-
 returns : tie.Need-returns
 returns c = rw (lt-ltb _ _ (c .if1 .taken))
 
@@ -14,4 +11,4 @@ returns-2 : tie.Need-returns-2
 returns-2 c = rw (le-ltb _ _ (c .if1 .left))
 
 pub kept-spec : {M : Type 1} → statement M
-kept-spec = tie.close (tie.spec sub-result returns returns-2)
+kept-spec = tie.close (tie.spec (λ c. search needs) returns returns-2)

@@ -25,12 +25,6 @@ link-cell-requires c κs =
     let s = c .before .before .before .before in
     ((s .pre .0, omega arith), c .before .before .before .loop .inv .1)
 
-add-p : tie.Need-add-p Inv-loop μ-loop
-add-p c = search needs
-
-loop-less : tie.Need-loop-less Inv-loop μ-loop
-loop-less c = search needs
-
 loop-again : tie.Need-loop-again Inv-loop μ-loop
 loop-again c =
     let l = c .before .before .before .before .loop in
@@ -53,4 +47,4 @@ returns c =
 pub link-spec : {M : Type 1} → statement M
 link-spec =
     tie.close
-    (tie.spec Inv-loop μ-loop loop-holds link-cell-requires add-p loop-less loop-again returns)
+    (tie.spec Inv-loop μ-loop loop-holds link-cell-requires (λ c. search needs) (λ c. search needs) loop-again returns)

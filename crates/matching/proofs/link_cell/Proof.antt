@@ -18,14 +18,8 @@ Inv-loop k w first p rows head₀ prev₀ sum i₀ head prev i =
 abbrev μ-loop : tie.MeasureT-loop
 μ-loop k w first p rows head₀ prev₀ sum i₀ head prev i = w - i
 
-weigh-requires : tie.Need-weigh-requires Inv-loop μ-loop
-weigh-requires c κs = search needs
-
 loop-holds : tie.Need-loop-holds Inv-loop μ-loop
 loop-holds c = (omega arith, rw (add-zero (c .before .args .p * c .before .args .w)) (c .before .pre .1), (λ g h. refl))
-
-add-bucket : tie.Need-add-bucket Inv-loop μ-loop
-add-bucket c = search needs
 
 bucket-requires : tie.Need-bucket-requires Inv-loop μ-loop
 bucket-requires c κs = ((c .before .before .before .pre .0 .0 .vertices, c .before .before .before .pre .0 .1), c .before .before .weigh .ensures)
@@ -41,12 +35,6 @@ mul-g c = omega (arith, in-table (c .before))
 add-g : tie.Need-add-g Inv-loop μ-loop
 add-g c = omega (arith, in-table (c .before))
 
-mul-prev : tie.Need-mul-prev Inv-loop μ-loop
-mul-prev c = search needs
-
-element-copy-out-prev : tie.Need-element-copy-out-prev Inv-loop μ-loop
-element-copy-out-prev c = search needs
-
 mul-prev-2 : tie.Need-mul-prev-2 Inv-loop μ-loop
 mul-prev-2 c = omega (arith, in-table (c .before .before))
 
@@ -55,18 +43,6 @@ element-write-prev c = omega (arith, in-table (c .before .before))
 
 cast-head : tie.Need-cast-head Inv-loop μ-loop
 cast-head c = omega (arith, in-table (c .before .before))
-
-mul-head : tie.Need-mul-head Inv-loop μ-loop
-mul-head c = search needs
-
-element-write-head : tie.Need-element-write-head Inv-loop μ-loop
-element-write-head c = search needs
-
-add-i : tie.Need-add-i Inv-loop μ-loop
-add-i c = search needs
-
-loop-less : tie.Need-loop-less Inv-loop μ-loop
-loop-less c = search needs
 
 loop-again : tie.Need-loop-again Inv-loop μ-loop
 loop-again c =
@@ -97,20 +73,20 @@ link-cell-spec =
     (tie.spec
     Inv-loop
     μ-loop
-    weigh-requires
+    (λ c κs. search needs)
     loop-holds
-    add-bucket
+    (λ c. search needs)
     bucket-requires
     mul-g
     add-g
-    mul-prev
-    element-copy-out-prev
+    (λ c. search needs)
+    (λ c. search needs)
     mul-prev-2
     element-write-prev
     cast-head
-    mul-head
-    element-write-head
-    add-i
-    loop-less
+    (λ c. search needs)
+    (λ c. search needs)
+    (λ c. search needs)
+    (λ c. search needs)
     loop-again
     returns)

@@ -24,12 +24,6 @@ Inv-loop k rows p a q b m j₀ j =
 abbrev μ-loop : tie.MeasureT-loop
 μ-loop k rows p a q b m j₀ j = m - j
 
-kept-requires : tie.Need-kept-requires Inv-loop μ-loop
-kept-requires c κs = search needs
-
-kept-requires-2 : tie.Need-kept-requires-2 Inv-loop μ-loop
-kept-requires-2 c κs = search needs
-
 returns : tie.Need-returns Inv-loop μ-loop
 returns c =
     let s = c .before .before .before in
@@ -39,9 +33,6 @@ returns c =
 loop-holds : tie.Need-loop-holds Inv-loop μ-loop
 loop-holds c =
     (c .before .before .kept .ensures, sym (c .if1 .left) ∙ c .before .kept2 .ensures, omega arith, (λ i l. absurd (not-suc-le-zero l)))
-
-mul-if2 : tie.Need-mul-if2 Inv-loop μ-loop
-mul-if2 c = search needs
 
 -- j is below 8
 in-record : (c : tie.In-loop Inv-loop μ-loop) → c .before .loop .j < 8
@@ -68,9 +59,6 @@ mul-if2-2 c = omega (arith, stood c)
 element-copy-out-if2 : tie.Need-element-copy-out-if2 Inv-loop μ-loop
 element-copy-out-if2 c = omega (arith, stood c)
 
-mul-if2-3 : tie.Need-mul-if2-3 Inv-loop μ-loop
-mul-if2-3 c = search needs
-
 stands-requires-2 : tie.Need-stands-requires-2 Inv-loop μ-loop
 stands-requires-2 c κs = in-record (c .before .before)
 
@@ -96,12 +84,6 @@ returns-2 c =
     sym (vertex-differs _ _ _ _ _ _ (s .pre .0) (s .pre .1) (s .pre .2) (s .pre .3) _ (l .inv .0) (l .inv .1) _ _ _ (omega arith) (cc)
     (c .before .before .stands2 .ensures) (c .if2 .taken))
 
-add-j : tie.Need-add-j Inv-loop μ-loop
-add-j c = search needs
-
-loop-less : tie.Need-loop-less Inv-loop μ-loop
-loop-less c = search needs
-
 loop-again : tie.Need-loop-again Inv-loop μ-loop
 loop-again c =
     let s = c .before .before .before .before .before .before .before .before .before .before in
@@ -125,22 +107,22 @@ same-key-spec =
     (tie.spec
     Inv-loop
     μ-loop
-    kept-requires
-    kept-requires-2
+    (λ c κs. search needs)
+    (λ c κs. search needs)
     returns
     loop-holds
-    mul-if2
+    (λ c. search needs)
     stands-requires
     add-if2
     mul-if2-2
     element-copy-out-if2
-    mul-if2-3
+    (λ c. search needs)
     stands-requires-2
     add-if2-2
     mul-if2-4
     element-copy-out-if2-2
     returns-2
-    add-j
-    loop-less
+    (λ c. search needs)
+    (λ c. search needs)
     loop-again
     returns-3)

@@ -22,17 +22,11 @@ Inv-loop n k w first rows prev₀ part g₀ prev g =
 abbrev μ-loop : tie.MeasureT-loop
 μ-loop n k w first rows prev₀ part g₀ prev g = g
 
-div-part : tie.Need-div-part Inv-loop μ-loop
-div-part c = search needs
-
 add-part : tie.Need-add-part Inv-loop μ-loop
 add-part c = omega (arith, div-le-self 1048576 (c .args .w))
 
 loop-holds : tie.Need-loop-holds Inv-loop μ-loop
 loop-holds c = (omega arith, c .pre .0 .2, c .pre .1, (λ f h t. absurd (omega arith)), (λ g h. refl))
-
-sub-g : tie.Need-sub-g Inv-loop μ-loop
-sub-g c = search needs
 
 back-requires : tie.Need-back-requires Inv-loop μ-loop
 back-requires c κs =
@@ -44,9 +38,6 @@ mul-prev c = omega arith
 
 element-write-prev : tie.Need-element-write-prev Inv-loop μ-loop
 element-write-prev c = omega arith
-
-loop-less : tie.Need-loop-less Inv-loop μ-loop
-loop-less c = search needs
 
 loop-again : tie.Need-loop-again Inv-loop μ-loop
 loop-again c =
@@ -72,13 +63,13 @@ settle-spec =
     (tie.spec
     Inv-loop
     μ-loop
-    div-part
+    (λ c. search needs)
     add-part
     loop-holds
-    sub-g
+    (λ c. search needs)
     back-requires
     mul-prev
     element-write-prev
-    loop-less
+    (λ c. search needs)
     loop-again
     returns)

@@ -7,11 +7,8 @@ use Rattle.matching.proofs.stands.Tie as tie
 returns : tie.Need-returns
 returns c = rw (lt-ltb _ _ (c .if1 .taken))
 
-add-result : tie.Need-add-result
-add-result c = search needs
-
 returns-2 : tie.Need-returns-2
 returns-2 c = rw (le-ltb _ _ (c .if1 .left))
 
 pub stands-spec : {M : Type 1} → statement M
-stands-spec = tie.close (tie.spec add-result returns returns-2)
+stands-spec = tie.close (tie.spec (λ c. search needs) returns returns-2)

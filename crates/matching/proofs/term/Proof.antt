@@ -7,12 +7,6 @@ use Rattle.matching.proofs.Weights.{inner-below, outer-below}
 use Rattle.matching.proofs.term.Statement.{statement}
 use Rattle.matching.proofs.term.Tie as tie
 
-wide-requires : tie.Need-wide-requires
-wide-requires c κs = search needs
-
-add-result : tie.Need-add-result
-add-result c = search needs
-
 mul-result : tie.Need-mul-result
 mul-result c = omega (arith, inner-below _ (c .wide .ensures .1))
 
@@ -28,4 +22,4 @@ returns c = (ap term (c .wide .ensures .0), outer-below _ (c .wide .ensures .1))
 
 pub term-spec : {M : Type 1} → statement M
 term-spec =
-    tie.close (tie.spec wide-requires add-result mul-result add-result-2 mul-result-2 returns)
+    tie.close (tie.spec (λ c κs. search needs) (λ c. search needs) mul-result add-result-2 mul-result-2 returns)

@@ -17,9 +17,6 @@ start c = c .before .before .before .before
 limits : (c : tie.Else1) → let a = start c .args in MoveLimits (a .n) (a .v) (a .h)
 limits c = move-limits-are _ _ _ (cc)
 
-numbers-ok-requires : tie.Need-numbers-ok-requires
-numbers-ok-requires c κs = search needs
-
 returns : tie.Need-returns
 unfolding moveRules
 returns c = refuses _ _ 2 cc
@@ -27,22 +24,13 @@ returns c = refuses _ _ 2 cc
 mul-differ : tie.Need-mul-differ
 mul-differ c = let l = limits c in omega (arith, mul-le-mul (l .vertices) (l .axes))
 
-differ-requires : tie.Need-differ-requires
-differ-requires c κs = search needs
-
 returns-2 : tie.Need-returns-2
 unfolding moveRules
 returns-2 c = refuses _ _ 3 cc
 
-floats-in-range-requires : tie.Need-floats-in-range-requires
-floats-in-range-requires c κs = search needs
-
 returns-3 : tie.Need-returns-3
 unfolding moveRules
 returns-3 c = refuses _ _ 4 cc
-
-fits-requires : tie.Need-fits-requires
-fits-requires c κs = search needs
 
 returns-4 : tie.Need-returns-4
 unfolding moveRules
@@ -50,9 +38,6 @@ returns-4 c = refuses _ _ 5 cc
 
 swept-vertices-requires : tie.Need-swept-vertices-requires
 swept-vertices-requires c κs = let l = limits (search needs) in (l .vertices, l .steps)
-
-less-requires : tie.Need-less-requires
-less-requires c κs = search needs
 
 returns-5 : tie.Need-returns-5
 unfolding moveRules
@@ -71,18 +56,12 @@ mul-count c =
     let few : c .before .before .before .before .swept-vertices .result ≤ maxVertices = ltb-false maxVertices _ (cc) in
     omega (arith, mul-le-mul few (l .axes))
 
-less-requires-2 : tie.Need-less-requires-2
-less-requires-2 c κs = search needs
-
 returns-7 : tie.Need-returns-7
 unfolding moveRules movedLevels
 returns-7 c = refuses _ _ 15 cc
 
 write-levels-requires : tie.Need-write-levels-requires
 write-levels-requires c κs = (not-false _ (cc), (eqb-true _ _ (not-false _ (cc)), ltb-false _ _ (cc)))
-
-same-length : tie.Need-same-length
-same-length c = search needs
 
 returns-8 : tie.Need-returns-8
 unfolding moveRules movedLevels
@@ -92,23 +71,23 @@ pub move-points-spec : {M : Type 1} → statement M
 move-points-spec =
     tie.close
     (tie.spec
-    numbers-ok-requires
+    (λ c κs. search needs)
     returns
     mul-differ
-    differ-requires
+    (λ c κs. search needs)
     returns-2
-    floats-in-range-requires
+    (λ c κs. search needs)
     returns-3
-    fits-requires
+    (λ c κs. search needs)
     returns-4
     swept-vertices-requires
-    less-requires
+    (λ c κs. search needs)
     returns-5
     levels-stay-requires
     returns-6
     mul-count
-    less-requires-2
+    (λ c κs. search needs)
     returns-7
     write-levels-requires
-    same-length
+    (λ c. search needs)
     returns-8)

@@ -6,18 +6,12 @@ use borrow.Author.Tests.{lt-ltb, le-ltb}
 use Rattle.read.proofs.no_room.Statement.{statement}
 use Rattle.read.proofs.no_room.Tie as tie
 
-words-requires : tie.Need-words-requires
-words-requires c κs = search needs
-
 returns : tie.Need-returns
 returns c = rw (ap (ltb _) (sym (c .before .words .ensures)) ∙ lt-ltb _ _ (c .if1 .taken)) refl
-
-point-count-requires : tie.Need-point-count-requires
-point-count-requires c κs = search needs
 
 returns-2 : tie.Need-returns-2
 returns-2 c =
     rw (ap (ltb _) (sym (c .before .before .words .ensures)) ∙ le-ltb _ _ (c .before .if1 .left)) (ap (ltb _) (c .point-count .ensures .0))
 
 pub no-room-spec : {M : Type 1} → statement M
-no-room-spec = tie.close (tie.spec words-requires returns point-count-requires returns-2)
+no-room-spec = tie.close (tie.spec (λ c κs. search needs) returns (λ c κs. search needs) returns-2)

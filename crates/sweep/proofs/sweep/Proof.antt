@@ -29,18 +29,12 @@ ready c =
     let few = small (a .d) (a .v) (a .s) (a .h) (cc) in
     sound-ready _ _ _ _ _ (l .dimension) (few .0) (few .1) (not-false _ (cc))
 
-in-limits-requires : tie.Need-in-limits-requires
-in-limits-requires c κs = search needs
-
 returns : tie.Need-returns
 unfolding sweepRules
 returns c = refuses _ _ 2 cc
 
 table-words-requires : tie.Need-table-words-requires
 table-words-requires c κs = let l = limits c in (omega arith, l .cells)
-
-differ-requires : tie.Need-differ-requires
-differ-requires c κs = search needs
 
 returns-2 : tie.Need-returns-2
 unfolding sweepRules
@@ -53,18 +47,12 @@ returns-3 : tie.Need-returns-3
 unfolding sweepRules
 returns-3 c = refuses _ _ 12 cc
 
-is-sound-requires : tie.Need-is-sound-requires
-is-sound-requires c κs = search needs
-
 returns-4 : tie.Need-returns-4
 unfolding sweepRules
 returns-4 c = refuses _ _ 14 cc
 
 swept-words-requires : tie.Need-swept-words-requires
 swept-words-requires c κs = let l = limits (search needs) in (l .dimension, l .cells, l .steps, ready c .cells)
-
-less-requires : tie.Need-less-requires
-less-requires c κs = search needs
 
 returns-5 : tie.Need-returns-5
 unfolding sweepRules
@@ -76,9 +64,6 @@ write-swept-requires c κs =
     let a = start (search needs) .args in
     let fits = ltb-false (length (a .out .now)) (sweptLength (sweepInput (a .d) (a .v) (a .s) (a .h) (a .table .now) 0)) (cc) in
     (ready four, omega (arith, call-long (a .d) (a .v) (a .s) (a .h) (a .table .now) (ready four .long) 0))
-
-same-length : tie.Need-same-length
-same-length c = search needs
 
 returns-6 : tie.Need-returns-6
 unfolding sweepRules
@@ -95,18 +80,18 @@ pub sweep-spec : {M : Type 1} → statement M
 sweep-spec =
     tie.close
     (tie.spec
-    in-limits-requires
+    (λ c κs. search needs)
     returns
     table-words-requires
-    differ-requires
+    (λ c κs. search needs)
     returns-2
     too-large-requires
     returns-3
-    is-sound-requires
+    (λ c κs. search needs)
     returns-4
     swept-words-requires
-    less-requires
+    (λ c κs. search needs)
     returns-5
     write-swept-requires
-    same-length
+    (λ c. search needs)
     returns-6)

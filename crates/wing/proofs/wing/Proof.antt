@@ -17,9 +17,6 @@ start c = c .before .before .before .before
 limits : (c : tie.Else1) → let a = start c .args in Limits maxDimension (a .d) (a .v) (a .s)
 limits c = limits-are _ _ _ _ (cc)
 
-within-requires : tie.Need-within-requires
-within-requires c κs = search needs
-
 returns : tie.Need-returns
 unfolding wingRules
 returns c = refuses _ _ 2 cc
@@ -33,18 +30,12 @@ mul-differ c =
     let a = start c .args in
     omega (arith, mul-le-mul {n₁ = a .s} {m₁ = a .d + 2} {n₂ = 4096} {m₂ = 9} (l .cells) (omega arith))
 
-differ-requires : tie.Need-differ-requires
-differ-requires c κs = search needs
-
 returns-2 : tie.Need-returns-2
 unfolding wingRules
 returns-2 c = refuses _ _ 3 cc
 
 write-table-requires : tie.Need-write-table-requires
 write-table-requires c κs = let l = limits (search needs) in (l .dimension, l .cells, eqb-true _ _ (not-false _ (cc)))
-
-same-length : tie.Need-same-length
-same-length c = search needs
 
 returns-3 : tie.Need-returns-3
 returns-3 c =
@@ -55,12 +46,12 @@ pub wing-spec : {M : Type 1} → statement M
 wing-spec =
     tie.close
     (tie.spec
-    within-requires
+    (λ c κs. search needs)
     returns
     add-differ
     mul-differ
-    differ-requires
+    (λ c κs. search needs)
     returns-2
     write-table-requires
-    same-length
+    (λ c. search needs)
     returns-3)

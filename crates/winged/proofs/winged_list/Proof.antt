@@ -10,9 +10,6 @@ use Rattle.winged.proofs.Counts.{list-within}
 use Rattle.winged.proofs.winged_list.Statement.{statement}
 use Rattle.winged.proofs.winged_list.Tie as tie
 
-list-bytes-requires : tie.Need-list-bytes-requires
-list-bytes-requires c κs = search needs
-
 answered-requires : tie.Need-answered-requires
 answered-requires c κs =
     let a = c .before .before .before .before .before .before .before .args in
@@ -22,13 +19,10 @@ answered-requires c κs =
       list-within (a .d) (a .n) (a .v) (a .s) (a .table .now) (a .points .now) (a .text .now),
     )
 
-same-length : tie.Need-same-length
-same-length c = search needs
-
 returns : tie.Need-returns
 returns c =
     let call = c .before .before .before .list-bytes in
     (toZ-ofZ w64 _ (search needs) ∙ c .answered .ensures ∙ ap hostAnswer (call .ensures .0), call .ensures .1)
 
 pub winged-list-spec : {M : Type 1} → statement M
-winged-list-spec = tie.close (tie.spec list-bytes-requires answered-requires same-length returns)
+winged-list-spec = tie.close (tie.spec (λ c κs. search needs) answered-requires (λ c. search needs) returns)

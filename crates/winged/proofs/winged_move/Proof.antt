@@ -13,9 +13,6 @@ use Rattle.winged.proofs.Counts.{move-within}
 use Rattle.winged.proofs.winged_move.Statement.{statement}
 use Rattle.winged.proofs.winged_move.Tie as tie
 
-move-bytes-requires : tie.Need-move-bytes-requires
-move-bytes-requires c κs = search needs
-
 answered-requires : tie.Need-answered-requires
 answered-requires c κs =
     let a = c .before .before .before .before .before .before .args in
@@ -26,13 +23,10 @@ answered-requires c κs =
           (a .points .now) (length (a .levels .now) / 8)),
     )
 
-same-length : tie.Need-same-length
-same-length c = search needs
-
 returns : tie.Need-returns
 returns c =
     let call = c .before .before .before .move-bytes in
     (toZ-ofZ w64 _ (search needs) ∙ c .answered .ensures ∙ ap hostAnswer (call .ensures .0), call .ensures .1)
 
 pub winged-move-spec : {M : Type 1} → statement M
-winged-move-spec = tie.close (tie.spec move-bytes-requires answered-requires same-length returns)
+winged-move-spec = tie.close (tie.spec (λ c κs. search needs) answered-requires (λ c. search needs) returns)

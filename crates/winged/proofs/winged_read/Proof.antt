@@ -9,9 +9,6 @@ use Rattle.winged.proofs.Counts.{read-small}
 use Rattle.winged.proofs.winged_read.Statement.{statement}
 use Rattle.winged.proofs.winged_read.Tie as tie
 
-read-bytes-requires : tie.Need-read-bytes-requires
-read-bytes-requires c κs = search needs
-
 answered-requires : tie.Need-answered-requires
 answered-requires c κs = read-small _ _ _ _ _ (c .before .before .before .before .before .before .read-bytes .ensures .0) (omega arith)
 
@@ -24,7 +21,7 @@ pub winged-read-spec : {M : Type 1} → statement M
 winged-read-spec =
     tie.close
     (tie.spec
-    read-bytes-requires
+    (λ c κs. search needs)
     answered-requires
     (λ c. search needs)
     (λ c. search needs)

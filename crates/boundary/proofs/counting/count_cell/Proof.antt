@@ -20,18 +20,6 @@ abbrev μ-loop : tie.MeasureT-loop
 loop-holds : tie.Need-loop-holds Inv-loop μ-loop
 loop-holds c = omega arith
 
-on-boundary-requires : tie.Need-on-boundary-requires Inv-loop μ-loop
-on-boundary-requires c κs = search needs
-
-add-n : tie.Need-add-n Inv-loop μ-loop
-add-n c = search needs
-
-add-a : tie.Need-add-a Inv-loop μ-loop
-add-a c = search needs
-
-loop-less : tie.Need-loop-less Inv-loop μ-loop
-loop-less c = search needs
-
 loop-again : tie.Need-loop-again Inv-loop μ-loop
 loop-again c =
     let turn = c .before .before .before in
@@ -52,4 +40,4 @@ returns c =
     omega (arith, ap length (from-next (a .d) (a .s) (a .table .now) (s .pre .long) (a .p) (turn .loop .a) (s .pre .number) (omega arith)))
 
 pub count-cell-spec : {M : Type 1} → statement M
-count-cell-spec = tie.close (tie.spec Inv-loop μ-loop loop-holds on-boundary-requires add-n add-a loop-less loop-again returns)
+count-cell-spec = tie.close (tie.spec Inv-loop μ-loop loop-holds (λ c κs. search needs) (λ c. search needs) (λ c. search needs) (λ c. search needs) loop-again returns)

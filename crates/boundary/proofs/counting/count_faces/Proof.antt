@@ -22,17 +22,8 @@ few c = faces-few (c .args .d) (c .args .s) (c .args .table .now) (c .pre)
 loop-holds : tie.Need-loop-holds Inv-loop μ-loop
 loop-holds c = let a = c .before .args in (omega arith, omega (arith, ap length (from-start (a .d) (a .s) (a .table .now))))
 
-count-cell-requires : tie.Need-count-cell-requires Inv-loop μ-loop
-count-cell-requires c κs = search needs
-
 add-n : tie.Need-add-n Inv-loop μ-loop
 add-n c = omega (arith, few (c .before .before .before .before))
-
-add-p : tie.Need-add-p Inv-loop μ-loop
-add-p c = search needs
-
-loop-less : tie.Need-loop-less Inv-loop μ-loop
-loop-less c = search needs
 
 loop-again : tie.Need-loop-again Inv-loop μ-loop
 loop-again c = omega arith
@@ -45,4 +36,4 @@ returns c =
     (omega arith, omega (arith, few s))
 
 pub count-faces-spec : {M : Type 1} → statement M
-count-faces-spec = tie.close (tie.spec Inv-loop μ-loop loop-holds count-cell-requires add-n add-p loop-less loop-again returns)
+count-faces-spec = tie.close (tie.spec Inv-loop μ-loop loop-holds (λ c κs. search needs) add-n (λ c. search needs) (λ c. search needs) loop-again returns)

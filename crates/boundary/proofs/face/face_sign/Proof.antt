@@ -6,12 +6,6 @@ use Rattle.boundary.proofs.FaceWords.{face-sign}
 use Rattle.boundary.proofs.face.face_sign.Statement.{statement}
 use Rattle.boundary.proofs.face.face_sign.Tie as tie
 
-sign-requires : tie.Need-sign-requires
-sign-requires c κs = search needs
-
-turned-requires : tie.Need-turned-requires
-turned-requires c κs = search needs
-
 returns : tie.Need-returns
 returns c =
     let start = c .before .before .before in
@@ -20,4 +14,4 @@ returns c =
     ∙ face-sign (a .d) (a .s) (a .table .now) (a .p) (start .pre .0) (a .a) (start .pre .1)
 
 pub face-sign-spec : {M : Type 1} → statement M
-face-sign-spec = tie.close (tie.spec sign-requires turned-requires returns)
+face-sign-spec = tie.close (tie.spec (λ c κs. search needs) (λ c κs. search needs) returns)

@@ -8,20 +8,11 @@ use Rattle.boundary.proofs.FaceWords.{face-before, face-behind}
 use Rattle.boundary.proofs.face.face_vertex.Statement.{statement}
 use Rattle.boundary.proofs.face.face_vertex.Tie as tie
 
-vertex-requires : tie.Need-vertex-requires
-vertex-requires c κs = search needs
-
 returns : tie.Need-returns
 returns c =
     let start = c .before .before .before in
     let a = start .args in
     c .vertex .ensures ∙ sym (face-before (a .d) (a .s) (a .table .now) (a .p) (start .pre .0) (a .a) (start .pre .1) (a .k) (omega arith))
-
-add-vertex : tie.Need-add-vertex
-add-vertex c = search needs
-
-vertex-requires-2 : tie.Need-vertex-requires-2
-vertex-requires-2 c κs = search needs
 
 returns-2 : tie.Need-returns-2
 returns-2 c =
@@ -31,4 +22,4 @@ returns-2 c =
     ∙ sym (face-behind (a .d) (a .s) (a .table .now) (a .p) (start .pre .0) (a .a) (start .pre .1) (a .k) (omega arith))
 
 pub face-vertex-spec : {M : Type 1} → statement M
-face-vertex-spec = tie.close (tie.spec vertex-requires returns add-vertex vertex-requires-2 returns-2)
+face-vertex-spec = tie.close (tie.spec (λ c κs. search needs) returns (λ c. search needs) (λ c κs. search needs) returns-2)

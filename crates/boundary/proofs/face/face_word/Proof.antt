@@ -9,17 +9,8 @@ use Rattle.boundary.specs.Inner.Walk.{faceAt}
 use Rattle.boundary.proofs.face.face_word.Statement.{statement}
 use Rattle.boundary.proofs.face.face_word.Tie as tie
 
-face-sign-requires : tie.Need-face-sign-requires
-face-sign-requires c κs = search needs
-
 returns : tie.Need-returns
 returns c = rw (c .before .if1 .taken) (c .face-sign .ensures)
-
-sub-face-vertex : tie.Need-sub-face-vertex
-sub-face-vertex c = search needs
-
-face-vertex-requires : tie.Need-face-vertex-requires
-face-vertex-requires c κs = search needs
 
 returns-2 : tie.Need-returns-2
 returns-2 c =
@@ -28,4 +19,4 @@ returns-2 c =
     c .face-vertex .ensures ∙ ap (λ n. getD (faceWords (faceAt (a .d) (a .table .now) (a .p) (a .a))) n 0) j
 
 pub face-word-spec : {M : Type 1} → statement M
-face-word-spec = tie.close (tie.spec face-sign-requires returns sub-face-vertex face-vertex-requires returns-2)
+face-word-spec = tie.close (tie.spec (λ c κs. search needs) returns (λ c. search needs) (λ c κs. search needs) returns-2)

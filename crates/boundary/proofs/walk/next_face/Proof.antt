@@ -17,9 +17,6 @@ abbrev μ-loop : tie.MeasureT-loop
 loop-holds : tie.Need-loop-holds Inv-loop μ-loop
 loop-holds c = (omega arith, refl)
 
-next-position-requires : tie.Need-next-position-requires Inv-loop μ-loop
-next-position-requires c κs = search needs
-
 returns : tie.Need-returns Inv-loop μ-loop
 returns c =
     let next = c .before .next-position .ensures in
@@ -27,12 +24,6 @@ returns c =
       place = record { cell = omega arith; position = λ h. omega arith; found = λ h. next .found (omega arith) };
       same = c .before .before .before .loop .inv .1 ∙ next .same;
     }
-
-add-cell : tie.Need-add-cell Inv-loop μ-loop
-add-cell c = search needs
-
-loop-less : tie.Need-loop-less Inv-loop μ-loop
-loop-less c = search needs
 
 loop-again : tie.Need-loop-again Inv-loop μ-loop
 loop-again c =
@@ -54,4 +45,4 @@ returns-2 c =
 
 pub next-face-spec : {M : Type 1} → statement M
 next-face-spec =
-    tie.close (tie.spec Inv-loop μ-loop loop-holds next-position-requires returns add-cell loop-less loop-again returns-2)
+    tie.close (tie.spec Inv-loop μ-loop loop-holds (λ c κs. search needs) returns (λ c. search needs) (λ c. search needs) loop-again returns-2)

@@ -17,17 +17,8 @@ abbrev μ-loop : tie.MeasureT-loop
 loop-holds : tie.Need-loop-holds Inv-loop μ-loop
 loop-holds c = refl
 
-on-boundary-requires : tie.Need-on-boundary-requires Inv-loop μ-loop
-on-boundary-requires c κs = search needs
-
 returns : tie.Need-returns Inv-loop μ-loop
 returns c = record { same = c .before .before .before .loop .inv; found = λ h. cc }
-
-add-position : tie.Need-add-position Inv-loop μ-loop
-add-position c = search needs
-
-loop-less : tie.Need-loop-less Inv-loop μ-loop
-loop-less c = search needs
 
 loop-again : tie.Need-loop-again Inv-loop μ-loop
 loop-again c =
@@ -41,4 +32,4 @@ returns-2 c = record { same = c .before .loop .inv; found = λ h. absurd (omega 
 
 pub next-position-spec : {M : Type 1} → statement M
 next-position-spec =
-    tie.close (tie.spec Inv-loop μ-loop loop-holds on-boundary-requires returns add-position loop-less loop-again returns-2)
+    tie.close (tie.spec Inv-loop μ-loop loop-holds (λ c κs. search needs) returns (λ c. search needs) (λ c. search needs) loop-again returns-2)

@@ -8,11 +8,8 @@ use Rattle.boundary.proofs.walk.on_boundary.Tie as tie
 returns : tie.Need-returns
 returns c = rw (c .if1 .taken)
 
-wing-requires : tie.Need-wing-requires
-wing-requires c κs = search needs
-
 returns-2 : tie.Need-returns-2
 returns-2 c = rw (c .wing .ensures, lt-ltb 0 (c .before .before .before .args .d) (omega arith))
 
 pub on-boundary-spec : {M : Type 1} → statement M
-on-boundary-spec = tie.close (tie.spec returns wing-requires returns-2)
+on-boundary-spec = tie.close (tie.spec returns (λ c κs. search needs) returns-2)

@@ -31,14 +31,8 @@ fits c =
     let start = turn .before .before .before .before in
     omega (arith, turn .loop .inv .2 .room, length-drop (turn .loop .j) (words start), long start)
 
-face-size-requires : tie.Need-face-size-requires Inv-loop μ-loop
-face-size-requires c κs = search needs
-
 loop-holds : tie.Need-loop-holds Inv-loop μ-loop
 loop-holds c = (omega arith, cc, left-starts _ _ _ (omega arith))
-
-face-word-requires : tie.Need-face-word-requires Inv-loop μ-loop
-face-word-requires c κs = search needs
 
 mul-out : tie.Need-mul-out Inv-loop μ-loop
 mul-out c = omega (arith, fits c)
@@ -48,12 +42,6 @@ slice-write-out c = fits c
 
 add-next : tie.Need-add-next Inv-loop μ-loop
 add-next c = omega (arith, fits c)
-
-add-j : tie.Need-add-j Inv-loop μ-loop
-add-j c = search needs
-
-loop-less : tie.Need-loop-less Inv-loop μ-loop
-loop-less c = search needs
 
 loop-again : tie.Need-loop-again Inv-loop μ-loop
 loop-again c =
@@ -77,14 +65,14 @@ write-face-spec =
     (tie.spec
     Inv-loop
     μ-loop
-    face-size-requires
+    (λ c κs. search needs)
     loop-holds
-    face-word-requires
+    (λ c κs. search needs)
     mul-out
     slice-write-out
     add-next
-    add-j
-    loop-less
+    (λ c. search needs)
+    (λ c. search needs)
     loop-again
     same-length
     returns)

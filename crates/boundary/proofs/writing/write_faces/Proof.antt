@@ -18,9 +18,6 @@ abbrev μ-loop : tie.MeasureT-loop
 abbrev turn : tie.After-next-face2 Inv-loop μ-loop → tie.At-loop Inv-loop μ-loop
 turn c = c .before .before .before .before .before .before .before .before
 
-next-face-requires : tie.Need-next-face-requires Inv-loop μ-loop
-next-face-requires c κs = search needs
-
 loop-holds : tie.Need-loop-holds Inv-loop μ-loop
 loop-holds c = walk-starts (c .next-face .ensures) (omega arith)
 
@@ -31,9 +28,6 @@ write-face-requires c κs =
 
 add-next-face : tie.Need-add-next-face Inv-loop μ-loop
 add-next-face c = omega (arith, c .before .before .before .before .before .before .before .loop .inv .place .position (omega arith))
-
-next-face-requires-2 : tie.Need-next-face-requires-2 Inv-loop μ-loop
-next-face-requires-2 c κs = search needs
 
 loop-less : tie.Need-loop-less Inv-loop μ-loop
 loop-less c = omega (arith, face-less (cc) (turn c .loop .inv .place) (omega arith) (c .next-face2 .ensures))
@@ -51,5 +45,5 @@ returns c = walk-ends (c .before .before .loop .inv) (omega arith)
 pub write-faces-spec : {M : Type 1} → statement M
 write-faces-spec =
     tie.close
-    (tie.spec Inv-loop μ-loop next-face-requires loop-holds write-face-requires add-next-face next-face-requires-2 loop-less loop-again
+    (tie.spec Inv-loop μ-loop (λ c κs. search needs) loop-holds write-face-requires add-next-face (λ c κs. search needs) loop-less loop-again
     same-length returns)

@@ -4,27 +4,6 @@ use borrow.Author.Needs.{needs}
 use Rattle.file.proofs.numbers.outside_limits.Statement.{statement}
 use Rattle.file.proofs.numbers.outside_limits.Tie as tie
 
-dimension-requires : tie.Need-dimension-requires
-dimension-requires c κs = search needs
-
-axes-requires : tie.Need-axes-requires
-axes-requires c κs = search needs
-
-vertex-count-requires : tie.Need-vertex-count-requires
-vertex-count-requires c κs = search needs
-
-cell-count-requires : tie.Need-cell-count-requires
-cell-count-requires c κs = search needs
-
-steps-requires : tie.Need-steps-requires
-steps-requires c κs = search needs
-
-byte-at-requires : tie.Need-byte-at-requires
-byte-at-requires c κs = search needs
-
-numbers-outside-requires : tie.Need-numbers-outside-requires
-numbers-outside-requires c κs = search needs
-
 returns : tie.Need-returns
 returns c =
     c .numbers-outside .ensures
@@ -41,11 +20,11 @@ pub outside-limits-spec : {M : Type 1} → statement M
 outside-limits-spec =
     tie.close
     (tie.spec
-    dimension-requires
-    axes-requires
-    vertex-count-requires
-    cell-count-requires
-    steps-requires
-    byte-at-requires
-    numbers-outside-requires
+    (λ c κs. search needs)
+    (λ c κs. search needs)
+    (λ c κs. search needs)
+    (λ c κs. search needs)
+    (λ c κs. search needs)
+    (λ c κs. search needs)
+    (λ c κs. search needs)
     returns)

@@ -7,12 +7,6 @@ use Rattle.file.proofs.Parts.{product-below}
 use Rattle.file.proofs.numbers.point_count.Statement.{statement}
 use Rattle.file.proofs.numbers.point_count.Tie as tie
 
-vertex-count-requires : tie.Need-vertex-count-requires
-vertex-count-requires c κs = search needs
-
-axes-requires : tie.Need-axes-requires
-axes-requires c κs = search needs
-
 mul-result : tie.Need-mul-result
 mul-result c = record { fits = omega (arith, product-below (c .before .vertex-count .ensures .1) (c .axes .ensures .1)) }
 
@@ -21,4 +15,4 @@ returns c =
     (ap₂ _*_ (c .before .vertex-count .ensures .0) (c .axes .ensures .0), product-below (c .before .vertex-count .ensures .1) (c .axes .ensures .1))
 
 pub point-count-spec : {M : Type 1} → statement M
-point-count-spec = tie.close (tie.spec vertex-count-requires axes-requires mul-result returns)
+point-count-spec = tie.close (tie.spec (λ c κs. search needs) (λ c κs. search needs) mul-result returns)

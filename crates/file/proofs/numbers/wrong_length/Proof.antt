@@ -11,24 +11,6 @@ use Rattle.file.proofs.Parts.{product-below}
 use Rattle.file.proofs.numbers.wrong_length.Statement.{statement}
 use Rattle.file.proofs.numbers.wrong_length.Tie as tie
 
-point-count-requires : tie.Need-point-count-requires
-point-count-requires c κs = search needs
-
-cell-count-requires : tie.Need-cell-count-requires
-cell-count-requires c κs = search needs
-
-dimension-requires : tie.Need-dimension-requires
-dimension-requires c κs = search needs
-
-cell-size-requires : tie.Need-cell-size-requires
-cell-size-requires c κs = search needs
-
-mul-result : tie.Need-mul-result
-mul-result c = search needs
-
-add-result : tie.Need-add-result
-add-result c = search needs
-
 mul-result-2 : tie.Need-mul-result-2
 mul-result-2 c = record { fits = omega (arith, product-below (c .before .before .cell-count .ensures .1) (c .cell-size .ensures .1)) }
 
@@ -54,12 +36,12 @@ pub wrong-length-spec : {M : Type 1} → statement M
 wrong-length-spec =
     tie.close
     (tie.spec
-    point-count-requires
-    cell-count-requires
-    dimension-requires
-    cell-size-requires
-    mul-result
-    add-result
+    (λ c κs. search needs)
+    (λ c κs. search needs)
+    (λ c κs. search needs)
+    (λ c κs. search needs)
+    (λ c. search needs)
+    (λ c. search needs)
     mul-result-2
     add-result-2
     returns)

@@ -11,12 +11,6 @@ returns c = sym (field-out _ (c .if1 .taken))
 float-from-bits-in-range : tie.Need-float-from-bits-in-range
 float-from-bits-in-range c = field-no-nan _ (c .if1 .left)
 
-in-range-requires : tie.Need-in-range-requires
-in-range-requires c κs = search needs
-
-returns-2 : tie.Need-returns-2
-returns-2 c = search needs
-
 pub bits-in-range-spec : {M : Type 1} → statement M
 bits-in-range-spec =
-    tie.close (tie.spec returns float-from-bits-in-range in-range-requires returns-2)
+    tie.close (tie.spec returns float-from-bits-in-range (λ c κs. search needs) (λ c. search needs))

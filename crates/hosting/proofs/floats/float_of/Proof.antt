@@ -7,8 +7,5 @@ use Rattle.hosting.proofs.floats.float_of.Tie as tie
 float-from-bits-result : tie.Need-float-from-bits-result
 float-from-bits-result c = bits-no-nan _ (c .pre)
 
-returns : tie.Need-returns
-returns c = search needs
-
 pub float-of-spec : {M : Type 1} → statement M
-float-of-spec = tie.close (tie.spec float-from-bits-result returns)
+float-of-spec = tie.close (tie.spec float-from-bits-result (λ c. search needs))

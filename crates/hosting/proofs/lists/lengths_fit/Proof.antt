@@ -14,12 +14,6 @@ words c = mul-le-mul {m₁ = c .args .d + c .args .d + 3} {m₂ = 17} (c .pre .3
 floats : (c : tie.Start) → c .args .v * c .args .n ≤ 32768
 floats c = mul-le-mul (c .pre .2) (c .pre .1)
 
-add-if1 : tie.Need-add-if1
-add-if1 c = search needs
-
-add-if1-2 : tie.Need-add-if1-2
-add-if1-2 c = search needs
-
 mul-if1 : tie.Need-mul-if1
 mul-if1 c = omega (arith, words c)
 
@@ -39,4 +33,4 @@ returns-2 : tie.Need-returns-2
 returns-2 c = simp (eq-eqb _ _ (c .if1 .left))
 
 pub lengths-fit-spec : {M : Type 1} → statement M
-lengths-fit-spec = tie.close (tie.spec add-if1 add-if1-2 mul-if1 mul-if1-2 returns mul-result mul-result-2 returns-2)
+lengths-fit-spec = tie.close (tie.spec (λ c. search needs) (λ c. search needs) mul-if1 mul-if1-2 returns mul-result mul-result-2 returns-2)

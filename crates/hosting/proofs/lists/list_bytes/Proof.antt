@@ -4,9 +4,6 @@ use Rattle.hosting.proofs.ListRows.{list-2, list-3, list-4, list-needs,
 use Rattle.hosting.proofs.lists.list_bytes.Statement.{statement}
 use Rattle.hosting.proofs.lists.list_bytes.Tie as tie
 
-numbers-fit-requires : tie.Need-numbers-fit-requires
-numbers-fit-requires c κs = search needs
-
 returns : tie.Need-returns
 returns c = list-2 _ _ _ _ _ _ _ (cc)
 
@@ -16,9 +13,6 @@ lengths-fit-requires c κs = list-needs _ _ _ _ (cc)
 returns-2 : tie.Need-returns-2
 returns-2 c = list-3 _ _ _ _ _ _ _ (cc) (cc)
 
-all-in-range-requires : tie.Need-all-in-range-requires
-all-in-range-requires c κs = search needs
-
 returns-3 : tie.Need-returns-3
 returns-3 c = list-4 _ _ _ _ _ _ _ (cc) (cc) (cc)
 
@@ -27,9 +21,6 @@ list-decoded-requires c κs =
     let a = c .before .before .before .before .before .before .before .before .before .before .args in
     list-small (a .d) (a .n) (a .v) (a .s) (a .table .now) (a .points .now) (a .text .now) (cc) (cc) (cc)
 
-same-length : tie.Need-same-length
-same-length c = search needs
-
 returns-4 : tie.Need-returns-4
 returns-4 c = list-right _ _ _ _ _ _ _ (cc) (cc) _ _ (c .before .before .list-decoded .ensures)
 
@@ -37,12 +28,12 @@ pub list-bytes-spec : {M : Type 1} → statement M
 list-bytes-spec =
     tie.close
     (tie.spec
-    numbers-fit-requires
+    (λ c κs. search needs)
     returns
     lengths-fit-requires
     returns-2
-    all-in-range-requires
+    (λ c κs. search needs)
     returns-3
     list-decoded-requires
-    same-length
+    (λ c. search needs)
     returns-4)

@@ -8,35 +8,14 @@ use Rattle.hosting.proofs.ListRows.{list-decodes}
 use Rattle.hosting.proofs.lists.list_decoded.Statement.{statement}
 use Rattle.hosting.proofs.lists.list_decoded.Tie as tie
 
-slice-aggregate-decode : tie.Need-slice-aggregate-decode
-slice-aggregate-decode c = search needs
-
-decode-requires : tie.Need-decode-requires
-decode-requires c κs = search needs
-
-slice-aggregate-decode-2 : tie.Need-slice-aggregate-decode-2
-slice-aggregate-decode-2 c = search needs
-
 decode-requires-2 : tie.Need-decode-requires-2
 decode-requires-2 c κs = (c .before .before .before .before .before .before .before .pre .2, omega arith)
-
-array-share-prefix-words : tie.Need-array-share-prefix-words
-array-share-prefix-words c = search needs
 
 slice-aggregate-list : tie.Need-slice-aggregate-list
 slice-aggregate-list c = sym (length-take-le _ _ (omega arith))
 
-array-share-prefix-floats : tie.Need-array-share-prefix-floats
-array-share-prefix-floats c = search needs
-
 slice-aggregate-list-2 : tie.Need-slice-aggregate-list-2
 slice-aggregate-list-2 c = sym (length-take-le _ _ (omega arith))
-
-list-requires : tie.Need-list-requires
-list-requires c κs = search needs
-
-same-length : tie.Need-same-length
-same-length c = search needs
 
 returns : tie.Need-returns
 returns c =
@@ -50,14 +29,14 @@ pub list-decoded-spec : {M : Type 1} → statement M
 list-decoded-spec =
     tie.close
     (tie.spec
-    slice-aggregate-decode
-    decode-requires
-    slice-aggregate-decode-2
+    (λ c. search needs)
+    (λ c κs. search needs)
+    (λ c. search needs)
     decode-requires-2
-    array-share-prefix-words
+    (λ c. search needs)
     slice-aggregate-list
-    array-share-prefix-floats
+    (λ c. search needs)
     slice-aggregate-list-2
-    list-requires
-    same-length
+    (λ c κs. search needs)
+    (λ c. search needs)
     returns)

@@ -4,11 +4,8 @@ use borrow.Author.Needs.{needs}
 use Rattle.hosting.proofs.lists.numbers_fit.Statement.{statement}
 use Rattle.hosting.proofs.lists.numbers_fit.Tie as tie
 
-within-requires : tie.Need-within-requires
-within-requires c κs = search needs
-
 returns : tie.Need-returns
 returns c = rw (c .within .ensures) refl
 
 pub numbers-fit-spec : {M : Type 1} → statement M
-numbers-fit-spec = tie.close (tie.spec within-requires returns)
+numbers-fit-spec = tie.close (tie.spec (λ c κs. search needs) returns)

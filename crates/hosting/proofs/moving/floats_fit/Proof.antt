@@ -5,18 +5,12 @@ use borrow.Author.Needs.{needs}
 use Rattle.hosting.proofs.moving.floats_fit.Statement.{statement}
 use Rattle.hosting.proofs.moving.floats_fit.Tie as tie
 
-step-in-range-requires : tie.Need-step-in-range-requires
-step-in-range-requires c κs = search needs
-
 returns : tie.Need-returns
 returns c = rw (sym (c .before .step-in-range .ensures) ∙ not-true _ (c .if1 .taken)) refl
-
-all-in-range-requires : tie.Need-all-in-range-requires
-all-in-range-requires c κs = search needs
 
 returns-2 : tie.Need-returns-2
 returns-2 c = rw (sym (c .before .before .step-in-range .ensures) ∙ not-false _ (c .before .if1 .left)) (c .all-in-range .ensures)
 
 pub floats-fit-spec : {M : Type 1} → statement M
 floats-fit-spec =
-    tie.close (tie.spec step-in-range-requires returns all-in-range-requires returns-2)
+    tie.close (tie.spec (λ c κs. search needs) returns (λ c κs. search needs) returns-2)

@@ -12,8 +12,5 @@ mul-result c = omega (arith, mul-le-mul (c .pre .1) (c .pre .0))
 mul-result-2 : tie.Need-mul-result-2
 mul-result-2 c = omega (arith, mul-le-mul (c .pre .1) (c .pre .0))
 
-returns : tie.Need-returns
-returns c = search needs
-
 pub length-fits-spec : {M : Type 1} → statement M
-length-fits-spec = tie.close (tie.spec mul-result mul-result-2 returns)
+length-fits-spec = tie.close (tie.spec mul-result mul-result-2 (λ c. search needs))

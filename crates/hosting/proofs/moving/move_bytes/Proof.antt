@@ -7,9 +7,6 @@ use Rattle.hosting.proofs.MoveRows.{step-ranged, told, move-2, move-3, 
 use Rattle.hosting.proofs.moving.move_bytes.Statement.{statement}
 use Rattle.hosting.proofs.moving.move_bytes.Tie as tie
 
-numbers-fit-requires : tie.Need-numbers-fit-requires
-numbers-fit-requires c κs = search needs
-
 returns : tie.Need-returns
 returns c = move-2 _ _ (cc)
 
@@ -19,9 +16,6 @@ length-fits-requires c κs = let a = c .before .before .before .before .args in
 
 returns-2 : tie.Need-returns-2
 returns-2 c = move-3 _ _ (cc) (cc)
-
-floats-fit-requires : tie.Need-floats-fit-requires
-floats-fit-requires c κs = search needs
 
 returns-3 : tie.Need-returns-3
 returns-3 c = move-4 _ _ (cc) (cc) (cc)
@@ -48,9 +42,6 @@ move-sent-requires c κs =
     let a = c .before .before .before .before .before .before .before .before .before .before .before .before .before .before .args in
     move-small (moveTold (a .n) (a .v) (a .h) (a .t) (a .points .now) (length (a .levels .now) / 8)) (a .levels .now) (cc) (cc) (cc) (cc) (cc)
 
-same-length : tie.Need-same-length
-same-length c = search needs
-
 returns-6 : tie.Need-returns-6
 returns-6 c =
     move-right _ _ (cc) (cc) (cc) (cc) (cc) _ (c .before .before .before .before .step-of .ensures) _ _ (c .before .before .move-sent .ensures)
@@ -59,11 +50,11 @@ pub move-bytes-spec : {M : Type 1} → statement M
 move-bytes-spec =
     tie.close
     (tie.spec
-    numbers-fit-requires
+    (λ c κs. search needs)
     returns
     length-fits-requires
     returns-2
-    floats-fit-requires
+    (λ c κs. search needs)
     returns-3
     step-unfit-requires
     returns-4
@@ -71,5 +62,5 @@ move-bytes-spec =
     returns-5
     step-of-requires
     move-sent-requires
-    same-length
+    (λ c. search needs)
     returns-6)

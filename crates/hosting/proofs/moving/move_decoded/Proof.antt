@@ -8,23 +8,8 @@ use borrow.Author.Needs.{needs}
 use Rattle.hosting.proofs.moving.move_decoded.Statement.{statement}
 use Rattle.hosting.proofs.moving.move_decoded.Tie as tie
 
-slice-aggregate-decode : tie.Need-slice-aggregate-decode
-slice-aggregate-decode c = search needs
-
-decode-requires : tie.Need-decode-requires
-decode-requires c κs = search needs
-
-array-share-prefix-floats : tie.Need-array-share-prefix-floats
-array-share-prefix-floats c = search needs
-
 slice-aggregate-move-points : tie.Need-slice-aggregate-move-points
 slice-aggregate-move-points c = sym (length-take-le _ _ (omega arith))
-
-move-points-requires : tie.Need-move-points-requires
-move-points-requires c κs = search needs
-
-same-length : tie.Need-same-length
-same-length c = search needs
 
 returns : tie.Need-returns
 returns c =
@@ -36,10 +21,10 @@ pub move-decoded-spec : {M : Type 1} → statement M
 move-decoded-spec =
     tie.close
     (tie.spec
-    slice-aggregate-decode
-    decode-requires
-    array-share-prefix-floats
+    (λ c. search needs)
+    (λ c κs. search needs)
+    (λ c. search needs)
     slice-aggregate-move-points
-    move-points-requires
-    same-length
+    (λ c κs. search needs)
+    (λ c. search needs)
     returns)

@@ -25,15 +25,6 @@ front : (c : tie.After-m) → let w = c .before .before .before .move-decoded .l
     (c .m .given .0 .0 ≤ length w) × (take (c .m .given .0 .0) w ≡ movedLevels (input c))
 front c = sent-front (input c) _ _ _ (accepts c) (c .before .before .before .move-decoded .ensures .1)
 
-slice-aggregate-move-decoded : tie.Need-slice-aggregate-move-decoded
-slice-aggregate-move-decoded c = search needs
-
-move-decoded-requires : tie.Need-move-decoded-requires
-move-decoded-requires c κs = search needs
-
-enum-known-m : tie.Need-enum-known-m
-enum-known-m c = search needs
-
 returns : tie.Need-returns
 returns c = (
   sent-short (input (c .before .before)) _ _ _ (accepts (c .before .before))
@@ -58,12 +49,6 @@ encode-requires c κs =
       ),
     )
 
-enum-known-r : tie.Need-enum-known-r
-enum-known-r c = search needs
-
-same-length : tie.Need-same-length
-same-length c = search needs
-
 returns-2 : tie.Need-returns-2
 returns-2 c =
     let e = c .before .before .before .before .before .before .before in
@@ -77,14 +62,14 @@ pub move-sent-spec : {M : Type 1} → statement M
 move-sent-spec =
     tie.close
     (tie.spec
-    slice-aggregate-move-decoded
-    move-decoded-requires
-    enum-known-m
+    (λ c. search needs)
+    (λ c κs. search needs)
+    (λ c. search needs)
     returns
     array-share-prefix-out
     slice-aggregate-encode
     encode-requires
-    enum-known-r
-    same-length
+    (λ c. search needs)
+    (λ c. search needs)
     returns-2
     returns-3)

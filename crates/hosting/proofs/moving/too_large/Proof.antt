@@ -8,9 +8,6 @@ use borrow.Author.Needs.{needs}
 use Rattle.hosting.proofs.moving.too_large.Statement.{statement}
 use Rattle.hosting.proofs.moving.too_large.Tie as tie
 
-add-result : tie.Need-add-result
-add-result c = search needs
-
 mul-result : tie.Need-mul-result
 mul-result c = omega (arith, mul-le-mul {n₁ = c .args .h + 1} {n₂ = 65} (omega arith) (c .pre .0))
 
@@ -18,4 +15,4 @@ returns : tie.Need-returns
 returns c = rw add-one refl
 
 pub too-large-spec : {M : Type 1} → statement M
-too-large-spec = tie.close (tie.spec add-result mul-result returns)
+too-large-spec = tie.close (tie.spec (λ c. search needs) mul-result returns)

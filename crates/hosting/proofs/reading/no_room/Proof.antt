@@ -8,14 +8,8 @@ use Rattle.hosting.proofs.reading.no_room.Tie as tie
 returns : tie.Need-returns
 returns c = rw (lt-ltb _ _ (c .if1 .taken)) refl
 
-words-requires : tie.Need-words-requires
-words-requires c κs = search needs
-
 returns-2 : tie.Need-returns-2
 returns-2 c = rw (le-ltb _ _ (c .before .before .if1 .left), sym (c .before .words .ensures), lt-ltb _ _ (c .if2 .taken)) refl
-
-point-count-requires : tie.Need-point-count-requires
-point-count-requires c κs = search needs
 
 returns-3 : tie.Need-returns-3
 returns-3 c = rw (
@@ -26,4 +20,4 @@ returns-3 c = rw (
 ) refl
 
 pub no-room-spec : {M : Type 1} → statement M
-no-room-spec = tie.close (tie.spec returns words-requires returns-2 point-count-requires returns-3)
+no-room-spec = tie.close (tie.spec returns (λ c κs. search needs) returns-2 (λ c κs. search needs) returns-3)

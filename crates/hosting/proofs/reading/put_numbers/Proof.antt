@@ -7,62 +7,14 @@ use borrow.Author.Needs.{needs}
 use Rattle.hosting.proofs.reading.put_numbers.Statement.{statement}
 use Rattle.hosting.proofs.reading.put_numbers.Tie as tie
 
-dimension-requires : tie.Need-dimension-requires
-dimension-requires c κs = search needs
-
-cast-t5 : tie.Need-cast-t5
-cast-t5 c = search needs
-
-axes-requires : tie.Need-axes-requires
-axes-requires c κs = search needs
-
-cast-t7 : tie.Need-cast-t7
-cast-t7 c = search needs
-
-vertex-count-requires : tie.Need-vertex-count-requires
-vertex-count-requires c κs = search needs
-
-cast-t9 : tie.Need-cast-t9
-cast-t9 c = search needs
-
-cell-count-requires : tie.Need-cell-count-requires
-cell-count-requires c κs = search needs
-
-cast-t11 : tie.Need-cast-t11
-cast-t11 c = search needs
-
-steps-requires : tie.Need-steps-requires
-steps-requires c κs = search needs
-
-cast-t13 : tie.Need-cast-t13
-cast-t13 c = search needs
-
-shared-slice-read-t15 : tie.Need-shared-slice-read-t15
-shared-slice-read-t15 c = search needs
-
 cast-t16 : tie.Need-cast-t16
 cast-t16 c = omega (arith, c .shared-slice-known2 .given 13)
-
-shared-slice-read-t18 : tie.Need-shared-slice-read-t18
-shared-slice-read-t18 c = search needs
 
 cast-t19 : tie.Need-cast-t19
 cast-t19 c = omega (arith, c .shared-slice-known3 .given 14)
 
-shared-slice-read-t21 : tie.Need-shared-slice-read-t21
-shared-slice-read-t21 c = search needs
-
 cast-t22 : tie.Need-cast-t22
 cast-t22 c = omega (arith, c .shared-slice-known4 .given 15)
-
-slice-aggregate-encode : tie.Need-slice-aggregate-encode
-slice-aggregate-encode c = search needs
-
-encode-requires : tie.Need-encode-requires
-encode-requires c κs = search needs
-
-same-length : tie.Need-same-length
-same-length c = search needs
 
 returns : tie.Need-returns
 returns c =
@@ -77,23 +29,23 @@ pub put-numbers-spec : {M : Type 1} → statement M
 put-numbers-spec =
     tie.close
     (tie.spec
-    dimension-requires
-    cast-t5
-    axes-requires
-    cast-t7
-    vertex-count-requires
-    cast-t9
-    cell-count-requires
-    cast-t11
-    steps-requires
-    cast-t13
-    shared-slice-read-t15
+    (λ c κs. search needs)
+    (λ c. search needs)
+    (λ c κs. search needs)
+    (λ c. search needs)
+    (λ c κs. search needs)
+    (λ c. search needs)
+    (λ c κs. search needs)
+    (λ c. search needs)
+    (λ c κs. search needs)
+    (λ c. search needs)
+    (λ c. search needs)
     cast-t16
-    shared-slice-read-t18
+    (λ c. search needs)
     cast-t19
-    shared-slice-read-t21
+    (λ c. search needs)
     cast-t22
-    slice-aggregate-encode
-    encode-requires
-    same-length
+    (λ c. search needs)
+    (λ c κs. search needs)
+    (λ c. search needs)
     returns)

@@ -40,15 +40,6 @@ space : (c : tie.Else1) → let a = c .before .before .before .before .before .b
 space c = let a = c .before .before .before .before .before .before .before .before .before .before .before .before .args in
     rooms (a .file .now) (a .header .now) (a .cells .now) (a .points .now) (enough c)
 
-slice-aggregate-read-words : tie.Need-slice-aggregate-read-words
-slice-aggregate-read-words c = search needs
-
-read-words-requires : tie.Need-read-words-requires
-read-words-requires c κs = search needs
-
-enum-known-n : tie.Need-enum-known-n
-enum-known-n c = search needs
-
 no-room-requires : tie.Need-no-room-requires
 no-room-requires c κs = ok (c .before) .0 .header
 
@@ -83,18 +74,6 @@ put-points-requires c κs = (
   space (c .before .before .before .before .before .before .before .before .before .before) .2,
 )
 
-enum-known-r : tie.Need-enum-known-r
-enum-known-r c = search needs
-
-same-length : tie.Need-same-length
-same-length c = search needs
-
-same-length-2 : tie.Need-same-length-2
-same-length-2 c = search needs
-
-same-length-3 : tie.Need-same-length-3
-same-length-3 c = search needs
-
 returns-2 : tie.Need-returns-2
 returns-2 c =
     let e = c .before .before .before .before .before .before .before .before .before .before .before .before .before .before .before .before in
@@ -114,9 +93,9 @@ pub read-bytes-spec : {M : Type 1} → statement M
 read-bytes-spec =
     tie.close
     (tie.spec
-    slice-aggregate-read-words
-    read-words-requires
-    enum-known-n
+    (λ c. search needs)
+    (λ c κs. search needs)
+    (λ c. search needs)
     no-room-requires
     returns
     put-header-requires
@@ -124,9 +103,9 @@ read-bytes-spec =
     slice-aggregate-encode
     encode-requires
     put-points-requires
-    enum-known-r
-    same-length
-    same-length-2
-    same-length-3
+    (λ c. search needs)
+    (λ c. search needs)
+    (λ c. search needs)
+    (λ c. search needs)
     returns-2
     returns-3)

@@ -20,23 +20,8 @@ accepts c =
     (c .before .before .before .before .before .before .before .before .before .before .pre)
     _ (c .before .before .before .before .before .read .ensures .0)
 
-slice-aggregate-read : tie.Need-slice-aggregate-read
-slice-aggregate-read c = search needs
-
-read-requires : tie.Need-read-requires
-read-requires c κs = search needs
-
-enum-told : tie.Need-enum-told
-enum-told c = search needs
-
 words-requires : tie.Need-words-requires
 words-requires c κs = passed (file c) _ (read-accepts (file c) _ (accepts c)) .0 .header
-
-enum-known-r : tie.Need-enum-known-r
-enum-known-r c = search needs
-
-same-length : tie.Need-same-length
-same-length c = search needs
 
 returns : tie.Need-returns
 returns c =
@@ -44,9 +29,6 @@ returns c =
       ap accepted (c .words2 .ensures) ∙ read-accepts (file (c .before)) _ (accepts (c .before)),
       words-roomy (s .args .file .now) (s .args .words .now) (s .pre) _ (c .before .before .before .before .before .before .read .ensures .1 .0),
     )
-
-same-length-2 : tie.Need-same-length-2
-same-length-2 c = search needs
 
 returns-2 : tie.Need-returns-2
 returns-2 c =
@@ -60,12 +42,12 @@ pub read-words-spec : {M : Type 1} → statement M
 read-words-spec =
     tie.close
     (tie.spec
-    slice-aggregate-read
-    read-requires
-    enum-told
+    (λ c. search needs)
+    (λ c κs. search needs)
+    (λ c. search needs)
     words-requires
-    enum-known-r
-    same-length
+    (λ c. search needs)
+    (λ c. search needs)
     returns
-    same-length-2
+    (λ c. search needs)
     returns-2)

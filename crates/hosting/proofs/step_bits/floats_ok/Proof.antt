@@ -6,14 +6,8 @@ use borrow.Author.Needs.{needs}
 use Rattle.hosting.proofs.step_bits.floats_ok.Statement.{statement}
 use Rattle.hosting.proofs.step_bits.floats_ok.Tie as tie
 
-bits-in-range-requires : tie.Need-bits-in-range-requires
-bits-in-range-requires c κs = search needs
-
 returns : tie.Need-returns
 returns c = rw (sym (c .before .bits-in-range .ensures) ∙ not-true _ (c .if1 .taken)) refl
-
-bits-in-range-requires-2 : tie.Need-bits-in-range-requires-2
-bits-in-range-requires-2 c κs = search needs
 
 returns-2 : tie.Need-returns-2
 returns-2 c =
@@ -21,9 +15,6 @@ returns-2 c =
       sym (c .before .before .before .bits-in-range .ensures) ∙ not-false _ (c .before .before .if1 .left),
       sym (c .before .bits-in-range2 .ensures) ∙ not-true _ (c .if2 .taken),
     ) refl
-
-bits-in-range-requires-3 : tie.Need-bits-in-range-requires-3
-bits-in-range-requires-3 c κs = search needs
 
 returns-3 : tie.Need-returns-3
 returns-3 c =
@@ -38,9 +29,9 @@ pub floats-ok-spec : {M : Type 1} → statement M
 floats-ok-spec =
     tie.close
     (tie.spec
-    bits-in-range-requires
+    (λ c κs. search needs)
     returns
-    bits-in-range-requires-2
+    (λ c κs. search needs)
     returns-2
-    bits-in-range-requires-3
+    (λ c κs. search needs)
     returns-3)

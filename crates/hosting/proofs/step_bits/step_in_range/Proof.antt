@@ -5,20 +5,11 @@ use borrow.Author.Needs.{needs}
 use Rattle.hosting.proofs.step_bits.step_in_range.Statement.{statement}
 use Rattle.hosting.proofs.step_bits.step_in_range.Tie as tie
 
-floats-ok-requires : tie.Need-floats-ok-requires
-floats-ok-requires c κs = search needs
-
 returns : tie.Need-returns
 returns c = c .floats-ok .ensures ∙ in-slide _ (c .before .if1 .taken)
 
-floats-ok-requires-2 : tie.Need-floats-ok-requires-2
-floats-ok-requires-2 c κs = search needs
-
 returns-2 : tie.Need-returns-2
 returns-2 c = c .floats-ok2 .ensures ∙ in-slant _ (c .before .before .before .if1 .left) (c .before .if2 .taken)
-
-floats-ok-requires-3 : tie.Need-floats-ok-requires-3
-floats-ok-requires-3 c κs = search needs
 
 returns-3 : tie.Need-returns-3
 returns-3 c = c .floats-ok3 .ensures ∙ in-turn _ (c .before .before .before .if1 .left) (c .before .if2 .left)
@@ -27,9 +18,9 @@ pub step-in-range-spec : {M : Type 1} → statement M
 step-in-range-spec =
     tie.close
     (tie.spec
-    floats-ok-requires
+    (λ c κs. search needs)
     returns
-    floats-ok-requires-2
+    (λ c κs. search needs)
     returns-2
-    floats-ok-requires-3
+    (λ c κs. search needs)
     returns-3)

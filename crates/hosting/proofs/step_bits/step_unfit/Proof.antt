@@ -5,15 +5,6 @@ use borrow.Author.Needs.{needs}
 use Rattle.hosting.proofs.step_bits.step_unfit.Statement.{statement}
 use Rattle.hosting.proofs.step_bits.step_unfit.Tie as tie
 
-step-of-requires : tie.Need-step-of-requires
-step-of-requires c κs = search needs
-
-fits-requires : tie.Need-fits-requires
-fits-requires c κs = search needs
-
-unused-set-requires : tie.Need-unused-set-requires
-unused-set-requires c κs = search needs
-
 returns : tie.Need-returns
 returns c = rw (ap (stepFits _) (sym (c .before .before .before .step-of .ensures)) ∙ sym (c .before .before .fits2 .ensures) ∙ c .before .if1 .taken)
     (c .unused-set .ensures)
@@ -23,4 +14,4 @@ returns-2 c = rw (ap (stepFits _) (sym (c .before .before .step-of .ensures)) �
 
 pub step-unfit-spec : {M : Type 1} → statement M
 step-unfit-spec =
-    tie.close (tie.spec step-of-requires fits-requires unused-set-requires returns returns-2)
+    tie.close (tie.spec (λ c κs. search needs) (λ c κs. search needs) (λ c κs. search needs) returns returns-2)

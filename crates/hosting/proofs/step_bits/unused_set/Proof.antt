@@ -5,21 +5,12 @@ use borrow.Author.Needs.{needs}
 use Rattle.hosting.proofs.step_bits.unused_set.Statement.{statement}
 use Rattle.hosting.proofs.step_bits.unused_set.Tie as tie
 
-any-set-requires : tie.Need-any-set-requires
-any-set-requires c κs = search needs
-
 returns : tie.Need-returns
 returns c = c .any-set .ensures ∙ unused-slide (c .before .before .before .args .t) (c .before .if1 .taken)
-
-any-set-requires-2 : tie.Need-any-set-requires-2
-any-set-requires-2 c κs = search needs
 
 returns-2 : tie.Need-returns-2
 returns-2 c = c .any-set2 .ensures
     ∙ unused-slant (c .before .before .before .before .before .args .t) (c .before .before .before .if1 .left) (c .before .if2 .taken)
-
-any-set-requires-3 : tie.Need-any-set-requires-3
-any-set-requires-3 c κs = search needs
 
 returns-3 : tie.Need-returns-3
 returns-3 c = c .any-set3 .ensures
@@ -28,4 +19,4 @@ returns-3 c = c .any-set3 .ensures
 pub unused-set-spec : {M : Type 1} → statement M
 unused-set-spec =
     tie.close
-    (tie.spec any-set-requires returns any-set-requires-2 returns-2 any-set-requires-3 returns-3)
+    (tie.spec (λ c κs. search needs) returns (λ c κs. search needs) returns-2 (λ c κs. search needs) returns-3)

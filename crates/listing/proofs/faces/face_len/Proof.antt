@@ -34,15 +34,6 @@ size c =
     let l = long (c .before .before .before) in
     (omega (arith, line-length f), omega (arith, line-length f, line-short f (omega (arith, ap length row))))
 
-slice-aggregate-fill-row : tie.Need-slice-aggregate-fill-row
-slice-aggregate-fill-row c = search needs
-
-fill-row-requires : tie.Need-fill-row-requires
-fill-row-requires c κs = search needs
-
-array-share-prefix-row : tie.Need-array-share-prefix-row
-array-share-prefix-row c = search needs
-
 slice-aggregate-fields-len : tie.Need-slice-aggregate-fields-len
 slice-aggregate-fields-len c = sym (long (c .before .before))
 
@@ -59,9 +50,9 @@ pub face-len-spec : {M : Type 1} → statement M
 face-len-spec =
     tie.close
     (tie.spec
-    slice-aggregate-fill-row
-    fill-row-requires
-    array-share-prefix-row
+    (λ c. search needs)
+    (λ c κs. search needs)
+    (λ c. search needs)
     slice-aggregate-fields-len
     fields-len-requires
     add-result

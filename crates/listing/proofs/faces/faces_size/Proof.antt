@@ -34,9 +34,6 @@ next : (c : tie.After-next-face2 Inv-loop μ-loop) →
 next c =
     face-next (cc) (c .before .before .before .before .before .loop .inv .0) (omega arith) ∙ rw (c .next-face2 .ensures .same)
 
-next-face-requires : tie.Need-next-face-requires Inv-loop μ-loop
-next-face-requires c κs = search needs
-
 loop-holds : tie.Need-loop-holds Inv-loop μ-loop
 loop-holds c =
     let a = c .before .before .args in
@@ -56,9 +53,6 @@ add-bytes c = omega (arith, few (c .before .before .before .before .before .befo
 
 add-next-face : tie.Need-add-next-face Inv-loop μ-loop
 add-next-face c = omega (arith, c .before .before .before .before .loop .inv .0 .position (omega arith))
-
-next-face-requires-2 : tie.Need-next-face-requires-2 Inv-loop μ-loop
-next-face-requires-2 c κs = search needs
 
 loop-less : tie.Need-loop-less Inv-loop μ-loop
 loop-less c = omega (arith, ap length (next c))
@@ -90,13 +84,13 @@ faces-size-spec =
     (tie.spec
     Inv-loop
     μ-loop
-    next-face-requires
+    (λ c κs. search needs)
     loop-holds
     add-count
     face-len-requires
     add-bytes
     add-next-face
-    next-face-requires-2
+    (λ c κs. search needs)
     loop-less
     loop-again
     returns)

@@ -28,20 +28,8 @@ long c = face-row (c .args .d) (c .args .s) (c .args .table .now) (c .args .p) (
 loop-holds : tie.Need-loop-holds Inv-loop μ-loop
 loop-holds c = let s = c .before .before in (omega arith, left-starts 0 (vertices s) (s .args .row .now) (omega (arith, long s)))
 
-face-vertex-requires : tie.Need-face-vertex-requires Inv-loop μ-loop
-face-vertex-requires c κs = search needs
-
-mul-row : tie.Need-mul-row Inv-loop μ-loop
-mul-row c = search needs
-
 slice-write-row : tie.Need-slice-write-row Inv-loop μ-loop
 slice-write-row c = omega (arith, c .before .before .loop .inv .1 .same)
-
-add-k : tie.Need-add-k Inv-loop μ-loop
-add-k c = search needs
-
-loop-less : tie.Need-loop-less Inv-loop μ-loop
-loop-less c = search needs
 
 loop-again : tie.Need-loop-again Inv-loop μ-loop
 loop-again c =
@@ -62,4 +50,4 @@ returns c =
 pub fill-row-spec : {M : Type 1} → statement M
 fill-row-spec =
     tie.close
-    (tie.spec Inv-loop μ-loop loop-holds face-vertex-requires mul-row slice-write-row add-k loop-less loop-again same-length returns)
+    (tie.spec Inv-loop μ-loop loop-holds (λ c κs. search needs) (λ c. search needs) slice-write-row (λ c. search needs) (λ c. search needs) loop-again same-length returns)

@@ -35,32 +35,11 @@ whole c =
     let sign = at .sign-byte .ensures ∙ ap (λ w. signText (signOf w)) (at .before .face-sign .ensures) ∙ sign-text (f .sign) in
     face-line f _ (row c) sign (c .fill-row .ensures)
 
-face-sign-requires : tie.Need-face-sign-requires
-face-sign-requires c κs = search needs
-
-sign-byte-requires : tie.Need-sign-byte-requires
-sign-byte-requires c κs = search needs
-
-slice-aggregate-fill-row : tie.Need-slice-aggregate-fill-row
-slice-aggregate-fill-row c = search needs
-
-fill-row-requires : tie.Need-fill-row-requires
-fill-row-requires c κs = search needs
-
-slice-aggregate-first-line : tie.Need-slice-aggregate-first-line
-slice-aggregate-first-line c = search needs
-
-array-share-prefix-row : tie.Need-array-share-prefix-row
-array-share-prefix-row c = search needs
-
 slice-aggregate-first-line-2 : tie.Need-slice-aggregate-first-line-2
 slice-aggregate-first-line-2 c = sym (long (c .before .before .before .before))
 
 first-line-requires : tie.Need-first-line-requires
 first-line-requires c κs = let w = c .before .before .before .before in rw (whole w) at (start w .pre .2)
-
-same-length : tie.Need-same-length
-same-length c = search needs
 
 returns : tie.Need-returns
 returns c = let w = c .before .before .before .before .before .before .before in rw (whole w) (c .before .before .first-line .ensures)
@@ -69,13 +48,13 @@ pub put-face-spec : {M : Type 1} → statement M
 put-face-spec =
     tie.close
     (tie.spec
-    face-sign-requires
-    sign-byte-requires
-    slice-aggregate-fill-row
-    fill-row-requires
-    slice-aggregate-first-line
-    array-share-prefix-row
+    (λ c κs. search needs)
+    (λ c κs. search needs)
+    (λ c. search needs)
+    (λ c κs. search needs)
+    (λ c. search needs)
+    (λ c. search needs)
     slice-aggregate-first-line-2
     first-line-requires
-    same-length
+    (λ c. search needs)
     returns)

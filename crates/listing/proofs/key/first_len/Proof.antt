@@ -7,9 +7,6 @@ use Rattle.listing.proofs.Bounds.{first-sum}
 use Rattle.listing.proofs.key.first_len.Statement.{statement}
 use Rattle.listing.proofs.key.first_len.Tie as tie
 
-digits-len-requires : tie.Need-digits-len-requires
-digits-len-requires c κs = search needs
-
 add-result : tie.Need-add-result
 add-result c = omega (
   arith,
@@ -19,9 +16,6 @@ add-result c = omega (
   digits-length (c .before .args .v),
   digits-length (c .before .args .faces),
 )
-
-digits-len-requires-2 : tie.Need-digits-len-requires-2
-digits-len-requires-2 c κs = search needs
 
 add-result-2 : tie.Need-add-result-2
 add-result-2 c =
@@ -36,9 +30,6 @@ add-result-2 c =
       digits-length (start .args .faces),
     )
 
-digits-len-requires-3 : tie.Need-digits-len-requires-3
-digits-len-requires-3 c κs = search needs
-
 add-result-3 : tie.Need-add-result-3
 add-result-3 c =
     let start = c .before .before .before in
@@ -52,9 +43,6 @@ add-result-3 c =
       digits-length (start .args .v),
       digits-length (start .args .faces),
     )
-
-digits-len-requires-4 : tie.Need-digits-len-requires-4
-digits-len-requires-4 c κs = search needs
 
 add-result-4 : tie.Need-add-result-4
 add-result-4 c =
@@ -100,12 +88,12 @@ pub first-len-spec : {M : Type 1} → statement M
 first-len-spec =
     tie.close
     (tie.spec
-    digits-len-requires
+    (λ c κs. search needs)
     add-result
-    digits-len-requires-2
+    (λ c κs. search needs)
     add-result-2
-    digits-len-requires-3
+    (λ c κs. search needs)
     add-result-3
-    digits-len-requires-4
+    (λ c κs. search needs)
     add-result-4
     returns)

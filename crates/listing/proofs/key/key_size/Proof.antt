@@ -11,15 +11,6 @@ use Rattle.listing.proofs.Bounds.{vertices-length}
 use Rattle.listing.proofs.key.key_size.Statement.{statement}
 use Rattle.listing.proofs.key.key_size.Tie as tie
 
-faces-size-requires : tie.Need-faces-size-requires
-faces-size-requires c κs = search needs
-
-first-len-requires : tie.Need-first-len-requires
-first-len-requires c κs = search needs
-
-vertices-len-requires : tie.Need-vertices-len-requires
-vertices-len-requires c κs = search needs
-
 add-bytes : tie.Need-add-bytes
 add-bytes c =
     let start = c .before .before .before .before .before in
@@ -68,9 +59,9 @@ pub key-size-spec : {M : Type 1} → statement M
 key-size-spec =
     tie.close
     (tie.spec
-    faces-size-requires
-    first-len-requires
-    vertices-len-requires
+    (λ c κs. search needs)
+    (λ c κs. search needs)
+    (λ c κs. search needs)
     add-bytes
     add-bytes-2
     returns)

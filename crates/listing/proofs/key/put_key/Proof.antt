@@ -8,25 +8,10 @@ use borrow.Author.Needs.{needs}
 use Rattle.listing.proofs.key.put_key.Statement.{statement}
 use Rattle.listing.proofs.key.put_key.Tie as tie
 
-cast-t13 : tie.Need-cast-t13
-cast-t13 c = search needs
-
-cast-t14 : tie.Need-cast-t14
-cast-t14 c = search needs
-
-cast-t15 : tie.Need-cast-t15
-cast-t15 c = search needs
-
 cast-t16 : tie.Need-cast-t16
 cast-t16 c =
     let start = c .before .before .before in
     omega (arith, start .pre .2, faces-few (start .args .d) (start .args .s) (start .args .table .now) (start .pre .0))
-
-slice-aggregate-first-line : tie.Need-slice-aggregate-first-line
-slice-aggregate-first-line c = search needs
-
-slice-aggregate-first-line-2 : tie.Need-slice-aggregate-first-line-2
-slice-aggregate-first-line-2 c = search needs
 
 first-line-requires : tie.Need-first-line-requires
 first-line-requires c κs =
@@ -49,9 +34,6 @@ put-faces-requires c κs =
     (c .before .before .before .put-vertices .ensures) in
     (start .pre .0, left .room)
 
-same-length : tie.Need-same-length
-same-length c = search needs
-
 returns : tie.Need-returns
 returns c =
     let last = c .before .before .before .before .before .before .before .before .before in
@@ -65,14 +47,14 @@ pub put-key-spec : {M : Type 1} → statement M
 put-key-spec =
     tie.close
     (tie.spec
-    cast-t13
-    cast-t14
-    cast-t15
+    (λ c. search needs)
+    (λ c. search needs)
+    (λ c. search needs)
     cast-t16
-    slice-aggregate-first-line
-    slice-aggregate-first-line-2
+    (λ c. search needs)
+    (λ c. search needs)
     first-line-requires
     put-vertices-requires
     put-faces-requires
-    same-length
+    (λ c. search needs)
     returns)

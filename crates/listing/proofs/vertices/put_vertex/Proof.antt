@@ -5,42 +5,12 @@ use borrow.Author.Needs.{needs}
 use Rattle.listing.proofs.vertices.put_vertex.Statement.{statement}
 use Rattle.listing.proofs.vertices.put_vertex.Tie as tie
 
-mul-base : tie.Need-mul-base
-mul-base c = search needs
-
-add-end : tie.Need-add-end
-add-end c = search needs
-
-cast-t10 : tie.Need-cast-t10
-cast-t10 c = search needs
-
-slice-aggregate-vertex-line : tie.Need-slice-aggregate-vertex-line
-slice-aggregate-vertex-line c = search needs
-
-slice-aggregate-vertex-line-2 : tie.Need-slice-aggregate-vertex-line-2
-slice-aggregate-vertex-line-2 c = search needs
-
-mul-vertex-line : tie.Need-mul-vertex-line
-mul-vertex-line c = search needs
-
-sub-vertex-line : tie.Need-sub-vertex-line
-sub-vertex-line c = search needs
-
-part-vertex-line-start : tie.Need-part-vertex-line-start
-part-vertex-line-start c = search needs
-
-part-vertex-line-end : tie.Need-part-vertex-line-end
-part-vertex-line-end c = search needs
-
 vertex-line-requires : tie.Need-vertex-line-requires
 vertex-line-requires c κs =
     let start = c .before .before .before .before .before .before in (
       point-ranged (start .args .n) (start .args .p) (start .args .points .now) (start .pre .0 .within) (start .pre .0 .ranged),
       rw (vertex-line (start .args .n) (start .args .p) (start .args .points .now)) at (start .pre .1),
     )
-
-same-length : tie.Need-same-length
-same-length c = search needs
 
 returns : tie.Need-returns
 returns c =
@@ -51,15 +21,15 @@ pub put-vertex-spec : {M : Type 1} → statement M
 put-vertex-spec =
     tie.close
     (tie.spec
-    mul-base
-    add-end
-    cast-t10
-    slice-aggregate-vertex-line
-    slice-aggregate-vertex-line-2
-    mul-vertex-line
-    sub-vertex-line
-    part-vertex-line-start
-    part-vertex-line-end
+    (λ c. search needs)
+    (λ c. search needs)
+    (λ c. search needs)
+    (λ c. search needs)
+    (λ c. search needs)
+    (λ c. search needs)
+    (λ c. search needs)
+    (λ c. search needs)
+    (λ c. search needs)
     vertex-line-requires
-    same-length
+    (λ c. search needs)
     returns)

@@ -41,12 +41,6 @@ put-vertex-requires c κs =
       left-fits (f p) (concat (drop (p + 1) (tabulate v f))) (rw (lines-rest v f p (c .before .loop-test .taken)) at (turn .loop .inv .1)),
     )
 
-add-p : tie.Need-add-p Inv-loop μ-loop
-add-p c = search needs
-
-loop-less : tie.Need-loop-less Inv-loop μ-loop
-loop-less c = search needs
-
 loop-again : tie.Need-loop-again Inv-loop μ-loop
 loop-again c =
     let start = c .before .before .before .before .before .before .before .before in
@@ -76,8 +70,8 @@ put-vertices-spec =
     μ-loop
     loop-holds
     put-vertex-requires
-    add-p
-    loop-less
+    (λ c. search needs)
+    (λ c. search needs)
     loop-again
     same-length
     returns)

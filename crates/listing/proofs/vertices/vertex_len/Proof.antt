@@ -26,9 +26,6 @@ Inv-loop n p points k₀ base j₀ k j =
 abbrev μ-loop : tie.MeasureT-loop
 μ-loop n p points k₀ base j₀ k j = n - j
 
-digits-len-requires : tie.Need-digits-len-requires Inv-loop μ-loop
-digits-len-requires c κs = search needs
-
 add-k : tie.Need-add-k Inv-loop μ-loop
 add-k c = omega (arith, c .digits-len .ensures, digits-length (c .before .before .args .p))
 
@@ -41,15 +38,6 @@ loop-holds c =
     let start = c .before .before in
     let xs = part (start .args .n) (start .args .p) (start .args .points .now) in
     (omega arith, omega (arith, c .digits-len .ensures, length-append (digits (start .args .p)) (restOfLine (map coordinate xs))))
-
-add-coordinate-len : tie.Need-add-coordinate-len Inv-loop μ-loop
-add-coordinate-len c = search needs
-
-mul-coordinate-len : tie.Need-mul-coordinate-len Inv-loop μ-loop
-mul-coordinate-len c = search needs
-
-shared-slice-read-coordinate-len : tie.Need-shared-slice-read-coordinate-len Inv-loop μ-loop
-shared-slice-read-coordinate-len c = search needs
 
 coordinate-len-requires : tie.Need-coordinate-len-requires Inv-loop μ-loop
 coordinate-len-requires c κs =
@@ -82,12 +70,6 @@ add-k-3 c =
       ap length (points-rest n p ps (start .pre .within) j (c .before .before .loop-test .taken)),
       length-append (pointField x) (leftOf n p ps (start .pre .within) (j + 1)),
     )
-
-add-j : tie.Need-add-j Inv-loop μ-loop
-add-j c = search needs
-
-loop-less : tie.Need-loop-less Inv-loop μ-loop
-loop-less c = search needs
 
 loop-again : tie.Need-loop-again Inv-loop μ-loop
 loop-again c =
@@ -124,17 +106,17 @@ vertex-len-spec =
     (tie.spec
     Inv-loop
     μ-loop
-    digits-len-requires
+    (λ c κs. search needs)
     add-k
     mul-base
     loop-holds
-    add-coordinate-len
-    mul-coordinate-len
-    shared-slice-read-coordinate-len
+    (λ c. search needs)
+    (λ c. search needs)
+    (λ c. search needs)
     coordinate-len-requires
     add-k-2
     add-k-3
-    add-j
-    loop-less
+    (λ c. search needs)
+    (λ c. search needs)
     loop-again
     returns)

@@ -49,12 +49,6 @@ add-k c =
       start .pre .vertices,
     )
 
-add-p : tie.Need-add-p Inv-loop μ-loop
-add-p c = search needs
-
-loop-less : tie.Need-loop-less Inv-loop μ-loop
-loop-less c = search needs
-
 loop-again : tie.Need-loop-again Inv-loop μ-loop
 loop-again c =
     let start = c .before .before .before .before in
@@ -89,7 +83,7 @@ vertices-len-spec =
     loop-holds
     vertex-len-requires
     add-k
-    add-p
-    loop-less
+    (λ c. search needs)
+    (λ c. search needs)
     loop-again
     returns)

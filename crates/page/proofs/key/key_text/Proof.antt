@@ -20,29 +20,17 @@ page c = c .print-page .last .1 .0
 cut : (c : tie.After-print-page) → length (take (c .print-page .result) (page c)) ≡ c .print-page .result
 cut c = length-take-le (c .print-page .result) (page c) (c .print-page .ensures .1 .0)
 
-slice-aggregate-print-page : tie.Need-slice-aggregate-print-page
-slice-aggregate-print-page c = search needs
-
-print-page-requires : tie.Need-print-page-requires
-print-page-requires c κs = search needs
-
 returns : tie.Need-returns
 returns c =
     let p = c .before .before in
     let a = start p .args in
     text-short (a .input .now) (a .text .now) (omega (arith, c .if1 .taken, p .print-page .ensures .0))
 
-array-share-prefix-page : tie.Need-array-share-prefix-page
-array-share-prefix-page c = search needs
-
 slice-aggregate-put-text : tie.Need-slice-aggregate-put-text
 slice-aggregate-put-text c = sym (cut (c .before .before .before .before))
 
 put-text-requires : tie.Need-put-text-requires
 put-text-requires c κs = let e = c .before .before in omega (arith, cut (e .before .before), e .if1 .left)
-
-same-length : tie.Need-same-length
-same-length c = search needs
 
 returns-2 : tie.Need-returns-2
 returns-2 c =
@@ -58,11 +46,11 @@ pub key-text-spec : {M : Type 1} → statement M
 key-text-spec =
     tie.close
     (tie.spec
-    slice-aggregate-print-page
-    print-page-requires
+    (λ c. search needs)
+    (λ c κs. search needs)
     returns
-    array-share-prefix-page
+    (λ c. search needs)
     slice-aggregate-put-text
     put-text-requires
-    same-length
+    (λ c. search needs)
     returns-2)

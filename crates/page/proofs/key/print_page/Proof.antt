@@ -14,24 +14,6 @@ use Rattle.page.proofs.key.print_page.Tie as tie
 abbrev start : tie.After-page-key → tie.Start
 start c = c .before .before .before .before
 
-page-key-requires : tie.Need-page-key-requires
-page-key-requires c κs = search needs
-
-enum-known-n : tie.Need-enum-known-n
-enum-known-n c = search needs
-
-enum-known-r : tie.Need-enum-known-r
-enum-known-r c = search needs
-
-number-requires : tie.Need-number-requires
-number-requires c κs = search needs
-
-put-refused-requires : tie.Need-put-refused-requires
-put-refused-requires c κs = search needs
-
-same-length : tie.Need-same-length
-same-length c = search needs
-
 returns : tie.Need-returns
 returns c =
     let n = c .before in
@@ -39,9 +21,6 @@ returns c =
     let a = start key .args in
     printed-key (a .input .now) (n .n .given .0 .0) (a .page .now) (key .page-key .last .1 .0) (key .page-key .ensures .1)
     (sym (ap outcomeOf (n .n .given .1)) ∙ key .page-key .ensures .0)
-
-same-length-2 : tie.Need-same-length-2
-same-length-2 c = search needs
 
 returns-2 : tie.Need-returns-2
 returns-2 c =
@@ -63,12 +42,12 @@ pub print-page-spec : {M : Type 1} → statement M
 print-page-spec =
     tie.close
     (tie.spec
-    page-key-requires
-    enum-known-n
-    enum-known-r
-    number-requires
-    put-refused-requires
-    same-length
+    (λ c κs. search needs)
+    (λ c. search needs)
+    (λ c. search needs)
+    (λ c κs. search needs)
+    (λ c κs. search needs)
+    (λ c. search needs)
     returns
-    same-length-2
+    (λ c. search needs)
     returns-2)

@@ -22,12 +22,6 @@ all : (s : tie.Start) → Left 0 (word ++ rest s) (s .args .page .now) 0 (word +
 all s = left-starts 0 (word ++ rest s) (s .args .page .now)
     (omega (arith, s .pre, length-append (digits (s .args .k)) (ascii "\n"), digits-length (s .args .k)))
 
-slice-aggregate-put-text : tie.Need-slice-aggregate-put-text
-slice-aggregate-put-text c = search needs
-
-put-text-requires : tie.Need-put-text-requires
-put-text-requires c κs = search needs
-
 put-number-requires : tie.Need-put-number-requires
 put-number-requires c κs =
     let t = c .before .before .before in
@@ -44,9 +38,6 @@ put-byte-requires c κs =
     let two = left-goes (digits (s .args .k)) (ascii "\n") _ _ one (n .put-number .ensures) in
     omega (arith, two .room)
 
-same-length : tie.Need-same-length
-same-length c = search needs
-
 returns : tie.Need-returns
 returns c =
     let b = c .before .before in
@@ -61,9 +52,9 @@ pub put-refused-spec : {M : Type 1} → statement M
 put-refused-spec =
     tie.close
     (tie.spec
-    slice-aggregate-put-text
-    put-text-requires
+    (λ c. search needs)
+    (λ c κs. search needs)
     put-number-requires
     put-byte-requires
-    same-length
+    (λ c. search needs)
     returns)

@@ -45,15 +45,6 @@ few c =
     let l = moved-limits i (c .m .given .0 .0) (ok c) in
     (l .2, mul-le-mul {n₁ = i .h + 1} {m₁ = i .v} {n₂ = 65} {m₂ = 4096} (omega (arith, l .2)) (l .1))
 
-slice-aggregate-move-points : tie.Need-slice-aggregate-move-points
-slice-aggregate-move-points c = search needs
-
-move-points-requires : tie.Need-move-points-requires
-move-points-requires c κs = search needs
-
-enum-known-m : tie.Need-enum-known-m
-enum-known-m c = search needs
-
 add-list : tie.Need-add-list
 add-list c = omega (arith, few (c .before) .0)
 
@@ -65,15 +56,6 @@ array-share-prefix-moved c = front (c .before) .0
 
 slice-aggregate-list : tie.Need-slice-aggregate-list
 slice-aggregate-list c = sym (length-take-le _ (buffer (c .before .before)) (front (c .before .before) .0))
-
-list-requires : tie.Need-list-requires
-list-requires c κs = search needs
-
-enum-known-r : tie.Need-enum-known-r
-enum-known-r c = search needs
-
-same-length : tie.Need-same-length
-same-length c = search needs
 
 returns : tie.Need-returns
 returns c =
@@ -110,15 +92,15 @@ pub moved-key-spec : {M : Type 1} → statement M
 moved-key-spec =
     tie.close
     (tie.spec
-    slice-aggregate-move-points
-    move-points-requires
-    enum-known-m
+    (λ c. search needs)
+    (λ c κs. search needs)
+    (λ c. search needs)
     add-list
     mul-list
     array-share-prefix-moved
     slice-aggregate-list
-    list-requires
-    enum-known-r
-    same-length
+    (λ c κs. search needs)
+    (λ c. search needs)
+    (λ c. search needs)
     returns
     returns-2)

@@ -61,18 +61,6 @@ returns c =
     let long = sym (key-long (a .input .now) (c .if1 .taken)) in
     (ap counted long, ap (λ o. pageAfter o (a .page .now)) long)
 
-slice-aggregate-read : tie.Need-slice-aggregate-read
-slice-aggregate-read c = search needs
-
-slice-aggregate-read-2 : tie.Need-slice-aggregate-read-2
-slice-aggregate-read-2 c = search needs
-
-read-requires : tie.Need-read-requires
-read-requires c κs = search needs
-
-enum-known-x : tie.Need-enum-known-x
-enum-known-x c = search needs
-
 add-words : tie.Need-add-words
 add-words c = omega (arith, facts (c .before) .dimension)
 
@@ -93,15 +81,6 @@ array-share-prefix-points c = front-points (c .before .before) .0
 
 slice-aggregate-winged-key-2 : tie.Need-slice-aggregate-winged-key-2
 slice-aggregate-winged-key-2 c = sym (length-take-le _ (points (c .before .before .before)) (front-points (c .before .before .before) .0))
-
-winged-key-requires : tie.Need-winged-key-requires
-winged-key-requires c κs = search needs
-
-enum-known-r : tie.Need-enum-known-r
-enum-known-r c = search needs
-
-same-length : tie.Need-same-length
-same-length c = search needs
 
 returns-2 : tie.Need-returns-2
 returns-2 c =
@@ -131,10 +110,10 @@ page-key-spec =
     tie.close
     (tie.spec
     returns
-    slice-aggregate-read
-    slice-aggregate-read-2
-    read-requires
-    enum-known-x
+    (λ c. search needs)
+    (λ c. search needs)
+    (λ c κs. search needs)
+    (λ c. search needs)
     add-words
     mul-words
     mul-floats
@@ -142,8 +121,8 @@ page-key-spec =
     slice-aggregate-winged-key
     array-share-prefix-points
     slice-aggregate-winged-key-2
-    winged-key-requires
-    enum-known-r
-    same-length
+    (λ c κs. search needs)
+    (λ c. search needs)
+    (λ c. search needs)
     returns-2
     returns-3)

@@ -49,15 +49,6 @@ few c =
     let one = mul-le-mul {n₁ = i .s} {m₁ = i .d + 1} {n₂ = 4096} {m₂ = 7} (l .cells) (omega (arith, l .dimension)) in
     (one, mul-le-mul {n₁ = i .h} {m₁ = i .s * (i .d + 1)} {n₂ = 64} {m₂ = 28672} (l .steps) one)
 
-slice-aggregate-sweep : tie.Need-slice-aggregate-sweep
-slice-aggregate-sweep c = search needs
-
-sweep-requires : tie.Need-sweep-requires
-sweep-requires c κs = search needs
-
-enum-known-m : tie.Need-enum-known-m
-enum-known-m c = search needs
-
 add-cells : tie.Need-add-cells
 add-cells c = omega (arith, limits (c .before) .dimension)
 
@@ -75,15 +66,6 @@ array-share-prefix-swept c = front (c .before) .0
 
 slice-aggregate-moved-key : tie.Need-slice-aggregate-moved-key
 slice-aggregate-moved-key c = sym (length-take-le _ (buffer (c .before .before)) (front (c .before .before) .0))
-
-moved-key-requires : tie.Need-moved-key-requires
-moved-key-requires c κs = search needs
-
-enum-known-r : tie.Need-enum-known-r
-enum-known-r c = search needs
-
-same-length : tie.Need-same-length
-same-length c = search needs
 
 returns : tie.Need-returns
 returns c =
@@ -112,17 +94,17 @@ pub swept-key-spec : {M : Type 1} → statement M
 swept-key-spec =
     tie.close
     (tie.spec
-    slice-aggregate-sweep
-    sweep-requires
-    enum-known-m
+    (λ c. search needs)
+    (λ c κs. search needs)
+    (λ c. search needs)
     add-cells
     mul-cells
     mul-cells-2
     add-moved-key
     array-share-prefix-swept
     slice-aggregate-moved-key
-    moved-key-requires
-    enum-known-r
-    same-length
+    (λ c κs. search needs)
+    (λ c. search needs)
+    (λ c. search needs)
     returns
     returns-2)

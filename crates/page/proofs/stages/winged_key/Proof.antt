@@ -33,29 +33,11 @@ ok c = sym (call c .wing .ensures .0) ∙ ap outcomeOf (c .m .given .1)
 front : (c : tie.After-m) → (c .m .given .0 .0 ≤ length (buffer c)) × (take (c .m .given .0 .0) (buffer c) ≡ tableOfList (told (call c) .list))
 front c = winged-front (told (call c)) _ (buffer c) (c .m .given .0 .0) (call c .wing .ensures .1) (ok c)
 
-slice-aggregate-wing : tie.Need-slice-aggregate-wing
-slice-aggregate-wing c = search needs
-
-wing-requires : tie.Need-wing-requires
-wing-requires c κs = search needs
-
-enum-known-m : tie.Need-enum-known-m
-enum-known-m c = search needs
-
 array-share-prefix-table : tie.Need-array-share-prefix-table
 array-share-prefix-table c = front (c .before) .0
 
 slice-aggregate-swept-key : tie.Need-slice-aggregate-swept-key
 slice-aggregate-swept-key c = sym (length-take-le _ (buffer (c .before .before)) (front (c .before .before) .0))
-
-swept-key-requires : tie.Need-swept-key-requires
-swept-key-requires c κs = search needs
-
-enum-known-r : tie.Need-enum-known-r
-enum-known-r c = search needs
-
-same-length : tie.Need-same-length
-same-length c = search needs
 
 returns : tie.Need-returns
 returns c =
@@ -83,13 +65,13 @@ pub winged-key-spec : {M : Type 1} → statement M
 winged-key-spec =
     tie.close
     (tie.spec
-    slice-aggregate-wing
-    wing-requires
-    enum-known-m
+    (λ c. search needs)
+    (λ c κs. search needs)
+    (λ c. search needs)
     array-share-prefix-table
     slice-aggregate-swept-key
-    swept-key-requires
-    enum-known-r
-    same-length
+    (λ c κs. search needs)
+    (λ c. search needs)
+    (λ c. search needs)
     returns
     returns-2)

@@ -8,12 +8,6 @@ use Rattle.records.proofs.Places.{record-long, vertex-at}
 use Rattle.records.proofs.reading.vertex.Statement.{statement}
 use Rattle.records.proofs.reading.vertex.Tie as tie
 
-add-word : tie.Need-add-word
-add-word c = search needs
-
-word-requires : tie.Need-word-requires
-word-requires c κs = search needs
-
 returns : tie.Need-returns
 returns c =
     let a = c .before .before .args in
@@ -22,4 +16,4 @@ returns c =
     (record-long (a .d) (a .s) (a .p) (a .table .now) (omega arith) (cc)) (a .k) (omega arith))
 
 pub vertex-spec : {M : Type 1} → statement M
-vertex-spec = tie.close (tie.spec add-word word-requires returns)
+vertex-spec = tie.close (tie.spec (λ c. search needs) (λ c κs. search needs) returns)

@@ -8,15 +8,6 @@ use Rattle.records.proofs.Places.{record-long, wing-at}
 use Rattle.records.proofs.reading.wing.Statement.{statement}
 use Rattle.records.proofs.reading.wing.Tie as tie
 
-add-word : tie.Need-add-word
-add-word c = search needs
-
-add-word-2 : tie.Need-add-word-2
-add-word-2 c = search needs
-
-word-requires : tie.Need-word-requires
-word-requires c κs = search needs
-
 returns : tie.Need-returns
 returns c =
     let a = c .before .before .args in
@@ -25,4 +16,4 @@ returns c =
     (record-long (a .d) (a .s) (a .p) (a .table .now) (omega arith) (cc)) (a .a) (omega arith))
 
 pub wing-spec : {M : Type 1} → statement M
-wing-spec = tie.close (tie.spec add-word add-word-2 word-requires returns)
+wing-spec = tie.close (tie.spec (λ c. search needs) (λ c. search needs) (λ c κs. search needs) returns)

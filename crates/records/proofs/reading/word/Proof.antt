@@ -14,9 +14,6 @@ index c =
     let a = c .before .before .args in
     rw (c .record-size .ensures) (omega (arith, inside (a .s) (recordSize (a .d)) (a .p) (a .j) (omega arith) (omega arith)))
 
-record-size-requires : tie.Need-record-size-requires
-record-size-requires c κs = search needs
-
 mul-result : tie.Need-mul-result
 mul-result c = omega (arith, index c)
 
@@ -36,4 +33,4 @@ returns c =
     ∙ sym (part-at (recordSize (a .d)) (a .p) (a .j) (a .table .now) 0 (omega arith))
 
 pub word-spec : {M : Type 1} → statement M
-word-spec = tie.close (tie.spec record-size-requires mul-result add-result mul-result-2 shared-slice-read-result returns)
+word-spec = tie.close (tie.spec (λ c κs. search needs) mul-result add-result mul-result-2 shared-slice-read-result returns)

@@ -5,9 +5,6 @@ use borrow.Author.Needs.{needs}
 use Rattle.records.proofs.sizes.list_words.Statement.{statement}
 use Rattle.records.proofs.sizes.list_words.Tie as tie
 
-list-size-requires : tie.Need-list-size-requires
-list-size-requires c κs = search needs
-
 mul-result : tie.Need-mul-result
 mul-result c = omega (arith, mul-le-mul {n₁ = c .before .args .s} {m₁ = c .list-size .result} {n₂ = 4096} {m₂ = 9} (omega arith) (omega arith))
 
@@ -15,4 +12,4 @@ returns : tie.Need-returns
 returns c = rw (c .list-size .ensures)
 
 pub list-words-spec : {M : Type 1} → statement M
-list-words-spec = tie.close (tie.spec list-size-requires mul-result returns)
+list-words-spec = tie.close (tie.spec (λ c κs. search needs) mul-result returns)

@@ -5,9 +5,6 @@ use borrow.Author.Needs.{needs}
 use Rattle.records.proofs.sizes.table_words.Statement.{statement}
 use Rattle.records.proofs.sizes.table_words.Tie as tie
 
-record-size-requires : tie.Need-record-size-requires
-record-size-requires c κs = search needs
-
 mul-result : tie.Need-mul-result
 mul-result c = omega (arith, mul-le-mul {n₁ = c .before .args .s} {m₁ = c .record-size .result} {n₂ = 4096} {m₂ = 17} (omega arith) (omega arith))
 
@@ -15,4 +12,4 @@ returns : tie.Need-returns
 returns c = rw (c .record-size .ensures)
 
 pub table-words-spec : {M : Type 1} → statement M
-table-words-spec = tie.close (tie.spec record-size-requires mul-result returns)
+table-words-spec = tie.close (tie.spec (λ c κs. search needs) mul-result returns)

@@ -6,18 +6,9 @@ use Rattle.records.specs.Layout.{tableLength}
 use Rattle.sweep.proofs.limits.swept_words.Statement.{statement}
 use Rattle.sweep.proofs.limits.swept_words.Tie as tie
 
-add-table-words : tie.Need-add-table-words
-add-table-words c = search needs
-
-swept-cells-requires : tie.Need-swept-cells-requires
-swept-cells-requires c κs = search needs
-
-table-words-requires : tie.Need-table-words-requires
-table-words-requires c κs = search needs
-
 returns : tie.Need-returns
 returns c = c .table-words .ensures ∙ ap₂ tableLength (add-one _) (c .before .swept-cells .ensures)
 
 pub swept-words-spec : {M : Type 1} → statement M
 swept-words-spec =
-    tie.close (tie.spec add-table-words swept-cells-requires table-words-requires returns)
+    tie.close (tie.spec (λ c. search needs) (λ c κs. search needs) (λ c κs. search needs) returns)

@@ -13,15 +13,6 @@ swept-vertices-requires c κs = (limits c .vertices, limits c .steps)
 swept-cells-requires : tie.Need-swept-cells-requires
 swept-cells-requires c κs = let l = limits (search needs) in (l .dimension, l .cells, l .steps)
 
-less-requires : tie.Need-less-requires
-less-requires c κs = search needs
-
-less-requires-2 : tie.Need-less-requires-2
-less-requires-2 c κs = search needs
-
-either-requires : tie.Need-either-requires
-either-requires c κs = search needs
-
 returns : tie.Need-returns
 returns c = cc
 
@@ -31,7 +22,7 @@ too-large-spec =
     (tie.spec
     swept-vertices-requires
     swept-cells-requires
-    less-requires
-    less-requires-2
-    either-requires
+    (λ c κs. search needs)
+    (λ c κs. search needs)
+    (λ c κs. search needs)
     returns)

@@ -6,13 +6,10 @@ use Rattle.sweeping.proofs.TableWords.{solid-vertex}
 use Rattle.sweeping.proofs.reading.vertex.Statement.{statement}
 use Rattle.sweeping.proofs.reading.vertex.Tie as tie
 
-vertex-requires : tie.Need-vertex-requires
-vertex-requires c κs = search needs
-
 returns : tie.Need-returns
 returns c =
     let a = c .before .before .args in
     c .vertex .ensures ∙ sym (solid-vertex (a .d) (a .s) (a .table .now) (a .p) (omega arith) (a .k))
 
 pub vertex-spec : {M : Type 1} → statement M
-vertex-spec = tie.close (tie.spec vertex-requires returns)
+vertex-spec = tie.close (tie.spec (λ c κs. search needs) returns)

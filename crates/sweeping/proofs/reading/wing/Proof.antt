@@ -6,13 +6,10 @@ use Rattle.sweeping.proofs.TableWords.{solid-wing}
 use Rattle.sweeping.proofs.reading.wing.Statement.{statement}
 use Rattle.sweeping.proofs.reading.wing.Tie as tie
 
-wing-requires : tie.Need-wing-requires
-wing-requires c κs = search needs
-
 returns : tie.Need-returns
 returns c =
     let a = c .before .before .args in
     c .wing .ensures ∙ sym (solid-wing (a .d) (a .s) (a .table .now) (a .p) (omega arith) (a .a))
 
 pub wing-spec : {M : Type 1} → statement M
-wing-spec = tie.close (tie.spec wing-requires returns)
+wing-spec = tie.close (tie.spec (λ c κs. search needs) returns)

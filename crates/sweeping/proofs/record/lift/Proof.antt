@@ -20,8 +20,5 @@ add-result c = omega (arith, below c)
 cast-result : tie.Need-cast-result
 cast-result c = omega (arith, below c)
 
-returns : tie.Need-returns
-returns c = search needs
-
 pub lift-spec : {M : Type 1} → statement M
-lift-spec = tie.close (tie.spec mul-result add-result cast-result returns)
+lift-spec = tie.close (tie.spec mul-result add-result cast-result (λ c. search needs))

@@ -27,53 +27,17 @@ long c =
 room : (c : tie.Start) → c .args .at + length (words c) ≤ length (c .args .out .now)
 room c = omega (arith, long c)
 
-sign-requires : tie.Need-sign-requires
-sign-requires c κs = search needs
-
 mul-turned : tie.Need-mul-turned
 mul-turned c =
     let start = c .before .before .before in
     let low = start .pre .0 .dimension in
     omega (arith, low, mul-le-mul-left {m = start .args .k} {n = 6} (start .args .d) (omega (arith, low)))
 
-turned-requires : tie.Need-turned-requires
-turned-requires c κs = search needs
-
-mul-out : tie.Need-mul-out
-mul-out c = search needs
-
-slice-write-out : tie.Need-slice-write-out
-slice-write-out c = search needs
-
-add-write-vertices : tie.Need-add-write-vertices
-add-write-vertices c = search needs
-
-sub-write-vertices : tie.Need-sub-write-vertices
-sub-write-vertices c = search needs
-
-add-write-vertices-2 : tie.Need-add-write-vertices-2
-add-write-vertices-2 c = search needs
-
 write-vertices-requires : tie.Need-write-vertices-requires
 write-vertices-requires c κs =
     let start = c .before .before .before .before .before in
     let a = start .args in
     (start .pre .0, ((omega arith, start .pre .1 .0 .1, omega arith), omega (arith, length-set (a .out .now) (a .at) (c .before .turned .result))))
-
-add-write-vertices-3 : tie.Need-add-write-vertices-3
-add-write-vertices-3 c = search needs
-
-add-write-vertices-4 : tie.Need-add-write-vertices-4
-add-write-vertices-4 c = search needs
-
-add-write-vertices-5 : tie.Need-add-write-vertices-5
-add-write-vertices-5 c = search needs
-
-add-write-vertices-6 : tie.Need-add-write-vertices-6
-add-write-vertices-6 c = search needs
-
-sub-write-vertices-2 : tie.Need-sub-write-vertices-2
-sub-write-vertices-2 c = search needs
 
 -- the sign word is written, then the lower vertices too
 signed : (c : tie.After-turned) → let start = c .before .before .before .before in
@@ -143,20 +107,20 @@ pub write-cell-spec : {M : Type 1} → statement M
 write-cell-spec =
     tie.close
     (tie.spec
-    sign-requires
+    (λ c κs. search needs)
     mul-turned
-    turned-requires
-    mul-out
-    slice-write-out
-    add-write-vertices
-    sub-write-vertices
-    add-write-vertices-2
+    (λ c κs. search needs)
+    (λ c. search needs)
+    (λ c. search needs)
+    (λ c. search needs)
+    (λ c. search needs)
+    (λ c. search needs)
     write-vertices-requires
-    add-write-vertices-3
-    add-write-vertices-4
-    add-write-vertices-5
-    add-write-vertices-6
-    sub-write-vertices-2
+    (λ c. search needs)
+    (λ c. search needs)
+    (λ c. search needs)
+    (λ c. search needs)
+    (λ c. search needs)
     write-vertices-requires-2
     same-length
     returns)

@@ -50,12 +50,6 @@ write-cell-requires c κs =
     let start = c .before .before .before in
     (start .pre .0, (start .pre .1 .0, omega (arith, start .pre .1 .1 .1, long start)))
 
-add-write-wings : tie.Need-add-write-wings
-add-write-wings c = search needs
-
-add-write-wings-2 : tie.Need-add-write-wings-2
-add-write-wings-2 c = search needs
-
 write-wings-requires : tie.Need-write-wings-requires
 write-wings-requires c κs =
     let cell = c .before .before .before in
@@ -66,15 +60,6 @@ write-wings-requires c κs =
         omega (arith, start .pre .1 .1 .1, long start, kept start (start .args .d + 3) _ (cell .write-cell .ensures)),
       ),
     )
-
-add-result : tie.Need-add-result
-add-result c = search needs
-
-add-result-2 : tie.Need-add-result-2
-add-result-2 c = search needs
-
-add-result-3 : tie.Need-add-result-3
-add-result-3 c = search needs
 
 same-length : tie.Need-same-length
 same-length c =
@@ -96,11 +81,11 @@ write-record-spec =
     tie.close
     (tie.spec
     write-cell-requires
-    add-write-wings
-    add-write-wings-2
+    (λ c. search needs)
+    (λ c. search needs)
     write-wings-requires
-    add-result
-    add-result-2
-    add-result-3
+    (λ c. search needs)
+    (λ c. search needs)
+    (λ c. search needs)
     same-length
     returns)

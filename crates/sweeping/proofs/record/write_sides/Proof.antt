@@ -30,9 +30,6 @@ long c = let a = c .args in tabulate-length _ (λ j. sideWord (a .firsts .now) (
 loop-holds : tie.Need-loop-holds Inv-loop μ-loop
 loop-holds c = (omega arith, omega arith, sym (placed-none _ _))
 
-add-side-word : tie.Need-add-side-word Inv-loop μ-loop
-add-side-word c = search needs
-
 side-word-requires : tie.Need-side-word-requires Inv-loop μ-loop
 side-word-requires c κs =
     let at = c .before in
@@ -43,21 +40,6 @@ side-word-requires c κs =
       start .pre .0 .reach (a .a + at .loop .j) _ (omega arith) l-low,
       start .pre .0 .fits (a .a + at .loop .j) _ (omega arith) l-low,
     )
-
-add-out : tie.Need-add-out Inv-loop μ-loop
-add-out c = search needs
-
-mul-out : tie.Need-mul-out Inv-loop μ-loop
-mul-out c = search needs
-
-slice-write-out : tie.Need-slice-write-out Inv-loop μ-loop
-slice-write-out c = search needs
-
-add-j : tie.Need-add-j Inv-loop μ-loop
-add-j c = search needs
-
-loop-less : tie.Need-loop-less Inv-loop μ-loop
-loop-less c = search needs
 
 loop-again : tie.Need-loop-again Inv-loop μ-loop
 loop-again c =
@@ -70,9 +52,6 @@ loop-again c =
       placed-word _ _ _ (words start) _ _ (omega (arith, long start)) (omega (arith, long start)) (at .loop .inv .2)
           (c .side-word .ensures ∙ sym (tabulate-at (a .count) f _ 0 (omega arith))),
     )
-
-same-length : tie.Need-same-length Inv-loop μ-loop
-same-length c = search needs
 
 returns : tie.Need-returns Inv-loop μ-loop
 returns c =
@@ -90,13 +69,13 @@ write-sides-spec =
     Inv-loop
     μ-loop
     loop-holds
-    add-side-word
+    (λ c. search needs)
     side-word-requires
-    add-out
-    mul-out
-    slice-write-out
-    add-j
-    loop-less
+    (λ c. search needs)
+    (λ c. search needs)
+    (λ c. search needs)
+    (λ c. search needs)
+    (λ c. search needs)
     loop-again
-    same-length
+    (λ c. search needs)
     returns)

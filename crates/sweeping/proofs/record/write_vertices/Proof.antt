@@ -31,15 +31,6 @@ long c = tabulate-length _ (liftedFrom _ _ _ _ _ _ _)
 loop-holds : tie.Need-loop-holds Inv-loop μ-loop
 loop-holds c = (omega arith, omega arith, sym (placed-none _ _))
 
-add-vertex : tie.Need-add-vertex Inv-loop μ-loop
-add-vertex c = search needs
-
-vertex-requires : tie.Need-vertex-requires Inv-loop μ-loop
-vertex-requires c κs = search needs
-
-wide-requires : tie.Need-wide-requires Inv-loop μ-loop
-wide-requires c κs = search needs
-
 lift-requires : tie.Need-lift-requires Inv-loop μ-loop
 lift-requires c κs =
     let at = c .before .before .before in
@@ -49,21 +40,6 @@ lift-requires c κs =
       start .pre .1 .0 .0,
       omega (arith, c .wide .ensures, start .pre .0 .low _ (a .a + at .loop .j) (start .pre .1 .0 .1) (omega arith)),
     )
-
-add-out : tie.Need-add-out Inv-loop μ-loop
-add-out c = search needs
-
-mul-out : tie.Need-mul-out Inv-loop μ-loop
-mul-out c = search needs
-
-slice-write-out : tie.Need-slice-write-out Inv-loop μ-loop
-slice-write-out c = search needs
-
-add-j : tie.Need-add-j Inv-loop μ-loop
-add-j c = search needs
-
-loop-less : tie.Need-loop-less Inv-loop μ-loop
-loop-less c = search needs
 
 loop-again : tie.Need-loop-again Inv-loop μ-loop
 loop-again c =
@@ -77,9 +53,6 @@ loop-again c =
           (c .lift .ensures ∙ ap (atLevel _ _) (c .before .wide .ensures ∙ c .before .before .vertex .ensures)
           ∙ sym (tabulate-at (a .n) f _ 0 (omega arith))),
     )
-
-same-length : tie.Need-same-length Inv-loop μ-loop
-same-length c = search needs
 
 returns : tie.Need-returns Inv-loop μ-loop
 returns c =
@@ -97,15 +70,15 @@ write-vertices-spec =
     Inv-loop
     μ-loop
     loop-holds
-    add-vertex
-    vertex-requires
-    wide-requires
+    (λ c. search needs)
+    (λ c κs. search needs)
+    (λ c κs. search needs)
     lift-requires
-    add-out
-    mul-out
-    slice-write-out
-    add-j
-    loop-less
+    (λ c. search needs)
+    (λ c. search needs)
+    (λ c. search needs)
+    (λ c. search needs)
+    (λ c. search needs)
     loop-again
-    same-length
+    (λ c. search needs)
     returns)

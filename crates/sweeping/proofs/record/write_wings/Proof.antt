@@ -91,24 +91,6 @@ last c E e =
     ∙ wing-last _ _ _ (a .firsts .now) (a .rows .now) (a .cells .now) _ _ (a .k) (a .d + 1) (omega arith)))
     ∙ ap (λ (l : List ℕ). placed (a .at) l (a .out .now)) (ap (λ (n : ℕ). take n (words start)) all ∙ take-length (words start))
 
-wing-above-requires : tie.Need-wing-above-requires
-wing-above-requires c κs = search needs
-
-mul-out : tie.Need-mul-out
-mul-out c = search needs
-
-slice-write-out : tie.Need-slice-write-out
-slice-write-out c = search needs
-
-add-write-sides : tie.Need-add-write-sides
-add-write-sides c = search needs
-
-sub-write-sides : tie.Need-sub-write-sides
-sub-write-sides c = search needs
-
-add-write-sides-2 : tie.Need-add-write-sides-2
-add-write-sides-2 c = search needs
-
 write-sides-requires : tie.Need-write-sides-requires
 write-sides-requires c κs =
     let start = c .before .before .before in
@@ -116,18 +98,6 @@ write-sides-requires c κs =
       start .pre .0,
       ((start .pre .1 .0 .0, omega arith, λ l. omega arith), omega (arith, length-set (a .out .now) (a .at) (c .before .wing-above .result))),
     )
-
-less-one-requires : tie.Need-less-one-requires
-less-one-requires c κs = search needs
-
-add-write-sides-3 : tie.Need-add-write-sides-3
-add-write-sides-3 c = search needs
-
-add-write-sides-4 : tie.Need-add-write-sides-4
-add-write-sides-4 c = search needs
-
-sub-write-sides-2 : tie.Need-sub-write-sides-2
-sub-write-sides-2 c = search needs
 
 write-sides-requires-2 : tie.Need-write-sides-requires-2
 write-sides-requires-2 c κs =
@@ -190,17 +160,17 @@ pub write-wings-spec : {M : Type 1} → statement M
 write-wings-spec =
     tie.close
     (tie.spec
-    wing-above-requires
-    mul-out
-    slice-write-out
-    add-write-sides
-    sub-write-sides
-    add-write-sides-2
+    (λ c κs. search needs)
+    (λ c. search needs)
+    (λ c. search needs)
+    (λ c. search needs)
+    (λ c. search needs)
+    (λ c. search needs)
     write-sides-requires
-    less-one-requires
-    add-write-sides-3
-    add-write-sides-4
-    sub-write-sides-2
+    (λ c κs. search needs)
+    (λ c. search needs)
+    (λ c. search needs)
+    (λ c. search needs)
     write-sides-requires-2
     wing-below-requires
     add-out

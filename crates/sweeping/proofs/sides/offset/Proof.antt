@@ -5,14 +5,8 @@ use Rattle.sweeping.proofs.SideTable.{offset-read}
 use Rattle.sweeping.proofs.sides.offset.Statement.{statement}
 use Rattle.sweeping.proofs.sides.offset.Tie as tie
 
-array-read-wide : tie.Need-array-read-wide
-array-read-wide c = search needs
-
-wide-requires : tie.Need-wide-requires
-wide-requires c κs = search needs
-
 returns : tie.Need-returns
 returns c = c .wide .ensures ∙ offset-read (c .before .args .d) (search needs)
 
 pub offset-spec : {M : Type 1} → statement M
-offset-spec = tie.close (tie.spec array-read-wide wide-requires returns)
+offset-spec = tie.close (tie.spec (λ c. search needs) (λ c κs. search needs) returns)

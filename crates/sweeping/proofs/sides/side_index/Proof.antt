@@ -7,9 +7,6 @@ use Rattle.sweeping.proofs.SideTable.{step-rule-holds}
 use Rattle.sweeping.proofs.sides.side_index.Statement.{statement}
 use Rattle.sweeping.proofs.sides.side_index.Tie as tie
 
-offset-requires : tie.Need-offset-requires
-offset-requires c κs = search needs
-
 inside : (c : tie.After-offset) → sideIndex (c .before .args .d) (c .before .args .a) (c .before .args .l) + 1 < 224
 inside c =
     let start = c .before in
@@ -24,16 +21,10 @@ mul-result-2 c = omega (arith, inside c)
 add-result : tie.Need-add-result
 add-result c = omega (arith, inside c)
 
-mul-result-3 : tie.Need-mul-result-3
-mul-result-3 c = search needs
-
 add-result-2 : tie.Need-add-result-2
 add-result-2 c = omega (arith, inside c)
-
-returns : tie.Need-returns
-returns c = search needs
 
 pub side-index-spec : {M : Type 1} → statement M
 side-index-spec =
     tie.close
-    (tie.spec offset-requires mul-result mul-result-2 add-result mul-result-3 add-result-2 returns)
+    (tie.spec (λ c κs. search needs) mul-result mul-result-2 add-result (λ c. search needs) add-result-2 (λ c. search needs))

@@ -4,15 +4,9 @@ use Rattle.prism.specs.Sides.{allSides}
 use Rattle.sweeping.proofs.sides.side_number.Statement.{statement}
 use Rattle.sweeping.proofs.sides.side_number.Tie as tie
 
-array-read-wide : tie.Need-array-read-wide
-array-read-wide c = search needs
-
-wide-requires : tie.Need-wide-requires
-wide-requires c κs = search needs
-
 returns : tie.Need-returns
 unfolding allSides
 returns c = c .wide .ensures
 
 pub side-number-spec : {M : Type 1} → statement M
-side-number-spec = tie.close (tie.spec array-read-wide wide-requires returns)
+side-number-spec = tie.close (tie.spec (λ c. search needs) (λ c κs. search needs) returns)

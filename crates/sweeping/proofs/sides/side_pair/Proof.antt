@@ -42,9 +42,6 @@ returns-3 : tie.Need-returns-3
 unfolding sidePairOf
 returns-3 c = simp (le-leb _ _ (c .before .before .if1 .left), le-leb _ _ (c .before .if2 .left), le-ltb _ _ (c .if3 .taken))
 
-side-index-requires : tie.Need-side-index-requires
-side-index-requires c κs = search needs
-
 side-number-requires : tie.Need-side-number-requires
 side-number-requires c κs = omega (arith, inside c)
 
@@ -66,7 +63,7 @@ side-pair-spec =
     returns
     returns-2
     returns-3
-    side-index-requires
+    (λ c κs. search needs)
     side-number-requires
     add-side-number
     side-number-requires-2

@@ -20,12 +20,6 @@ loop-holds c =
     let a = c .before .args in
     (omega arith, back-start (solidWing (a .d) (a .s) (a .table .now)) (a .p) (a .q) (a .d))
 
-wing-requires : tie.Need-wing-requires Inv-loop μ-loop
-wing-requires c κs = search needs
-
-wide-requires : tie.Need-wide-requires Inv-loop μ-loop
-wide-requires c κs = search needs
-
 returns : tie.Need-returns Inv-loop μ-loop
 returns c =
     let at = c .before .before .before .before in
@@ -33,12 +27,6 @@ returns c =
     let b = at .loop .b in
     sym (at .loop .inv .1 ∙ back-here (solidWing (a .d) (a .s) (a .table .now)) (a .p) (a .q) (a .d) b (c .before .before .before .loop-test .taken)
     (sym (c .before .before .wing .ensures) ∙ sym (c .before .wide .ensures) ∙ c .if1 .taken))
-
-add-b : tie.Need-add-b Inv-loop μ-loop
-add-b c = search needs
-
-loop-less : tie.Need-loop-less Inv-loop μ-loop
-loop-less c = search needs
 
 loop-again : tie.Need-loop-again Inv-loop μ-loop
 loop-again c =
@@ -64,10 +52,10 @@ back-spec =
     Inv-loop
     μ-loop
     loop-holds
-    wing-requires
-    wide-requires
+    (λ c κs. search needs)
+    (λ c κs. search needs)
     returns
-    add-b
-    loop-less
+    (λ c. search needs)
+    (λ c. search needs)
     loop-again
     returns-2)

@@ -42,9 +42,6 @@ add-result-4 c = omega (arith, below c, prism c, level c)
 cast-result : tie.Need-cast-result
 cast-result c = omega (arith, below c, prism c, level c)
 
-returns : tie.Need-returns
-returns c = search needs
-
 pub cell-number-spec : {M : Type 1} → statement M
 cell-number-spec =
     tie.close
@@ -57,4 +54,4 @@ cell-number-spec =
     mul-result-3
     add-result-4
     cast-result
-    returns)
+    (λ c. search needs))

@@ -25,20 +25,11 @@ low c =
     let start = c .before .before .before .before in
     omega (arith, across c, start .pre .0 .across _ _ (start .pre .1 .1) (start .pre .1 .2) (full (c .before)))
 
-wing-requires : tie.Need-wing-requires
-wing-requires c κs = search needs
-
 returns : tie.Need-returns
 returns c = rw (eq-eqb _ _ (sym (c .before .wing .ensures) ∙ c .if1 .taken)) refl
 
-wide-requires : tie.Need-wide-requires
-wide-requires c κs = search needs
-
 cell-number-requires : tie.Need-cell-number-requires
 cell-number-requires c κs = let start = c .before .before .before .before in (start .pre .0 .cells, start .pre .1 .0, low c, omega arith)
-
-wide-requires-2 : tie.Need-wide-requires-2
-wide-requires-2 c κs = search needs
 
 returns-2 : tie.Need-returns-2
 returns-2 c =
@@ -51,9 +42,9 @@ pub face-first-spec : {M : Type 1} → statement M
 face-first-spec =
     tie.close
     (tie.spec
-    wing-requires
+    (λ c κs. search needs)
     returns
-    wide-requires
+    (λ c κs. search needs)
     cell-number-requires
-    wide-requires-2
+    (λ c κs. search needs)
     returns-2)

@@ -20,21 +20,6 @@ abbrev μ-loop : tie.MeasureT-loop
 loop-holds : tie.Need-loop-holds Inv-loop μ-loop
 loop-holds c = (omega arith, c .before .pre .1 .1, λ j l. absurd (not-suc-le-zero l))
 
-face-first-requires : tie.Need-face-first-requires Inv-loop μ-loop
-face-first-requires c κs = search needs
-
-mul-firsts : tie.Need-mul-firsts Inv-loop μ-loop
-mul-firsts c = search needs
-
-element-write-firsts : tie.Need-element-write-firsts Inv-loop μ-loop
-element-write-firsts c = search needs
-
-add-a : tie.Need-add-a Inv-loop μ-loop
-add-a c = search needs
-
-loop-less : tie.Need-loop-less Inv-loop μ-loop
-loop-less c = search needs
-
 loop-again : tie.Need-loop-again Inv-loop μ-loop
 loop-again c =
     let at = c .before .before in (
@@ -53,10 +38,10 @@ face-firsts-spec =
     Inv-loop
     μ-loop
     loop-holds
-    face-first-requires
-    mul-firsts
-    element-write-firsts
-    add-a
-    loop-less
+    (λ c κs. search needs)
+    (λ c. search needs)
+    (λ c. search needs)
+    (λ c. search needs)
+    (λ c. search needs)
     loop-again
     returns)

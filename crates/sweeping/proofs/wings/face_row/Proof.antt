@@ -25,14 +25,8 @@ low c =
     let start = c .before .before .before .before in
     omega (arith, across c, start .pre .0 .across _ _ (start .pre .1 .0) (start .pre .1 .1) (full (c .before)))
 
-wing-requires : tie.Need-wing-requires
-wing-requires c κs = search needs
-
 returns : tie.Need-returns
 returns c = rw (eq-eqb _ _ (sym (c .before .wing .ensures) ∙ c .if1 .taken)) refl
-
-wide-requires : tie.Need-wide-requires
-wide-requires c κs = search needs
 
 back-requires : tie.Need-back-requires
 back-requires c κs =
@@ -60,9 +54,9 @@ pub face-row-spec : {M : Type 1} → statement M
 face-row-spec =
     tie.close
     (tie.spec
-    wing-requires
+    (λ c κs. search needs)
     returns
-    wide-requires
+    (λ c κs. search needs)
     back-requires
     mul-result
     returns-2)

@@ -5,14 +5,8 @@ use borrow.Author.Tests.{lt-ltb, le-ltb}
 use Rattle.sweeping.proofs.wings.side_cell.Statement.{statement}
 use Rattle.sweeping.proofs.wings.side_cell.Tie as tie
 
-wide-requires : tie.Need-wide-requires
-wide-requires c κs = search needs
-
 returns : tie.Need-returns
 returns c = rw (le-ltb _ _ (c .before .if1 .taken)) (c .wide .ensures)
-
-side-pair-requires : tie.Need-side-pair-requires
-side-pair-requires c κs = search needs
 
 returns-2 : tie.Need-returns-2
 returns-2 c = rw (lt-ltb _ _ (c .before .if1 .left)) (ap (λ x. x .cell) (c .side-pair .ensures))
@@ -21,7 +15,7 @@ pub side-cell-spec : {M : Type 1} → statement M
 side-cell-spec =
     tie.close
     (tie.spec
-    wide-requires
+    (λ c κs. search needs)
     returns
-    side-pair-requires
+    (λ c κs. search needs)
     returns-2)

@@ -5,23 +5,11 @@ use borrow.Author.Tests.{eq-eqb, ne-eqb}
 use Rattle.sweeping.proofs.wings.wing_below.Statement.{statement}
 use Rattle.sweeping.proofs.wings.wing_below.Tie as tie
 
-sub-cell-number : tie.Need-sub-cell-number
-sub-cell-number c = search needs
-
-cell-number-requires : tie.Need-cell-number-requires
-cell-number-requires c κs = search needs
-
 returns : tie.Need-returns
 returns c = rw (ne-eqb _ _ (c .before .if1 .taken)) (c .cell-number .ensures)
 
 returns-2 : tie.Need-returns-2
 returns-2 c = rw (eq-eqb _ _ (c .before .if1 .left), eq-eqb _ _ (c .if2 .taken)) refl
-
-sub-cell-number-2 : tie.Need-sub-cell-number-2
-sub-cell-number-2 c = search needs
-
-cell-number-requires-2 : tie.Need-cell-number-requires-2
-cell-number-requires-2 c κs = search needs
 
 returns-3 : tie.Need-returns-3
 returns-3 c = rw (eq-eqb _ _ (c .before .before .if1 .left), ne-eqb _ _ (c .before .if2 .left)) (c .cell-number2 .ensures)
@@ -30,10 +18,10 @@ pub wing-below-spec : {M : Type 1} → statement M
 wing-below-spec =
     tie.close
     (tie.spec
-    sub-cell-number
-    cell-number-requires
+    (λ c. search needs)
+    (λ c κs. search needs)
     returns
     returns-2
-    sub-cell-number-2
-    cell-number-requires-2
+    (λ c. search needs)
+    (λ c κs. search needs)
     returns-3)

@@ -53,12 +53,6 @@ write-prism-requires c κs =
       ),
     )
 
-add-p : tie.Need-add-p Inv-loop μ-loop
-add-p c = search needs
-
-loop-less : tie.Need-loop-less Inv-loop μ-loop
-loop-less c = search needs
-
 loop-again : tie.Need-loop-again Inv-loop μ-loop
 loop-again c =
     let at = c .before .before .before .before .before in
@@ -69,9 +63,6 @@ loop-again c =
     placed-record (a .s) (a .at) _ _ _ (prismWords (a .d) (a .v) (a .s) (a .h) _ (a .i)) (a .out .now) _ _ (omega arith) (room start)
     (at .loop .inv .1) (at .loop .inv .3) (call .ensures .0) (call .ensures .1) in
     (omega arith, more .place, more .long, more .words)
-
-same-length : tie.Need-same-length Inv-loop μ-loop
-same-length c = search needs
 
 returns : tie.Need-returns Inv-loop μ-loop
 returns c =
@@ -90,8 +81,8 @@ write-level-spec =
     μ-loop
     loop-holds
     write-prism-requires
-    add-p
-    loop-less
+    (λ c. search needs)
+    (λ c. search needs)
     loop-again
-    same-length
+    (λ c. search needs)
     returns)

@@ -29,12 +29,6 @@ room c =
     let a = c .args in
     omega (arith, c .pre .1 .1 .1, ap length (prism-is (a .d) (a .v) (a .s) (a .h) (a .table .now) (a .i) (a .p)))
 
-face-firsts-requires : tie.Need-face-firsts-requires Inv-loop μ-loop
-face-firsts-requires c κs = search needs
-
-face-rows-requires : tie.Need-face-rows-requires Inv-loop μ-loop
-face-rows-requires c κs = search needs
-
 loop-holds : tie.Need-loop-holds Inv-loop μ-loop
 loop-holds c = (omega arith, omega arith, omega arith, sym (placed-none _ _))
 
@@ -59,12 +53,6 @@ write-record-requires c κs =
       ),
     )
 
-add-k : tie.Need-add-k Inv-loop μ-loop
-add-k c = search needs
-
-loop-less : tie.Need-loop-less Inv-loop μ-loop
-loop-less c = search needs
-
 loop-again : tie.Need-loop-again Inv-loop μ-loop
 loop-again c =
     let at = c .before .before .before .before .before .before .before in
@@ -76,9 +64,6 @@ loop-again c =
     (omega (arith, c .before .before .before .before .before .before .loop-test .taken))
     (room start) (at .loop .inv .1) (at .loop .inv .3) (call .ensures .0) (call .ensures .1) in
     (omega (arith, c .before .before .before .before .before .before .loop-test .taken), more .place, more .long, more .words)
-
-same-length : tie.Need-same-length Inv-loop μ-loop
-same-length c = search needs
 
 returns : tie.Need-returns Inv-loop μ-loop
 returns c =
@@ -95,12 +80,12 @@ write-prism-spec =
     (tie.spec
     Inv-loop
     μ-loop
-    face-firsts-requires
-    face-rows-requires
+    (λ c κs. search needs)
+    (λ c κs. search needs)
     loop-holds
     write-record-requires
-    add-k
-    loop-less
+    (λ c. search needs)
+    (λ c. search needs)
     loop-again
-    same-length
+    (λ c. search needs)
     returns)

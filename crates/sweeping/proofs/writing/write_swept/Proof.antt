@@ -28,9 +28,6 @@ room c =
     let a = c .args in
     omega (arith, c .pre .1, ap length (all-is (a .d) (a .v) (a .s) (a .h) (a .table .now)))
 
-side-cells-requires : tie.Need-side-cells-requires Inv-loop μ-loop
-side-cells-requires c κs = search needs
-
 loop-holds : tie.Need-loop-holds Inv-loop μ-loop
 loop-holds c = (omega arith, omega arith, omega arith, sym (placed-none (0) _))
 
@@ -55,12 +52,6 @@ write-level-requires c κs =
       ),
     )
 
-add-i : tie.Need-add-i Inv-loop μ-loop
-add-i c = search needs
-
-loop-less : tie.Need-loop-less Inv-loop μ-loop
-loop-less c = search needs
-
 loop-again : tie.Need-loop-again Inv-loop μ-loop
 loop-again c =
     let at = c .before .before .before .before .before .before in
@@ -71,9 +62,6 @@ loop-again c =
     placed-record (a .h) (0) _ _ _ (levelWords (a .d) (a .v) (a .s) (a .h) _) _ _ _ (omega arith) (room start)
     (at .loop .inv .1) (at .loop .inv .3) (call .ensures .0) (call .ensures .1) in
     (omega arith, more .place, more .long, more .words)
-
-same-length : tie.Need-same-length Inv-loop μ-loop
-same-length c = search needs
 
 returns : tie.Need-returns Inv-loop μ-loop
 returns c =
@@ -90,11 +78,11 @@ write-swept-spec =
     (tie.spec
     Inv-loop
     μ-loop
-    side-cells-requires
+    (λ c κs. search needs)
     loop-holds
     write-level-requires
-    add-i
-    loop-less
+    (λ c. search needs)
+    (λ c. search needs)
     loop-again
-    same-length
+    (λ c. search needs)
     returns)

@@ -77,9 +77,6 @@ module _ (p : tie.After-pair) where
         (matched .earlier-equal .ensures .1 .0) (sym (p .pair .ensures .twice) ∙ met) (a .wings .now) X (start .pre .1) (start .pre .0 .3)
         (e ∙ p .pair .ensures .wings)
 
-any-repeated-requires : tie.Need-any-repeated-requires
-any-repeated-requires c κs = search needs
-
 returns : tie.Need-returns
 returns c =
     let s = c .before .before .before .before in
@@ -120,9 +117,6 @@ pair-requires c κs =
     let a = s .args in
     (omega arith, omega arith, mul-le-mul-right {n = 4096} (a .d + 1) (s .pre .0 .1), s .pre .0 .3 .0)
 
-any-repeated-requires-2 : tie.Need-any-repeated-requires-2
-any-repeated-requires-2 c κs = search needs
-
 returns-3 : tie.Need-returns-3
 returns-3 c =
     let p = c .before .before .before .before in
@@ -155,14 +149,14 @@ pub adjacent-spec : {M : Type 1} → statement M
 adjacent-spec =
     tie.close
     (tie.spec
-    any-repeated-requires
+    (λ c κs. search needs)
     returns
     returns-2
     add-k
     earlier-equal-requires
     mul-pair
     pair-requires
-    any-repeated-requires-2
+    (λ c κs. search needs)
     returns-3
     returns-4
     returns-5

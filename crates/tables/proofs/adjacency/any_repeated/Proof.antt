@@ -6,9 +6,6 @@ use Rattle.tables.proofs.Faults.{twice-is}
 use Rattle.tables.proofs.adjacency.any_repeated.Statement.{statement}
 use Rattle.tables.proofs.adjacency.any_repeated.Tie as tie
 
-add-k : tie.Need-add-k
-add-k c = search needs
-
 earlier-equal-requires : tie.Need-earlier-equal-requires
 earlier-equal-requires c κs = (
   record { long = c .before .pre .2; vertices = omega arith; some = omega arith; most = omega arith; start = omega arith },
@@ -26,4 +23,4 @@ returns c =
     (c .before .before .earlier-equal .last .1 .1 .1 .1 .1 .0) (c .before .before .earlier-equal .ensures .1 .0))
 
 pub any-repeated-spec : {M : Type 1} → statement M
-any-repeated-spec = tie.close (tie.spec add-k earlier-equal-requires any-seen-requires returns)
+any-repeated-spec = tie.close (tie.spec (λ c. search needs) earlier-equal-requires any-seen-requires returns)

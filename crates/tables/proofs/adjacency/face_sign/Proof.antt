@@ -8,16 +8,10 @@ use Rattle.simplex.proofs.Signs.{alternating-rest}
 use Rattle.tables.proofs.adjacency.face_sign.Statement.{statement}
 use Rattle.tables.proofs.adjacency.face_sign.Tie as tie
 
-element-copy-out-product : tie.Need-element-copy-out-product
-element-copy-out-product c = search needs
-
-product-requires : tie.Need-product-requires
-product-requires c κs = search needs
-
 returns : tie.Need-returns
 returns c =
     let a = c .before .before .args in
     c .product .ensures ∙ ap (λ (s : Bool). times s (getD (a .signs .now) (a .p) false)) (sym (alternating-rest (a .a)))
 
 pub face-sign-spec : {M : Type 1} → statement M
-face-sign-spec = tie.close (tie.spec element-copy-out-product product-requires returns)
+face-sign-spec = tie.close (tie.spec (λ c. search needs) (λ c κs. search needs) returns)

@@ -6,30 +6,6 @@ use Rattle.simplex.specs.Cell.{times}
 use Rattle.tables.proofs.adjacency.meet.Statement.{statement}
 use Rattle.tables.proofs.adjacency.meet.Tie as tie
 
-seen-requires : tie.Need-seen-requires
-seen-requires c κs = search needs
-
-either-requires : tie.Need-either-requires
-either-requires c κs = search needs
-
-same-first-requires : tie.Need-same-first-requires
-same-first-requires c κs = search needs
-
-either-requires-2 : tie.Need-either-requires-2
-either-requires-2 c κs = search needs
-
-face-sign-requires : tie.Need-face-sign-requires
-face-sign-requires c κs = search needs
-
-face-sign-requires-2 : tie.Need-face-sign-requires-2
-face-sign-requires-2 c κs = search needs
-
-product-requires : tie.Need-product-requires
-product-requires c κs = search needs
-
-either-requires-3 : tie.Need-either-requires-3
-either-requires-3 c κs = search needs
-
 returns : tie.Need-returns
 returns c =
     let o = c .before .before .before .before .before .before .before .before .args .found in (
@@ -47,12 +23,12 @@ pub meet-spec : {M : Type 1} → statement M
 meet-spec =
     tie.close
     (tie.spec
-    seen-requires
-    either-requires
-    same-first-requires
-    either-requires-2
-    face-sign-requires
-    face-sign-requires-2
-    product-requires
-    either-requires-3
+    (λ c κs. search needs)
+    (λ c κs. search needs)
+    (λ c κs. search needs)
+    (λ c κs. search needs)
+    (λ c κs. search needs)
+    (λ c κs. search needs)
+    (λ c κs. search needs)
+    (λ c κs. search needs)
     returns)

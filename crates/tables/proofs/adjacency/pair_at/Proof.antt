@@ -15,9 +15,6 @@ mul-wide c = omega arith
 element-copy-out-wide : tie.Need-element-copy-out-wide
 element-copy-out-wide c = omega arith
 
-wide-requires : tie.Need-wide-requires
-wide-requires c κs = search needs
-
 -- the place of key g
 cell : (c : tie.Start) → c .args .g / c .args .k ≡ c .args .p
 cell c = ap (λ (x : ℕ). x / c .args .k) (c .pre .1 .1) ∙ cell-of-key _ _ _ (c .pre .1 .0)
@@ -80,7 +77,7 @@ pair-at-spec =
     (tie.spec
     mul-wide
     element-copy-out-wide
-    wide-requires
+    (λ c κs. search needs)
     place-of-requires
     cast-wings
     mul-wings

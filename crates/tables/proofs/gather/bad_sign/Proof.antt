@@ -41,12 +41,6 @@ returns c =
     let a = c .before .before .before .before .args in
     sym (any-below (badAt (a .size) (a .words .now)) _ _ (c .before .before .loop-test .taken) (lt-ltb _ _ (c .if1 .taken)))
 
-add-p : tie.Need-add-p Inv-loop μ-loop
-add-p c = search needs
-
-loop-less : tie.Need-loop-less Inv-loop μ-loop
-loop-less c = search needs
-
 loop-again : tie.Need-loop-again Inv-loop μ-loop
 loop-again c = (search needs, below-more _ _ (c .before .before .before .loop .inv .1) (le-ltb _ _ (c .if1 .left)))
 
@@ -66,7 +60,7 @@ bad-sign-spec =
     mul-if1-2
     shared-slice-read-if1
     returns
-    add-p
-    loop-less
+    (λ c. search needs)
+    (λ c. search needs)
     loop-again
     returns-2)

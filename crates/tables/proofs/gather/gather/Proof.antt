@@ -28,12 +28,6 @@ gather-cell-requires c κs =
     let inside = mul-le-mul-right {m = suc (l .p)} {n = a .s} (a .size) (omega arith) in
     ((omega arith, omega arith, omega arith, omega arith, omega (arith, inside, suc-mul (l .p) (a .size))), (l .inv .1, l .inv .2))
 
-add-p : tie.Need-add-p Inv-loop μ-loop
-add-p c = search needs
-
-loop-less : tie.Need-loop-less Inv-loop μ-loop
-loop-less c = search needs
-
 loop-again : tie.Need-loop-again Inv-loop μ-loop
 loop-again c =
     let l = c .before .before .before .before .loop in
@@ -46,4 +40,4 @@ returns c = ((c .before .loop .inv .1, c .before .loop .inv .2), (λ p h. c .bef
 pub gather-spec : {M : Type 1} → statement M
 gather-spec =
     tie.close
-    (tie.spec Inv-loop μ-loop loop-holds gather-cell-requires add-p loop-less loop-again returns)
+    (tie.spec Inv-loop μ-loop loop-holds gather-cell-requires (λ c. search needs) (λ c. search needs) loop-again returns)

@@ -8,39 +8,6 @@ use Rattle.tables.proofs.Stored.{gathered}
 use Rattle.tables.proofs.gather.gather_cell.Statement.{statement}
 use Rattle.tables.proofs.gather.gather_cell.Tie as tie
 
-mul-at : tie.Need-mul-at
-mul-at c = search needs
-
-add-read-row : tie.Need-add-read-row
-add-read-row c = search needs
-
-add-read-row-2 : tie.Need-add-read-row-2
-add-read-row-2 c = search needs
-
-read-row-requires : tie.Need-read-row-requires
-read-row-requires c κs = search needs
-
-add-sort-row : tie.Need-add-sort-row
-add-sort-row c = search needs
-
-sort-row-requires : tie.Need-sort-row-requires
-sort-row-requires c κs = search needs
-
-mul-product : tie.Need-mul-product
-mul-product c = search needs
-
-shared-slice-read-product : tie.Need-shared-slice-read-product
-shared-slice-read-product c = search needs
-
-product-requires : tie.Need-product-requires
-product-requires c κs = search needs
-
-element-write-signs : tie.Need-element-write-signs
-element-write-signs c = search needs
-
-store-row-requires : tie.Need-store-row-requires
-store-row-requires c κs = search needs
-
 returns : tie.Need-returns
 returns c =
     let a = c .before .before .before .before .before .before .before .before .before .args in
@@ -55,15 +22,15 @@ pub gather-cell-spec : {M : Type 1} → statement M
 gather-cell-spec =
     tie.close
     (tie.spec
-    mul-at
-    add-read-row
-    add-read-row-2
-    read-row-requires
-    add-sort-row
-    sort-row-requires
-    mul-product
-    shared-slice-read-product
-    product-requires
-    element-write-signs
-    store-row-requires
+    (λ c. search needs)
+    (λ c. search needs)
+    (λ c. search needs)
+    (λ c κs. search needs)
+    (λ c. search needs)
+    (λ c κs. search needs)
+    (λ c. search needs)
+    (λ c. search needs)
+    (λ c κs. search needs)
+    (λ c. search needs)
+    (λ c κs. search needs)
     returns)

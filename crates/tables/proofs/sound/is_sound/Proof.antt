@@ -28,17 +28,11 @@ limits c = limits-are _ _ _ _ (inside c)
 long : (c : tie.Else2) → let a = start (search needs) .args in not (eqb (length (a .table .now)) (tableLength (a .d) (a .s))) ≡ false
 long c = cc
 
-within-requires : tie.Need-within-requires
-within-requires c κs = search needs
-
 returns : tie.Need-returns
 returns c = unsound-outside _ _ _ _ (cc)
 
 table-words-requires : tie.Need-table-words-requires
 table-words-requires c κs = let l = limits c in (l .dimension, l .cells)
-
-differ-requires : tie.Need-differ-requires
-differ-requires c κs = search needs
 
 returns-2 : tie.Need-returns-2
 returns-2 c = unsound-length _ _ _ _ (inside (search needs)) (cc)
@@ -58,17 +52,11 @@ take-requires c κs =
       (length-replicate {A = ℕ} 32768 0, length-replicate {A = Bool} 4096 false, fresh-blank),
     )
 
-enum-told : tie.Need-enum-told
-enum-told c = search needs
-
 returns-3 : tie.Need-returns-3
 returns-3 c =
     let t : tie.After-take = search needs in
     let v = c .enum-told .given in
     unsound-refused _ _ _ _ (inside (search needs)) (long (search needs)) (v .0 .0) (sym (ap verdictOf (v .1)) ∙ t .take .ensures .0)
-
-enum-told-2 : tie.Need-enum-told-2
-enum-told-2 c = search needs
 
 same-requires : tie.Need-same-requires
 same-requires c κs = let l = limits (search needs) in (l .dimension, l .cells, eqb-true _ _ (not-false _ (long (search needs))))
@@ -85,16 +73,16 @@ pub is-sound-spec : {M : Type 1} → statement M
 is-sound-spec =
     tie.close
     (tie.spec
-    within-requires
+    (λ c κs. search needs)
     returns
     table-words-requires
-    differ-requires
+    (λ c κs. search needs)
     returns-2
     add-take
     add-take-2
     take-requires
-    enum-told
+    (λ c. search needs)
     returns-3
-    enum-told-2
+    (λ c. search needs)
     same-requires
     returns-4)

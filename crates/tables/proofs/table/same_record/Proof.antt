@@ -21,9 +21,6 @@ shared-slice-read-if1 c = omega arith
 element-copy-out-sign-word : tie.Need-element-copy-out-sign-word
 element-copy-out-sign-word c = omega arith
 
-sign-word-requires : tie.Need-sign-word-requires
-sign-word-requires c κs = search needs
-
 returns : tie.Need-returns
 returns c =
     let a = c .before .before .before .before .before .args in
@@ -35,9 +32,6 @@ mul-same-run c = omega arith
 
 add-same-run : tie.Need-add-same-run
 add-same-run c = omega arith
-
-same-run-requires : tie.Need-same-run-requires
-same-run-requires c κs = search needs
 
 mul-same-run-2 : tie.Need-mul-same-run-2
 mul-same-run-2 c =
@@ -80,11 +74,11 @@ same-record-spec =
     mul-if1
     shared-slice-read-if1
     element-copy-out-sign-word
-    sign-word-requires
+    (λ c κs. search needs)
     returns
     mul-same-run
     add-same-run
-    same-run-requires
+    (λ c κs. search needs)
     mul-same-run-2
     add-same-run-2
     add-same-run-3

@@ -17,9 +17,6 @@ add-k c = omega arith
 element-copy-out-sign-word : tie.Need-element-copy-out-sign-word
 element-copy-out-sign-word c = omega arith
 
-sign-word-requires : tie.Need-sign-word-requires
-sign-word-requires c κs = search needs
-
 mul-table : tie.Need-mul-table
 mul-table c = omega arith
 
@@ -87,7 +84,7 @@ write-record-spec =
     (tie.spec
     add-k
     element-copy-out-sign-word
-    sign-word-requires
+    (λ c κs. search needs)
     mul-table
     slice-write-table
     mul-copy-run

@@ -18,17 +18,11 @@ use Rattle.tables.proofs.Taking.{taken-written}
 use Rattle.tables.proofs.tabled.write_table.Statement.{statement}
 use Rattle.tables.proofs.tabled.write_table.Tie as tie
 
-add-take : tie.Need-add-take
-add-take c = search needs
-
 take-requires : tie.Need-take-requires
 take-requires c κs = (
   (omega arith, omega arith, omega arith, omega arith, omega arith),
   (length-replicate {A = ℕ} 32768 0, length-replicate {A = Bool} 4096 false, fresh-blank),
 )
-
-enum-known-verdict : tie.Need-enum-known-verdict
-enum-known-verdict c = search needs
 
 returns : tie.Need-returns
 returns c =
@@ -36,9 +30,6 @@ returns c =
     let t : tie.After-take = search needs in
     let v = c .before .verdict .given in
     refuses _ _ _ _ _ (s .pre .2) (v .0 .0) (sym (ap verdictOf (v .1)) ∙ t .take .ensures .0)
-
-enum-told : tie.Need-enum-told
-enum-told c = search needs
 
 -- rows 6 to 11 pass
 abbrev start : tie.After-enum-told → tie.Start
@@ -48,12 +39,6 @@ none : (c : tie.After-enum-told) → let a = start c .args in
     0 ≡ firstRefusal solidRules (recordList (listSize (a .d)) (a .d) (a .v) (a .s) (a .cells .now))
 none c = let t : tie.After-take = search needs in sym (ap verdictOf (c .enum-told .given .1)) ∙ t .take .ensures .0
 
-table-words-requires : tie.Need-table-words-requires
-table-words-requires c κs = search needs
-
-less-requires : tie.Need-less-requires
-less-requires c κs = search needs
-
 returns-2 : tie.Need-returns-2
 returns-2 c = let s : tie.Start = search needs in no-room _ _ _ _ _ (s .pre .2) (none (search needs)) (cc)
 
@@ -62,9 +47,6 @@ fits c = cc
 
 fill-requires : tie.Need-fill-requires
 fill-requires c κs = (omega arith, omega arith, ltb-false _ _ (fits (search needs)))
-
-same-length : tie.Need-same-length
-same-length c = search needs
 
 returns-3 : tie.Need-returns-3
 returns-3 c =
@@ -82,14 +64,14 @@ pub write-table-spec : {M : Type 1} → statement M
 write-table-spec =
     tie.close
     (tie.spec
-    add-take
+    (λ c. search needs)
     take-requires
-    enum-known-verdict
+    (λ c. search needs)
     returns
-    enum-told
-    table-words-requires
-    less-requires
+    (λ c. search needs)
+    (λ c κs. search needs)
+    (λ c κs. search needs)
     returns-2
     fill-requires
-    same-length
+    (λ c. search needs)
     returns-3)

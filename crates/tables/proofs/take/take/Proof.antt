@@ -47,26 +47,14 @@ eight c =
     (signs g) (omega arith) (omega arith) (g .gather .ensures .0 .0) (g .gather .ensures .1)
     ∙ sym (c .any-falls .ensures)
 
-bad-sign-requires : tie.Need-bad-sign-requires
-bad-sign-requires c κs = search needs
-
 returns : tie.Need-returns
 unfolding solidRules
 returns c = (sym (first-is solidRules (list (start (c .before))) 6 (cc (six (c .before)))), λ z. absurd (omega (arith, z)))
-
-gather-requires : tie.Need-gather-requires
-gather-requires c κs = search needs
-
-beyond-requires : tie.Need-beyond-requires
-beyond-requires c κs = search needs
 
 returns-2 : tie.Need-returns-2
 unfolding solidRules
 returns-2 c =
     (sym (first-is solidRules (list (start (search needs))) 7 (cc (six (search needs), seven (search needs)))), λ z. absurd (omega (arith, z)))
-
-any-falls-requires : tie.Need-any-falls-requires
-any-falls-requires c κs = search needs
 
 returns-3 : tie.Need-returns-3
 unfolding solidRules
@@ -99,12 +87,12 @@ pub take-spec : {M : Type 1} → statement M
 take-spec =
     tie.close
     (tie.spec
-    bad-sign-requires
+    (λ c κs. search needs)
     returns
-    gather-requires
-    beyond-requires
+    (λ c κs. search needs)
+    (λ c κs. search needs)
     returns-2
-    any-falls-requires
+    (λ c κs. search needs)
     returns-3
     adjacent-requires
     returns-4)

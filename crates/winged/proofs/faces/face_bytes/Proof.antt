@@ -36,23 +36,11 @@ fits c =
     let turn = c .before .before in
     bytes-fit (words (start turn)) (turn .loop .j) (omega (arith, long (start turn))) (turn .loop .inv .2)
 
-face-size-requires : tie.Need-face-size-requires Inv-loop μ-loop
-face-size-requires c κs = search needs
-
 loop-holds : tie.Need-loop-holds Inv-loop μ-loop
 loop-holds c = (omega arith, cc, left-starts _ _ _ (omega arith))
 
-face-word-requires : tie.Need-face-word-requires Inv-loop μ-loop
-face-word-requires c κs = search needs
-
-cast-out : tie.Need-cast-out Inv-loop μ-loop
-cast-out c = search needs
-
 slice-write-out : tie.Need-slice-write-out Inv-loop μ-loop
 slice-write-out c = omega (arith, fits c)
-
-cast-out-2 : tie.Need-cast-out-2 Inv-loop μ-loop
-cast-out-2 c = search needs
 
 add-out : tie.Need-add-out Inv-loop μ-loop
 add-out c = omega (arith, fits c)
@@ -62,12 +50,6 @@ slice-write-out-2 c = below-set ℕ (c .before .before .loop .out) _ _ _ (omega 
 
 add-next : tie.Need-add-next Inv-loop μ-loop
 add-next c = omega (arith, fits c)
-
-add-j : tie.Need-add-j Inv-loop μ-loop
-add-j c = search needs
-
-loop-less : tie.Need-loop-less Inv-loop μ-loop
-loop-less c = search needs
 
 loop-again : tie.Need-loop-again Inv-loop μ-loop
 loop-again c =
@@ -89,17 +71,17 @@ face-bytes-spec =
     (tie.spec
     Inv-loop
     μ-loop
-    face-size-requires
+    (λ c κs. search needs)
     loop-holds
-    face-word-requires
-    cast-out
+    (λ c κs. search needs)
+    (λ c. search needs)
     slice-write-out
-    cast-out-2
+    (λ c. search needs)
     add-out
     slice-write-out-2
     add-next
-    add-j
-    loop-less
+    (λ c. search needs)
+    (λ c. search needs)
     loop-again
     same-length
     returns)

@@ -47,12 +47,6 @@ front : (c : tie.After-decode) →
 front c = decoded-front (table (c .before .before)) (c .decode .last .1 .0) _ (count (c .before .before))
     (c .decode .ensures) (c .before .before .if2 .left)
 
-within-requires : tie.Need-within-requires
-within-requires c κs = search needs
-
-minus-requires : tie.Need-minus-requires
-minus-requires c κs = search needs
-
 returns : tie.Need-returns
 returns c =
     let one = c .before .before in
@@ -71,9 +65,6 @@ mul-n c = omega (arith, few c .1)
 
 mul-if2 : tie.Need-mul-if2
 mul-if2 c = omega (arith, few c .1)
-
-minus-requires-2 : tie.Need-minus-requires-2
-minus-requires-2 c κs = search needs
 
 returns-2 : tie.Need-returns-2
 returns-2 c =
@@ -98,12 +89,6 @@ faces-from-requires c κs =
     let w = c .before .before .before .before in
     (inside (w .before .before .before), length-take-le _ (w .decode .last .1 .0) (front w .0))
 
-same-length : tie.Need-same-length
-same-length c = search needs
-
-same-length-2 : tie.Need-same-length-2
-same-length-2 c = search needs
-
 returns-3 : tie.Need-returns-3
 returns-3 c =
     let call = c .before .before in
@@ -120,19 +105,19 @@ pub faces-bytes-spec : {M : Type 1} → statement M
 faces-bytes-spec =
     tie.close
     (tie.spec
-    within-requires
-    minus-requires
+    (λ c κs. search needs)
+    (λ c κs. search needs)
     returns
     add-n
     add-n-2
     mul-n
     mul-if2
-    minus-requires-2
+    (λ c κs. search needs)
     returns-2
     decode-requires
     slice-reshare-prefix-faces-from
     slice-aggregate-faces-from
     faces-from-requires
-    same-length
-    same-length-2
+    (λ c. search needs)
+    (λ c. search needs)
     returns-3)

@@ -62,12 +62,6 @@ few c =
     mul-le-mul {n₁ = c .count-faces .result} {m₁ = from c .args .d + 1} {n₂ = 32768}
     {m₂ = 8} (c .count-faces .ensures .1) (omega (arith, limits (from c) .dimension))
 
-is-sound-requires : tie.Need-is-sound-requires
-is-sound-requires c κs = search needs
-
-minus-requires : tie.Need-minus-requires
-minus-requires c κs = search needs
-
 returns : tie.Need-returns
 unfolding facesRules
 returns c =
@@ -86,9 +80,6 @@ add-n c = omega (arith, limits (from c) .dimension)
 
 mul-n : tie.Need-mul-n
 mul-n c = omega (arith, few c)
-
-minus-requires-2 : tie.Need-minus-requires-2
-minus-requires-2 c κs = search needs
 
 returns-2 : tie.Need-returns-2
 unfolding facesRules
@@ -112,12 +103,6 @@ write-bytes-requires c κs =
     let words = rw (← add-one (a .d)) at (words-long (a .d) (a .s) (a .table .now) (table s)) in
     (table s, omega (arith, c .before .if2 .left, ap length (bytes-faces fs), bytes-length (facesWords fs)))
 
-cast-result : tie.Need-cast-result
-cast-result c = search needs
-
-same-length : tie.Need-same-length
-same-length c = search needs
-
 returns-3 : tie.Need-returns-3
 unfolding boundaryCells facesRules
 returns-3 c =
@@ -138,15 +123,15 @@ pub faces-from-spec : {M : Type 1} → statement M
 faces-from-spec =
     tie.close
     (tie.spec
-    is-sound-requires
-    minus-requires
+    (λ c κs. search needs)
+    (λ c κs. search needs)
     returns
     count-faces-requires
     add-n
     mul-n
-    minus-requires-2
+    (λ c κs. search needs)
     returns-2
     write-bytes-requires
-    cast-result
-    same-length
+    (λ c. search needs)
+    (λ c. search needs)
     returns-3)

@@ -45,17 +45,11 @@ long c k e =
     let a = start r .args in
     sweep-long (a .d) (a .v) (a .s) (a .h) (a .table .now) (length (take (r .room .result) (a .words .now))) k (sym (c .sweep-words .ensures .0) ∙ e)
 
-room-requires : tie.Need-room-requires
-room-requires c κs = search needs
-
 slice-relend-prefix-sweep-words : tie.Need-slice-relend-prefix-sweep-words
 slice-relend-prefix-sweep-words c = m c .0
 
 slice-aggregate-sweep-words : tie.Need-slice-aggregate-sweep-words
 slice-aggregate-sweep-words c = sym (length-take-le _ (start (c .before) .args .words .now) (m (c .before) .0))
-
-sweep-words-requires : tie.Need-sweep-words-requires
-sweep-words-requires c κs = search needs
 
 slice-reshare-prefix-send : tie.Need-slice-reshare-prefix-send
 slice-reshare-prefix-send c =
@@ -76,12 +70,6 @@ send-requires c κs =
     send-fits (a .words .now) (left (w .before)) (r .room .result) (same w)
     (answer (w .before)) (take (r .room .result) (a .words .now)) (a .swept .now)
     (outcomeOf (w .before .sweep-words .result)) (long (w .before)) (w .before .sweep-words .ensures .1) (m r .1)
-
-same-length : tie.Need-same-length
-same-length c = search needs
-
-same-length-2 : tie.Need-same-length-2
-same-length-2 c = search needs
 
 returns : tie.Need-returns
 returns c =
@@ -105,13 +93,13 @@ pub sweep-bytes-spec : {M : Type 1} → statement M
 sweep-bytes-spec =
     tie.close
     (tie.spec
-    room-requires
+    (λ c κs. search needs)
     slice-relend-prefix-sweep-words
     slice-aggregate-sweep-words
-    sweep-words-requires
+    (λ c κs. search needs)
     slice-reshare-prefix-send
     slice-aggregate-send
     send-requires
-    same-length
-    same-length-2
+    (λ c. search needs)
+    (λ c. search needs)
     returns)

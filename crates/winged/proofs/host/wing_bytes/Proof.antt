@@ -41,17 +41,11 @@ long c k e =
     let a = start r .args in
     wing-long (a .d) (a .v) (a .s) (a .cells .now) (length (take (r .room .result) (a .words .now))) k (sym (c .wing-words .ensures .0) ∙ e)
 
-room-requires : tie.Need-room-requires
-room-requires c κs = search needs
-
 slice-relend-prefix-wing-words : tie.Need-slice-relend-prefix-wing-words
 slice-relend-prefix-wing-words c = m c .0
 
 slice-aggregate-wing-words : tie.Need-slice-aggregate-wing-words
 slice-aggregate-wing-words c = sym (length-take-le _ (start (c .before) .args .words .now) (m (c .before) .0))
-
-wing-words-requires : tie.Need-wing-words-requires
-wing-words-requires c κs = search needs
 
 slice-reshare-prefix-send : tie.Need-slice-reshare-prefix-send
 slice-reshare-prefix-send c =
@@ -72,12 +66,6 @@ send-requires c κs =
     send-fits (a .words .now) (left (w .before)) (r .room .result) (same w)
     (answer (w .before)) (take (r .room .result) (a .words .now)) (a .table .now)
     (outcomeOf (w .before .wing-words .result)) (long (w .before)) (w .before .wing-words .ensures .1) (m r .1)
-
-same-length : tie.Need-same-length
-same-length c = search needs
-
-same-length-2 : tie.Need-same-length-2
-same-length-2 c = search needs
 
 returns : tie.Need-returns
 returns c =
@@ -101,13 +89,13 @@ pub wing-bytes-spec : {M : Type 1} → statement M
 wing-bytes-spec =
     tie.close
     (tie.spec
-    room-requires
+    (λ c κs. search needs)
     slice-relend-prefix-wing-words
     slice-aggregate-wing-words
-    wing-words-requires
+    (λ c κs. search needs)
     slice-reshare-prefix-send
     slice-aggregate-send
     send-requires
-    same-length
-    same-length-2
+    (λ c. search needs)
+    (λ c. search needs)
     returns)

@@ -39,9 +39,6 @@ table c = start (c .before) .args .table .now
 abbrev count : tie.Else2 → ℕ
 count c = start (c .before) .args .s * recordSize (start (c .before) .args .d)
 
-in-limits-requires : tie.Need-in-limits-requires
-in-limits-requires c κs = search needs
-
 returns : tie.Need-returns
 returns c =
     let a = c .before .before .before .before .args in (
@@ -73,9 +70,6 @@ returns-3 c =
     let a = start (two .before) .args in
     (sweep-large (a .d) (a .v) (a .s) (a .h) (a .table .now) (length (a .out .now)) (inside (two .before)) (two .if2 .left) (c .if3 .taken), refl)
 
-slice-aggregate-decode : tie.Need-slice-aggregate-decode
-slice-aggregate-decode c = search needs
-
 decode-requires : tie.Need-decode-requires
 decode-requires c κs = omega (arith, c .before .if3 .left, c .before .before .if2 .left)
 
@@ -92,12 +86,6 @@ array-share-prefix-solid c = front (c .before) .0
 
 slice-aggregate-sweep : tie.Need-slice-aggregate-sweep
 slice-aggregate-sweep c = sym (length-take-le _ (c .before .before .decode .last .1 .0) (front (c .before .before) .0))
-
-sweep-requires : tie.Need-sweep-requires
-sweep-requires c κs = search needs
-
-same-length : tie.Need-same-length
-same-length c = search needs
 
 returns-4 : tie.Need-returns-4
 returns-4 c =
@@ -116,7 +104,7 @@ pub sweep-words-spec : {M : Type 1} → statement M
 sweep-words-spec =
     tie.close
     (tie.spec
-    in-limits-requires
+    (λ c κs. search needs)
     returns
     add-n
     add-n-2
@@ -124,10 +112,10 @@ sweep-words-spec =
     mul-if2
     returns-2
     returns-3
-    slice-aggregate-decode
+    (λ c. search needs)
     decode-requires
     array-share-prefix-solid
     slice-aggregate-sweep
-    sweep-requires
-    same-length
+    (λ c κs. search needs)
+    (λ c. search needs)
     returns-4)

@@ -38,9 +38,6 @@ cells c = start (c .before) .args .cells .now
 abbrev count : tie.Else2 → ℕ
 count c = start (c .before) .args .s * (start (c .before) .args .d + 2)
 
-within-requires : tie.Need-within-requires
-within-requires c κs = search needs
-
 returns : tie.Need-returns
 returns c =
     let a = c .before .before .before .before .args in
@@ -60,9 +57,6 @@ returns-2 c =
     let a = start (c .before) .args in
     (wing-wrong (a .d) (a .v) (a .s) (a .cells .now) (length (a .out .now)) (inside (c .before)) (c .if2 .taken), refl)
 
-slice-aggregate-decode : tie.Need-slice-aggregate-decode
-slice-aggregate-decode c = search needs
-
 decode-requires : tie.Need-decode-requires
 decode-requires c κs = omega (arith, few (c .before .before) .1, c .before .if2 .left)
 
@@ -78,12 +72,6 @@ array-share-prefix-list c = front (c .before) .0
 
 slice-aggregate-wing : tie.Need-slice-aggregate-wing
 slice-aggregate-wing c = sym (length-take-le _ (c .before .before .decode .last .1 .0) (front (c .before .before) .0))
-
-wing-requires : tie.Need-wing-requires
-wing-requires c κs = search needs
-
-same-length : tie.Need-same-length
-same-length c = search needs
 
 returns-3 : tie.Need-returns-3
 returns-3 c =
@@ -102,16 +90,16 @@ pub wing-words-spec : {M : Type 1} → statement M
 wing-words-spec =
     tie.close
     (tie.spec
-    within-requires
+    (λ c κs. search needs)
     returns
     add-n
     mul-n
     mul-if2
     returns-2
-    slice-aggregate-decode
+    (λ c. search needs)
     decode-requires
     array-share-prefix-list
     slice-aggregate-wing
-    wing-requires
-    same-length
+    (λ c κs. search needs)
+    (λ c. search needs)
     returns-3)

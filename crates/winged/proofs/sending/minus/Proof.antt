@@ -18,9 +18,6 @@ neg-fits (suc k) h = record { sfits = omega (arith, h) }
 is-neg : (k : ℕ) → k < 256 → pos 0 -ℤ toZ w64 k ≡ negℤ (pos k)
 is-neg k h = ap (λ (z : ℤ). pos 0 -ℤ z) (toZ-pos w64 k (omega (arith, h))) ∙ +ℤ-idl (negℤ (pos k))
 
-cast-result : tie.Need-cast-result
-cast-result c = search needs
-
 sub-result : tie.Need-sub-result
 sub-result c = subst⁻¹ (λ (z : ℤ). SFits w64 z) (is-neg _ (c .fits .k .fits)) (neg-fits _ (c .fits .k .fits))
 
@@ -28,4 +25,4 @@ returns : tie.Need-returns
 returns c = ap (λ (z : ℤ). toZ w64 (ofZ w64 z)) (is-neg _ (c .fits .k .fits)) ∙ toZ-ofZ w64 _ (neg-fits _ (c .fits .k .fits))
 
 pub minus-spec : {M : Type 1} → statement M
-minus-spec = tie.close (tie.spec cast-result sub-result returns)
+minus-spec = tie.close (tie.spec (λ c. search needs) sub-result returns)

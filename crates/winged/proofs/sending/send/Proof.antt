@@ -29,9 +29,6 @@ fits c =
 small : (c : tie.After-a) → c .a .given .0 .0 < 2 ^ 63
 small c = omega (arith, fits c .1)
 
-enum-known-a : tie.Need-enum-known-a
-enum-known-a c = search needs
-
 slice-aggregate-encode : tie.Need-slice-aggregate-encode
 slice-aggregate-encode c = sym (length-take-le _ (c .before .before .before .before .before .before .args .words .now) (fits (c .before .before) .0))
 
@@ -45,18 +42,6 @@ encode-requires c κs = omega (
 
 cast-result : tie.Need-cast-result
 cast-result c = record { sfits = omega (arith, small (c .before .before .before .before .before .before)) }
-
-enum-known-a-2 : tie.Need-enum-known-a-2
-enum-known-a-2 c = search needs
-
-number-requires : tie.Need-number-requires
-number-requires c κs = search needs
-
-minus-requires : tie.Need-minus-requires
-minus-requires c κs = search needs
-
-same-length : tie.Need-same-length
-same-length c = search needs
 
 returns : tie.Need-returns
 returns c =
@@ -83,13 +68,13 @@ pub send-spec : {M : Type 1} → statement M
 send-spec =
     tie.close
     (tie.spec
-    enum-known-a
+    (λ c. search needs)
     slice-aggregate-encode
     encode-requires
     cast-result
-    enum-known-a-2
-    number-requires
-    minus-requires
-    same-length
+    (λ c. search needs)
+    (λ c κs. search needs)
+    (λ c κs. search needs)
+    (λ c. search needs)
     returns
     returns-2)

@@ -6,9 +6,6 @@ use Rattle.rules.specs.Shapes.{shapeOf, shapeOk}
 use Rattle.rules.proofs.limits.Shape.new.Statement.{statement}
 use Rattle.rules.proofs.limits.Shape.new.Tie as tie
 
-within-requires : tie.Need-within-requires
-within-requires c κs = search needs
-
 returns : tie.Need-returns
 unfolding shapeOf
 returns c =
@@ -24,4 +21,4 @@ returns-2 c =
     rw e
 
 pub new-spec : {M : Type 1} → statement M
-new-spec = tie.close (tie.spec within-requires returns returns-2)
+new-spec = tie.close (tie.spec (λ c κs. search needs) returns returns-2)
