@@ -1,3 +1,3 @@
--- The rules of the call read.
-pub mod Outcomes
+-- Laws of the call read.
+pub mod Order
 pub mod FirstOfTwo

@@ -5,16 +5,19 @@ use file::numbers;
 use file::step as steps;
 use points::step::Step;
 use rules::refusal::Refusal;
+use rules::refusal::Verdict;
 ghost use mathlib.Core.Path.{_≡_};
 ghost use mathlib.Core.Bool.{true, _||_};
 ghost use Prim.Native.Nat.{_≤_};
 ghost use lib.Dec.{ltb};
 ghost use lib.ListN.{length};
 ghost use Rattle.words.specs.Records.{allOf, tabulate};
+ghost use Rattle.rules.specs.Calls.{firstRefusal};
+ghost use Rattle.rules.specs.Numbers.{verdictOf};
 ghost use Rattle.points.specs.Step.{inRange};
 ghost use Rattle.file.specs.File.{headerSize, amountOf, pointCount};
 ghost use Rattle.file.specs.Tests.{cellsLength};
-ghost use Rattle.read.specs.Read.{headerOf, readInput, readOutcome, readCells, readPoints, headerOutcome};
+ghost use Rattle.read.specs.Read.{headerOf, readInput, readRules, readOutcome, readCells, readPoints, headerOutcome};
 
 // The header's numbers and the step.
 pub struct Header {
@@ -57,8 +60,43 @@ fn no_room(b: &[u8], room: usize, space: usize) -> bool
     space < numbers::point_count(b)
 }
 
-// Reads a file: its cells go to one buffer, its points to another, and the header is the answer. Rows 1 to 8 and 15 of
-// the refusal table are tried in this order, each over the whole file, and a refused call writes nothing.
+// The first of rows 1 to 8 and 15 that refuses the bytes, with `room` words and `space` floats lent. Each is tried over
+// the whole file.
+fn first_refusal(b: &[u8], room: usize, space: usize) -> Verdict
+    ensures { λ r. ⌜ verdictOf r ≡ firstRefusal readRules (readInput (now (b .entry)) room space) ⌝ }
+{
+    if numbers::not_ours(b) {
+        return Verdict::Refuse(Refusal::NotOurs);
+    }
+    if numbers::outside_limits(b) {
+        return Verdict::Refuse(Refusal::OutsideLimits);
+    }
+    if numbers::wrong_length(b) {
+        return Verdict::Refuse(Refusal::WrongLength);
+    }
+    if floats::out_of_range(b) {
+        return Verdict::Refuse(Refusal::FloatRange);
+    }
+    if steps::step_unfit(b) {
+        return Verdict::Refuse(Refusal::StepUnfit);
+    }
+    if cells::bad_sign(b) {
+        return Verdict::Refuse(Refusal::BadSign);
+    }
+    if cells::bad_vertex(b) {
+        return Verdict::Refuse(Refusal::BadVertex);
+    }
+    if cells::vertex_twice(b) {
+        return Verdict::Refuse(Refusal::VertexTwice);
+    }
+    if no_room(b, room, space) {
+        return Verdict::Refuse(Refusal::NoRoom);
+    }
+    Verdict::Pass
+}
+
+// Reads a file: its cells go to one buffer, its points to another, and the header is the answer. A refused call writes
+// nothing.
 pub fn read(bytes: &[u8], cells: &mut [u16], points: &mut [f64]) -> ReadAnswer
     ensures answer { λ r. ⌜ headerOutcome r
         ≡ readOutcome (readInput (now (bytes .entry)) (length (now (cells .entry))) (length (now (points .entry)))) ⌝ }
@@ -67,32 +105,9 @@ pub fn read(bytes: &[u8], cells: &mut [u16], points: &mut [f64]) -> ReadAnswer
     ensures points { λ r. ⌜ now (points .exit)
         ≡ readPoints (readInput (now (bytes .entry)) (length (now (cells .entry))) (length (now (points .entry)))) (now (points .entry)) ⌝ }
 {
-    if numbers::not_ours(bytes) {
-        return ReadAnswer::Refused(Refusal::NotOurs);
-    }
-    if numbers::outside_limits(bytes) {
-        return ReadAnswer::Refused(Refusal::OutsideLimits);
-    }
-    if numbers::wrong_length(bytes) {
-        return ReadAnswer::Refused(Refusal::WrongLength);
-    }
-    if floats::out_of_range(bytes) {
-        return ReadAnswer::Refused(Refusal::FloatRange);
-    }
-    if steps::step_unfit(bytes) {
-        return ReadAnswer::Refused(Refusal::StepUnfit);
-    }
-    if cells::bad_sign(bytes) {
-        return ReadAnswer::Refused(Refusal::BadSign);
-    }
-    if cells::bad_vertex(bytes) {
-        return ReadAnswer::Refused(Refusal::BadVertex);
-    }
-    if cells::vertex_twice(bytes) {
-        return ReadAnswer::Refused(Refusal::VertexTwice);
-    }
-    if no_room(bytes, cells.len(), points.len()) {
-        return ReadAnswer::Refused(Refusal::NoRoom);
+    let verdict = first_refusal(bytes, cells.len(), points.len());
+    if let Verdict::Refuse(why) = verdict {
+        return ReadAnswer::Refused(why);
     }
     cells::write_cells(bytes, cells);
     floats::write_points(bytes, points);

@@ -4,8 +4,11 @@
 --   first-is              where rule n is the first, the first refusal is n,
 --   refused-first         and the call is refused with n,
 --   kept                  and then every lent buffer is as it was
---   refused-by, passed-by     the same where a part of the call has found the verdict of the rules that come first
---   accepted-none         where none applies, the call answers,
+--   passes                and where the first refusal is 0, the rule numbered n does not apply
+--   refused-is, accepted-is   the same where a part of the call has found the verdict of all rules,
+--   refused-by, passed-by     and of the rules that come first
+--   none-is               where no rule applies, the first refusal is 0,
+--   accepted-none         and then the call answers,
 --   put                   and then every lent buffer begins with what is written
 -- All tests stand in one equation, so that cc answers it from what the code has tested.
 -- Assumes nothing.
@@ -48,9 +51,26 @@ module _ {I : Type 0} where
       go true e k next = let a : r .applies x ≡ true = cc in rw a (eqb-true (r .number) n e)
       go false e k next = let a : r .applies x ≡ false = cc in rw a (next (cc))
 
-  none-is : (rs : List (Rule I)) (x : I) → None rs x → firstRefusal rs x ≡ 0
+  pub none-is : (rs : List (Rule I)) (x : I) → None rs x → firstRefusal rs x ≡ 0
   none-is [] x h = refl
   none-is (r ∷ rs) x h = let a : r .applies x ≡ false = cc in let b : None rs x = cc in rw a (none-is rs x b)
+
+  -- the test of the rule of that number
+  abbrev pub testOf : ℕ → List (Rule I) → I → Bool
+  testOf n [] x = false
+  testOf n (r ∷ rs) x = cond (eqb (r .number) n) (r .applies x) (testOf n rs x)
+
+  pub passes : (rs : List (Rule I)) (x : I) → allNumbered rs ≡ true → 0 ≡ firstRefusal rs x → (n : ℕ) → testOf n rs x ≡ false
+  passes [] x m h n = refl
+  passes (r ∷ rs) x m h n =
+      let parts = and-parts (leb 1 (r .number)) (allNumbered rs) m in
+      go (r .applies x) (eqb (r .number) n) h (leb-true 1 (r .number) (parts .0)) (λ k. passes rs x (parts .1) k n)
+    where
+      go : (t same : Bool) → 0 ≡ cond t (r .number) (firstRefusal rs x) → 1 ≤ r .number →
+          (0 ≡ firstRefusal rs x → testOf n rs x ≡ false) → cond same t (testOf n rs x) ≡ false
+      go true same k l next = absurd (omega arith)
+      go false true k l next = refl
+      go false false k l next = next k
 
   first-positive : (rs : List (Rule I)) (x : I) → allNumbered rs ≡ true → First rs x 0 → ⊥
   first-positive [] x n h = let z : _≡_ {A = ℕ} 0 1 = cc in omega arith
@@ -69,20 +89,25 @@ module _ {I : Type 0} where
     refused-first m zero h = absurd (first-positive rules x m h)
     refused-first m (suc n) h = sym (ap (λ k. outcome k (answer x)) (first-is rules x (suc n) h))
 
+    pub refused-is : (r : Refusal) → numberOf r ≡ firstRefusal rules x → refused (numberOf r) ≡ decide rules answer x
+    refused-is r e = some (numberOf r) (numberOf-range r .0) ∙ ap (λ k. outcome k (answer x)) e
+      where
+        some : (n : ℕ) → 1 ≤ n → refused n ≡ outcome n (answer x)
+        some zero h = absurd (omega arith)
+        some (suc n) h = refl
+
+    pub accepted-is : 0 ≡ firstRefusal rules x → accepted (answer x) ≡ decide rules answer x
+    accepted-is e = ap (λ k. outcome k (answer x)) e
+
     pub accepted-none : None rules x → accepted (answer x) ≡ decide rules answer x
-    accepted-none h = rw (none-is rules x h)
+    accepted-none h = accepted-is (sym (none-is rules x h))
 
   -- where the rules rs come first and a part of the call has found their verdict
   module _ {A : Type 0} (rs qs : List (Rule I)) (answer : I → A) (x : I) (m : allNumbered rs ≡ true) where
     pub refused-by : (r : Refusal) → numberOf r ≡ firstRefusal rs x → refused (numberOf r) ≡ decide (rs ++ qs) answer x
     refused-by r e =
         let some = numberOf-range r .0 in
-        let n : firstRefusal (rs ++ qs) x ≡ numberOf r = firstRefusal-refused rs qs x m (omega arith) ∙ sym e in
-        sym (ap (λ k. outcome k (answer x)) n ∙ outcome-refused (numberOf r) some)
-      where
-        outcome-refused : (n : ℕ) → 1 ≤ n → outcome n (answer x) ≡ refused n
-        outcome-refused zero h = absurd (omega arith)
-        outcome-refused (suc n) h = refl
+        refused-is (rs ++ qs) answer x r (e ∙ sym (firstRefusal-refused rs qs x m (omega arith)))
 
     pub passed-by : 0 ≡ firstRefusal rs x → decide qs answer x ≡ decide (rs ++ qs) answer x
     passed-by e = ap (λ k. outcome k (answer x)) (sym (firstRefusal-passed rs qs x m (sym e)))
