@@ -16,19 +16,20 @@ is worthless, and fails. worthless/*.edit are such edits, of the crate that thei
 they are found so, in the words of their line 'worthless:'.
 
 crates/NAME/must-fail   tried by rt ci, each from nothing; its logs are read here
-crates/NAME/slips       of crates that take long to prove: tried here, each over what a first check has proved
+crates/NAME/slips       of crates that take long to prove: tried here, over what a first check has proved
 refutations/NAME.txt    cases in which an edited theorem is false: after what they share, each from a line '-- case CASE'
 
 A proof rests on its own function's code and on contracts. So slips that are each in the function whose proof refuses
-them, no two in the same, are tried at once. A proof by hand rests on the theorems of the functions that it calls, so
-slips in such functions are tried by themselves. An example of a definition is part of its crate, and rests on
-definitions, so where these name no type of the code an edit of them is tried on the example alone (copies.py).
+them, no two in the same, are tried at once; but a proof by hand rests on the theorems of the functions that it calls, so
+a slip in one of these is tried by itself. An example of a definition is part of its crate, and rests on
+definitions, so an edit of them is tried on the example alone (copies.py).
 
     check.py                    all of them, after rt ci
     check.py --slips NAME..     only the slips of these crates, after rt check
 """
 import argparse
 import concurrent.futures
+import functools
 import os
 import pathlib
 import re
@@ -118,18 +119,34 @@ def not_refuted(edit, root):
         renew(root, edit.crate)
 
 
-def in_own_function(edit):
-    """Whether the edit is all in the function whose proof must refuse it, and no proof by hand is concerned."""
-    crate = ROOT / "crates" / edit.crate
+def own_function(edit):
+    """The function that the edit is all in and whose own proof must refuse it; None if there is none."""
+    def functions():
+        for file, old, _ in edit.pairs:
+            text = (ROOT / "crates" / edit.crate / file).read_text()
+            yield file, re.findall(r"\bfn (\w+)", text[:text.find(old)])[-1:]
+    place, found = pathlib.Path(edit.place or ""), list(functions()) if edit.of_code() else []
+    if not found or any(f != found[0] or not f[1] for f in found):
+        return None
+    if place.name == "Proof.antt":
+        return "/".join(place.parent.parts[1:]) if place.parent.name == found[0][1][0] else None
+    module = pathlib.Path(found[0][0]).with_suffix("").parts[1:]
+    return "/".join((*module, *found[0][1])).removeprefix("lib/") if edit.place == found[0][0] else None
 
-    def function(file, old):
-        text = (crate / file).read_text()
-        return re.findall(r"\bfn (\w+)", text[:text.find(old)])[-1:]
-    place = pathlib.Path(edit.place or "")
-    if not edit.of_code() or place.name != "Proof.antt" or any(function(f, o) != [place.parent.name] for f, o, _ in edit.pairs):
-        return False
-    cited = {name for p in (crate / "proofs").rglob("*.antt") for name in re.findall(r"\.(\w+)\.Met as ", p.read_text())}
-    return place.parent.name not in cited and ".Tie as " in (crate / place).read_text()
+
+@functools.cache
+def rests_on(name, function):
+    """The functions of a crate on whose theorems the proof of one rests: a proof by hand cites those of what it calls."""
+    proofs = ROOT / "crates" / name / "proofs"
+    found, waiting = set(), [f"{function}/Proof"]
+    while waiting:
+        file = proofs / (waiting.pop() + ".antt")
+        for cited in re.findall(rf"Rattle\.{name}\.proofs\.([\w.]+)", file.read_text() if file.is_file() else ""):
+            path = re.sub(r"/Met$", "/Proof", cited.rstrip(".").replace(".", "/"))
+            if path not in found:
+                found.add(path)
+                waiting.append(path)
+    return {path.removesuffix("/Proof") for path in found if path.endswith("/Proof")}
 
 
 def in_own_statement(edit):
@@ -147,8 +164,9 @@ def in_own_statement(edit):
 
 def together(edit, other):
     """Whether two edits can be tried at once: what each must bring about has nothing to do with the other."""
-    if in_own_function(edit) and in_own_function(other):
-        return edit.place != other.place
+    one, two = own_function(edit), own_function(other)
+    if one and two:
+        return edit.place != other.place and one not in rests_on(edit.crate, two) and two not in rests_on(edit.crate, one)
     return in_own_statement(edit) and in_own_statement(other) and edit.fact != other.fact
 
 
@@ -166,10 +184,11 @@ def batches(edits):
 
 
 def tried(root, batch, kept, same):
-    """Tries the edits of a batch over what a check of the crate has proved."""
+    """Tries the edits of a batch, over what a check of the crate has proved where that is kept."""
     name = batch[0].crate
     crate, warm, began = root / "crates" / name, root / "target" / "inc" / name, time.time()
-    shutil.copytree(kept, warm)
+    if kept:
+        shutil.copytree(kept, warm)
     texts = {e: (crate / e.place).read_text() if (crate / (e.place or "?")).is_file() else "" for e in batch}
     try:
         for edit in batch:
@@ -224,11 +243,13 @@ def edits_in(name, with_logs):
         slips = [e for e in slips if not stands_alone(e)]
         if not slips:
             return results
-        if "\nlogic=proved" not in prove(root, name):
-            return results + [(False, f"slips of {name}: the crate itself is not proved")]
-        kept = (root / "target" / "inc" / name).rename(root / "proved")
+        tries, kept = batches(slips), None
+        if len(tries) > 1:
+            if "\nlogic=proved" not in prove(root, name):
+                return results + [(False, f"slips of {name}: the crate itself is not proved")]
+            kept = (root / "target" / "inc" / name).rename(root / "proved")
         same = {edit: not_refuted(edit, root) if edit.refuted else comes_out_same(edit, root) for edit in slips}
-        for batch in batches(slips):
+        for batch in tries:
             results += tried(root, batch, kept, same)
     return results
 

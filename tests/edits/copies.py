@@ -1,4 +1,5 @@
 """Copies of the repository in which an edit is tried, and of a crate its definitions alone."""
+import re
 import shutil
 import subprocess
 
@@ -29,22 +30,34 @@ def prove(root, name):
 
 
 def stands_alone(edit):
-    """Whether the example that an edit of a definition names needs the definitions alone: they name no type of the crate's
-    code, and the example's file cites no other proof of the crate."""
+    """Whether the example that an edit of a definition names needs the definitions alone: its file cites no other proof of
+    the crate."""
     crate = ROOT / "crates" / edit.crate
     if edit.of_code() or edit.refuted or edit.worthless or not (crate / (edit.place or "?")).is_file() or not (crate / "src" / "lib.rt").is_file():
         return False
-    definitions = "".join(p.read_text() for p in (crate / "specs").rglob("*.antt"))
-    return "·specs.specs.declared." not in definitions and f"Rattle.{edit.crate}.proofs." not in (crate / edit.place).read_text()
+    return f"Rattle.{edit.crate}.proofs." not in (crate / edit.place).read_text()
+
+
+def types_alone(text):
+    """A file of code without its functions: the types that definitions name, and what these types name."""
+    kept, inside = [], False
+    for line in text.splitlines():
+        if re.match(r'(pub(\(crate\))? )?(extern "C" )?fn |impl\b', line):
+            inside = True
+        elif not inside and not re.match(r"ghost use |use .*\b[a-z_0-9]+;|//|#\[no_mangle\]", line):
+            kept.append(line)
+        elif line == "}":
+            inside = False
+    return "// Types alone.\n" + "\n".join(kept) + "\n"
 
 
 def definitions_with(root, name, file, text):
-    """What the prover says of a crate's definitions in the copy with one file of proofs, and no code."""
+    """What the prover says of a crate's definitions in the copy with one file of proofs, and no code but the types."""
     crate = root / "crates" / name
-    for part in ("src", "proofs"):
-        shutil.rmtree(crate / part)
-        (crate / part).mkdir()
-    (crate / "src" / "lib.rt").write_text("// Definitions alone.\n")
+    for path in (crate / "src").rglob("*.rt"):
+        path.write_text(types_alone(path.read_text()))
+    shutil.rmtree(crate / "proofs")
+    (crate / "proofs").mkdir()
     (crate / "proofs" / "Lib.antt").write_text(f"-- Definitions alone.\npub mod {file}\n")
     (crate / "proofs" / f"{file}.antt").write_text(text)
     log = prove(root, name)
