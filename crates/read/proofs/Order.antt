@@ -17,7 +17,8 @@ use Rattle.words.specs.Bytes.{word16}
 use Rattle.rules.specs.Calls.{firstRefusal, accepted, refused, written}
 use Rattle.rules.specs.Numbers.{numberOf}
 use Rattle.rules.specs.declared.refusal.Refusal.{Refusal}
-use Rattle.rules.proofs.Refusing.{passes, refused-is, accepted-is, kept, put}
+use Rattle.rules.proofs.Accepting.{testOf, passes}
+use Rattle.rules.proofs.Refusing.{refused-is, accepted-is, kept, put}
 use Rattle.rules.proofs.Tests.{and-parts}
 use Rattle.simplex.specs.Cell.{sameRow}
 use Rattle.solids.proofs.Tests.{or-false}
@@ -66,11 +67,10 @@ pub record Passed (i : ReadInput) : Type 0 where
   pub cells : cellsLength (i .bytes) ≤ i .cellRoom
   pub points : pointCount (i .bytes) ≤ i .pointRoom
 
-pub passed : (i : ReadInput) → 0 ≡ firstRefusal readRules i → Passed i
+pub passed-each : (i : ReadInput) → ((n : ℕ) → testOf n readRules i ≡ false) → Passed i
 unfolding readRules
-passed i h =
+passed-each i fine =
     let b = i .bytes in
-    let fine = passes readRules i refl h in
     let floats = floats-parts b (fine 4) in
     let rooms = or-false (ltb (i .cellRoom) (cellsLength b)) (ltb (i .pointRoom) (pointCount b)) (fine 15) in
     record {
@@ -81,3 +81,7 @@ passed i h =
       cells = ltb-false (i .cellRoom) (cellsLength b) (rooms .0);
       points = ltb-false (i .pointRoom) (pointCount b) (rooms .1);
     }
+
+pub passed : (i : ReadInput) → 0 ≡ firstRefusal readRules i → Passed i
+unfolding readRules
+passed i h = passed-each i (passes readRules i refl h)

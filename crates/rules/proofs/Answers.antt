@@ -11,10 +11,9 @@
 use mathlib.Core.Path.{_≡_, refl, ap, _∙_, sym}
 use mathlib.Core.Bool.{Bool, true, false, cond, _&&_}
 use mathlib.Core.List.{List, [], _∷_, _++_, map}
-use Prim.Native.Nat.{ℕ, zero, suc, _-_, _≤_, _<_}
+use Prim.Native.Nat.{ℕ, zero, suc, _≤_, _<_}
 use native.Mathlib.Omega.{arith}
-use lib.Dec.{leb}
-use lib.ListN.{getD}
+use lib.Dec.{eqb, leb}
 use borrow.Author.Tests.{leb-true}
 use Rattle.rules.specs.Limits.{within}
 use Rattle.rules.specs.Calls.{Rule, onPart, firstRefusal, Outcome, accepted, refused}
@@ -30,11 +29,15 @@ refusals =
     R.NotOurs ∷ R.OutsideLimits ∷ R.WrongLength ∷ R.FloatRange ∷ R.StepUnfit ∷ R.BadSign ∷ R.BadVertex ∷ R.VertexTwice
     ∷ R.CellTwice ∷ R.CrowdedFace ∷ R.EqualSigns ∷ R.SweptTooLarge ∷ R.MovedOutOfRange ∷ R.Unsound ∷ R.NoRoom ∷ []
 
+numberedAs : ℕ → List Refusal → Refusal
+numberedAs n [] = R.NotOurs
+numberedAs n (r ∷ rs) = cond (eqb (numberOf r) n) r (numberedAs n rs)
+
 pub refusalOf : ℕ → Refusal
-refusalOf n = getD refusals (n - 1) R.NotOurs
+refusalOf n = numberedAs n refusals
 
 numbered : (r : Refusal) → (refusalOf (numberOf r) ≡ r) × (within 1 15 (numberOf r) ≡ true)
-unfolding refusals refusalOf
+unfolding refusals numberedAs refusalOf
 numbered R.NotOurs = (refl, refl)
 numbered R.OutsideLimits = (refl, refl)
 numbered R.WrongLength = (refl, refl)

@@ -4,10 +4,9 @@
 --   first-is              where rule n is the first, the first refusal is n,
 --   refused-first         and the call is refused with n,
 --   kept                  and then every lent buffer is as it was
---   passes                and where the first refusal is 0, the rule numbered n does not apply
 --   refused-is, accepted-is   the same where a part of the call has found the verdict of all rules,
 --   refused-by, passed-by     and of the rules that come first
---   none-is               where no rule applies, the first refusal is 0,
+--   none-is               where no rule applies, the first refusal is 0 (passes of Accepting says the converse),
 --   accepted-none         and then the call answers,
 --   put                   and then every lent buffer begins with what is written
 -- All tests stand in one equation, so that cc answers it from what the code has tested.
@@ -54,23 +53,6 @@ module _ {I : Type 0} where
   pub none-is : (rs : List (Rule I)) (x : I) → None rs x → firstRefusal rs x ≡ 0
   none-is [] x h = refl
   none-is (r ∷ rs) x h = let a : r .applies x ≡ false = cc in let b : None rs x = cc in rw a (none-is rs x b)
-
-  -- the test of the rule of that number
-  abbrev pub testOf : ℕ → List (Rule I) → I → Bool
-  testOf n [] x = false
-  testOf n (r ∷ rs) x = cond (eqb (r .number) n) (r .applies x) (testOf n rs x)
-
-  pub passes : (rs : List (Rule I)) (x : I) → allNumbered rs ≡ true → 0 ≡ firstRefusal rs x → (n : ℕ) → testOf n rs x ≡ false
-  passes [] x m h n = refl
-  passes (r ∷ rs) x m h n =
-      let parts = and-parts (leb 1 (r .number)) (allNumbered rs) m in
-      go (r .applies x) (eqb (r .number) n) h (leb-true 1 (r .number) (parts .0)) (λ k. passes rs x (parts .1) k n)
-    where
-      go : (t same : Bool) → 0 ≡ cond t (r .number) (firstRefusal rs x) → 1 ≤ r .number →
-          (0 ≡ firstRefusal rs x → testOf n rs x ≡ false) → cond same t (testOf n rs x) ≡ false
-      go true same k l next = absurd (omega arith)
-      go false true k l next = refl
-      go false false k l next = next k
 
   first-positive : (rs : List (Rule I)) (x : I) → allNumbered rs ≡ true → First rs x 0 → ⊥
   first-positive [] x n h = let z : _≡_ {A = ℕ} 0 1 = cc in omega arith

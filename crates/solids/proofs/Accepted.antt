@@ -1,6 +1,6 @@
 -- A list of cells is acceptable exactly when its cells, in ascending order, are a solid.
 --   listOf d v cs     the list of these cells, as words
-use mathlib.Core.Path.{_≡_, ap, ap₂, refl, _∙_}
+use mathlib.Core.Path.{_≡_, ap, ap₂, refl, sym, _∙_}
 use Prim.Native.Nat.{_*_, _<_, suc, zero, ℕ, _≤_}
 use mathlib.Core.Bool.{Bool, cond, false, false≢true, not, true}
 use mathlib.Core.List.{List, [], map, _∷_}
@@ -11,6 +11,8 @@ use borrow.Author.Tests.{eqb-false, eqb-true}
 use mathlib.Core.Logic.{_≢_}
 use Rattle.words.specs.Records.{anyOf, concat, part, tabulate}
 use Rattle.words.proofs.Records.{tabulate-ext}
+use Rattle.rules.specs.Calls.{firstRefusal}
+use Rattle.rules.proofs.Accepting.{passes as passes-each}
 use Rattle.simplex.specs.Cell.{Cell, Row, Sign}
 use Rattle.simplex.specs.Chain.{total}
 use Rattle.simplex.specs.Faces.{facets}
@@ -34,16 +36,6 @@ use Rattle.solids.proofs.Tables.{cellAt}
 use Rattle.solids.proofs.Tests.{all-below, asc-once, below-all, each-row, few-of, none-of, of-few, of-none, once-each, once-signs, row-each}
 use Rattle.solids.proofs.Tests.{signs-once}
 
-six-none : (a b c d e f : Bool) → eqb (cond a 6 (cond b 7 (cond c 8 (cond d 9 (cond e 10 (cond f 11 0)))))) 0 ≡ true →
-    (a ≡ false) × (b ≡ false) × (c ≡ false) × (d ≡ false) × (e ≡ false) × (f ≡ false)
-six-none true b c d e f k = absurd (false≢true k)
-six-none false true c d e f k = absurd (false≢true k)
-six-none false false true d e f k = absurd (false≢true k)
-six-none false false false true e f k = absurd (false≢true k)
-six-none false false false false true f k = absurd (false≢true k)
-six-none false false false false false true k = absurd (false≢true k)
-six-none false false false false false false k = (refl, refl, refl, refl, refl, refl)
-
 pub record Passed (l : Listed) : Type 0 where
   pub sign : badSign l ≡ false
   pub vertex : vertexBeyond (l .v) (listedCells l) ≡ false
@@ -55,9 +47,8 @@ pub record Passed (l : Listed) : Type 0 where
 pub passed : (l : Listed) → acceptable l ≡ true → Passed l
 unfolding acceptable solidRules
 passed l e =
-    let r = six-none (badSign l) (vertexBeyond (l .v) (listedCells l)) (vertexTwice (listedCells l))
-    (cellTwice (solidOf l)) (crowdedFace (facets (solidOf l))) (equalSigns (facets (solidOf l))) e in
-    record { sign = r .0; vertex = r .1; twice = r .2; cell = r .3; crowded = r .4; equal = r .5 }
+    let fine = passes-each solidRules l refl (sym (eqb-true (firstRefusal solidRules l) 0 e)) in
+    record { sign = fine 6; vertex = fine 7; twice = fine 8; cell = fine 9; crowded = fine 10; equal = fine 11 }
 
 pub passes : (l : Listed) → Passed l → acceptable l ≡ true
 unfolding acceptable solidRules
