@@ -51,7 +51,7 @@ not-leb x = go (leb x 1) refl
     go true e = sym (le-ltb 1 x (leb-true x 1 e))
     go false e = sym (lt-ltb 1 x (leb-false x 1 e))
 
-module _ (size d v s : ℕ) (ws : List ℕ) (hz : d + 2 ≤ size) (room : s * size ≤ length ws) where
+module _ (size d v s : ℕ) (ws : List ℕ) (hz : listSize d ≤ size) (room : s * size ≤ length ws) where
   abbrev list : Listed
   list = recordList size d v s ws
 

@@ -7,11 +7,14 @@ use lib.Dec.{eqb}
 use lib.ListN.{length, length-replicate}
 use borrow.Author.Needs.{needs}
 use borrow.Author.Tests.{eqb-true, not-false}
+use Rattle.rules.specs.Calls.{firstRefusal}
 use Rattle.rules.specs.Limits.{maxDimension}
 use Rattle.rules.specs.Numbers.{verdictOf}
 use Rattle.rules.specs.Shapes.{shapeOk}
 use Rattle.rules.proofs.InLimits.{Limits, limits-are}
-use Rattle.records.specs.Layout.{tableLength}
+use Rattle.records.specs.Layout.{recordSize, tableLength}
+use Rattle.solids.specs.Accept.{solidRules}
+use Rattle.tables.specs.Inner.Held.{recordList}
 use Rattle.tables.proofs.SoundCases.{fresh-blank, unsound-outside, unsound-length, unsound-refused, sound-same}
 use Rattle.tables.proofs.sound.is_sound.Statement.{statement}
 use Rattle.tables.proofs.sound.is_sound.Tie as tie
@@ -37,26 +40,31 @@ table-words-requires c κs = let l = limits c in (l .dimension, l .cells)
 returns-2 : tie.Need-returns-2
 returns-2 c = unsound-length _ _ _ _ (inside (search needs)) (cc)
 
-add-take : tie.Need-add-take
-add-take c = let l = limits (search needs) in omega arith
-
-add-take-2 : tie.Need-add-take-2
-add-take-2 c = let l = limits (search needs) in omega arith
+record-size-requires : tie.Need-record-size-requires
+record-size-requires c κs = limits (search needs) .dimension
 
 take-requires : tie.Need-take-requires
 take-requires c κs =
     let l = limits (search needs) in
     let a = start (search needs) .args in
+    let size : tie.After-record-size = search needs in
     let e : length (a .table .now) ≡ tableLength (a .d) (a .s) = eqb-true _ _ (not-false _ (long (search needs))) in (
-      (l .dimension, omega arith, omega arith, l .cells, omega arith),
+      (l .dimension, omega arith, omega arith, l .cells, rw (size .record-size .ensures) (omega arith)),
       (length-replicate {A = ℕ} 32768 0, length-replicate {A = Bool} 4096 false, fresh-blank),
     )
 
+-- what is answered of rows 6 to 11
+answered : (c : tie.After-take) → let a = start (search needs) .args in
+    verdictOf (c .take .result) ≡ firstRefusal solidRules (recordList (recordSize (a .d)) (a .d) (a .v) (a .s) (a .table .now))
+answered c =
+    let a = start (search needs) .args in
+    let size : tie.After-record-size = search needs in
+    c .take .ensures .0 ∙ ap (λ n. firstRefusal solidRules (recordList n (a .d) (a .v) (a .s) (a .table .now))) (size .record-size .ensures)
+
 returns-3 : tie.Need-returns-3
 returns-3 c =
-    let t : tie.After-take = search needs in
     let v = c .enum-told .given in
-    unsound-refused _ _ _ _ (inside (search needs)) (long (search needs)) (v .0 .0) (sym (ap verdictOf (v .1)) ∙ t .take .ensures .0)
+    unsound-refused _ _ _ _ (inside (search needs)) (long (search needs)) (v .0 .0) (sym (ap verdictOf (v .1)) ∙ answered (search needs))
 
 same-requires : tie.Need-same-requires
 same-requires c κs = let l = limits (search needs) in (l .dimension, l .cells, eqb-true _ _ (not-false _ (long (search needs))))
@@ -65,9 +73,10 @@ returns-4 : tie.Need-returns-4
 returns-4 c =
     let t : tie.After-take = search needs in
     let v : tie.After-enum-told2 = search needs in
-    let none = sym (ap verdictOf (v .enum-told2 .given .1)) ∙ t .take .ensures .0 in
+    let size : tie.After-record-size = search needs in
+    let none = sym (ap verdictOf (v .enum-told2 .given .1)) ∙ answered t in
     sound-same _ _ _ _ (inside (search needs)) (long (search needs)) _ _ _ _ none
-    (t .take .ensures .1 (ap verdictOf (v .enum-told2 .given .1))) (c .same .ensures)
+    (rw (size .record-size .ensures) at (t .take .ensures .1 (ap verdictOf (v .enum-told2 .given .1)))) (c .same .ensures)
 
 pub is-sound-spec : {M : Type 1} → statement M
 is-sound-spec =
@@ -78,8 +87,7 @@ is-sound-spec =
     table-words-requires
     (λ c κs. search needs)
     returns-2
-    add-take
-    add-take-2
+    record-size-requires
     take-requires
     (λ c. search needs)
     returns-3
