@@ -1,6 +1,4 @@
 -- `wing` answers `wingOutcome` and leaves `wingBuffer`: each return is a rule's, or what becomes of the list. Assumes nothing.
-use Prim.Native.Nat.{_+_}
-use native.Mathlib.Nat.{mul-le-mul}
 use native.Mathlib.Omega.{arith}
 use borrow.Author.Needs.{needs}
 use borrow.Author.Tests.{eqb-true, not-false}
@@ -21,14 +19,8 @@ returns : tie.Need-returns
 unfolding wingRules
 returns c = refuses _ _ 2 cc
 
-add-differ : tie.Need-add-differ
-add-differ c = let l = limits c in omega arith
-
-mul-differ : tie.Need-mul-differ
-mul-differ c =
-    let l = limits c in
-    let a = start c .args in
-    omega (arith, mul-le-mul {n₁ = a .s} {m₁ = a .d + 2} {n₂ = 4096} {m₂ = 9} (l .cells) (omega arith))
+list-words-requires : tie.Need-list-words-requires
+list-words-requires c κs = let l = limits c in (l .dimension, l .cells)
 
 returns-2 : tie.Need-returns-2
 unfolding wingRules
@@ -48,8 +40,7 @@ wing-spec =
     (tie.spec
     (λ c κs. search needs)
     returns
-    add-differ
-    mul-differ
+    list-words-requires
     (λ c κs. search needs)
     returns-2
     write-table-requires
