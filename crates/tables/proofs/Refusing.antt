@@ -1,4 +1,5 @@
 -- Rows 6, 7 and 8 of a list of records, and its cells in ascending order, as the code holds them.
+--   first-sign, first-vertex, first-twice     what each of them is where it is the first
 use mathlib.Core.Path.{_≡_, refl, sym, ap, _∙_}
 use mathlib.Core.Bool.{Bool, true, false, not, true≢false}
 use mathlib.Core.List.{List, [], map}
@@ -18,7 +19,7 @@ use Rattle.simplex.specs.Order.{ascending, sorted}
 use Rattle.simplex.proofs.Insert.{Each}
 use Rattle.solids.specs.Accept.{Listed, badSign, listedCells, repeats, solidOf, solidRules, vertexBeyond, vertexTwice}
 use Rattle.tables.specs.Inner.Held.{badAt, beyondAt, cellHeld, cellRead, falls, faults, heldCells, recordList}
-use Rattle.records.specs.Layout.{cellOf, listSize}
+use Rattle.records.specs.Layout.{cellOf, listSize, vertexPlace}
 use Rattle.tables.proofs.Adjacent.{held-falls, held-vertex}
 use Rattle.words.proofs.Below.{below-not, some-below, true-unless}
 use Rattle.solids.proofs.Codec.{part-length}
@@ -50,6 +51,20 @@ not-leb x = go (leb x 1) refl
     go : (t : Bool) → leb x 1 ≡ t → not t ≡ ltb 1 x
     go true e = sym (le-ltb 1 x (leb-true x 1 e))
     go false e = sym (lt-ltb 1 x (leb-false x 1 e))
+
+module _ (l : Listed) where
+  pub first-sign : badSign l ≡ true → 6 ≡ firstRefusal solidRules l
+  unfolding solidRules
+  first-sign six = rw six refl
+
+  pub first-vertex : badSign l ≡ false → vertexBeyond (l .v) (listedCells l) ≡ true → 7 ≡ firstRefusal solidRules l
+  unfolding solidRules
+  first-vertex six seven = rw (six, seven) refl
+
+  pub first-twice : badSign l ≡ false → vertexBeyond (l .v) (listedCells l) ≡ false → vertexTwice (listedCells l) ≡ true →
+      8 ≡ firstRefusal solidRules l
+  unfolding solidRules
+  first-twice six seven eight = rw (six, seven, eight) refl
 
 module _ (size d v s : ℕ) (ws : List ℕ) (hz : listSize d ≤ size) (room : s * size ≤ length ws) where
   abbrev list : Listed
@@ -93,7 +108,7 @@ module _ (size d v s : ℕ) (ws : List ℕ) (hz : listSize d ≤ size) (room : s
     row-held p h = ap (λ (c : Cell). c .row) (held p h)
 
     row-long : (p : ℕ) → p < s → length (cellRead size d ws p .row) ≡ suc d
-    row-long p h = omega (arith, length-drop 1 (take (listSize d) (part size p ws)), read-long p h)
+    row-long p h = omega (arith, length-drop (vertexPlace 0) (take (listSize d) (part size p ws)), read-long p h)
 
     -- 7
     pub vertex-beyond : vertexBeyond v (listedCells (recordList size d v s ws)) ≡ anyBelow s (beyondAt d v rows)
