@@ -19,26 +19,36 @@ use Rattle.tables.proofs.SoundCases.{fresh-blank, unsound-outside, unso
 use Rattle.tables.proofs.sound.is_sound.Statement.{statement}
 use Rattle.tables.proofs.sound.is_sound.Tie as tie
 
-abbrev start : tie.Else1 → tie.Start
-start c = c .before .before .before
+abbrev start : tie.After-within → tie.Start
+start c = search needs
 
-inside : (c : tie.Else1) → let a = start c .args in not (shapeOk maxDimension (a .d) (a .v) (a .s)) ≡ false
-inside c = cc
+-- the two tests of the numbers
+outside : (c : tie.After-within) → let a = start c .args in not (shapeOk maxDimension (a .d) (a .v) (a .s)) ≡ not (c .within .result)
+outside c = ap not (sym (c .within .ensures))
 
-limits : (c : tie.Else1) → let a = start c .args in Limits maxDimension (a .d) (a .v) (a .s)
+longer : (c : tie.After-differ) → let a = start (search needs) .args in not (eqb (length (a .table .now)) (tableLength (a .d) (a .s))) ≡ c .differ .result
+longer c =
+    let a = start (search needs) .args in
+    let count : tie.After-table-words = search needs in
+    ap (λ n. not (eqb (length (a .table .now)) n)) (sym (count .table-words .ensures)) ∙ sym (c .differ .ensures)
+
+inside : (c : tie.Else1) → let a = start (c .before) .args in not (shapeOk maxDimension (a .d) (a .v) (a .s)) ≡ false
+inside c = outside (c .before) ∙ c .if1 .left
+
+limits : (c : tie.Else1) → let a = start (c .before) .args in Limits maxDimension (a .d) (a .v) (a .s)
 limits c = limits-are _ _ _ _ (inside c)
 
 long : (c : tie.Else2) → let a = start (search needs) .args in not (eqb (length (a .table .now)) (tableLength (a .d) (a .s))) ≡ false
-long c = cc
+long c = longer (c .before) ∙ c .if2 .left
 
 returns : tie.Need-returns
-returns c = unsound-outside _ _ _ _ (cc)
+returns c = unsound-outside _ _ _ _ (outside (c .before) ∙ c .if1 .taken)
 
 table-words-requires : tie.Need-table-words-requires
 table-words-requires c κs = let l = limits c in (l .dimension, l .cells)
 
 returns-2 : tie.Need-returns-2
-returns-2 c = unsound-length _ _ _ _ (inside (search needs)) (cc)
+returns-2 c = unsound-length _ _ _ _ (inside (search needs)) (longer (c .before) ∙ c .if2 .taken)
 
 record-size-requires : tie.Need-record-size-requires
 record-size-requires c κs = limits (search needs) .dimension

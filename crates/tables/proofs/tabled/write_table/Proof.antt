@@ -47,11 +47,20 @@ none : (c : tie.After-enum-told) → let a = start (search needs) .args in
     0 ≡ firstRefusal solidRules (recordList (listSize (a .d)) (a .d) (a .v) (a .s) (a .cells .now))
 none c = sym (ap verdictOf (c .enum-told .given .1)) ∙ answered (search needs)
 
+-- row 15 is what the code tests
+room : (c : tie.After-less) → let a = start (search needs) .args in ltb (length (a .table .now)) (tableLength (a .d) (a .s)) ≡ c .less .result
+room c =
+    let a = start (search needs) .args in
+    let count : tie.After-table-words = search needs in
+    ap (ltb (length (a .table .now))) (sym (count .table-words .ensures)) ∙ sym (c .less .ensures)
+
 returns-2 : tie.Need-returns-2
-returns-2 c = let s : tie.Start = search needs in no-room _ _ _ _ _ (s .pre .2) (none (search needs)) (cc)
+returns-2 c =
+    let s : tie.Start = search needs in
+    no-room _ _ _ _ _ (s .pre .2) (none (search needs)) (room (c .before) ∙ c .if1 .taken)
 
 fits : (c : tie.Else1) → let a = start (search needs) .args in ltb (length (a .table .now)) (tableLength (a .d) (a .s)) ≡ false
-fits c = cc
+fits c = room (c .before) ∙ c .if1 .left
 
 fill-requires : tie.Need-fill-requires
 fill-requires c κs = (omega arith, omega arith, ltb-false _ _ (fits (search needs)))
