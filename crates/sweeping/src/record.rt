@@ -75,7 +75,8 @@ fn write_cell(
 {
     out[at] = turned(sign(d, s, table, p), k * d);
     write_vertices(d, v, s, h, table, i, p, k, d + 1 - k, at + VERTICES, out);
-    write_vertices(d, v, s, h, table, i + 1, p, 0, k + 1, at + VERTICES + (d + 1 - k), out);
+    let upper = at + VERTICES + (d + 1 - k);
+    write_vertices(d, v, s, h, table, i + 1, p, 0, k + 1, upper, out);
 }
 
 // The side at place l over face a.
@@ -182,6 +183,7 @@ pub fn write_record(
     ensures words { λ r. ⌜ now (out .exit) ≡ placed at (recordWords d v s h (now (table .entry)) i p k) (now (out .entry)) ⌝ }
 {
     write_cell(d, v, s, h, table, i, p, k, at, out);
-    write_wings(d, s, h, i, p, k, firsts, rows, cells, at + first_wing(d + 1), out);
+    let wings = at + first_wing(d + 1);
+    write_wings(d, s, h, i, p, k, firsts, rows, cells, wings, out);
     at + record_size(d + 1)
 }

@@ -23,7 +23,8 @@ pub fn is_sound(d: usize, v: usize, s: usize, table: &[u16]) -> bool
     let mut rows = [0u16; 32768];
     let mut signs = [false; 4096];
     let mut wings = [EMPTY; 32768];
-    let verdict = take(record_size(d), d, v, s, table, &mut rows, &mut signs, &mut wings);
+    let size = record_size(d);
+    let verdict = take(size, d, v, s, table, &mut rows, &mut signs, &mut wings);
     if let Verdict::Refuse(_) = verdict {
         return false;
     }

@@ -25,7 +25,8 @@ pub fn write_table(d: usize, v: usize, s: usize, cells: &[u16], table: &mut [u16
     let mut rows = [0u16; 32768];
     let mut signs = [false; 4096];
     let mut wings = [EMPTY; 32768];
-    let verdict = take(list_size(d), d, v, s, cells, &mut rows, &mut signs, &mut wings);
+    let size = list_size(d);
+    let verdict = take(size, d, v, s, cells, &mut rows, &mut signs, &mut wings);
     if let Verdict::Refuse(why) = verdict {
         return Answer::Refused(why);
     }

@@ -31,7 +31,8 @@ two : (c : tie.After-in-limits) → let a = start c .args in
     not (shapeOk maxSource (a .d) (a .v) (a .s) && stepsOk (a .h)) ≡ not (c .in-limits .result)
 two c = ap not (sym (c .in-limits .ensures))
 
-three : (c : tie.After-differ) → let a = start (search needs) .args in not (eqb (length (a .table .now)) (tableLength (a .d) (a .s))) ≡ c .differ .result
+three : (c : tie.After-differ) → let a = start (search needs) .args in
+    not (eqb (length (a .table .now)) (tableLength (a .d) (a .s))) ≡ c .differ .result
 three c =
     let a = start (search needs) .args in
     let count : tie.After-table-words = search needs in
@@ -41,7 +42,8 @@ twelve : (c : tie.After-too-large) → let a = start (search needs) .args in
     (ltb maxVertices (sweptVertices (a .v) (a .h)) || ltb maxCells (sweptCells (a .d) (a .s) (a .h))) ≡ c .too-large .result
 twelve c = sym (c .too-large .ensures)
 
-fourteen : (c : tie.After-is-sound) → let a = start (search needs) .args in not (sound (a .d) (a .v) (a .s) (a .table .now)) ≡ not (c .is-sound .result)
+fourteen : (c : tie.After-is-sound) → let a = start (search needs) .args in
+    not (sound (a .d) (a .v) (a .s) (a .table .now)) ≡ not (c .is-sound .result)
 fourteen c = ap not (sym (c .is-sound .ensures))
 
 fifteen : (c : tie.After-less) → let a = start (search needs) .args in
@@ -121,7 +123,8 @@ write-swept-requires : tie.Need-write-swept-requires
 write-swept-requires c κs =
     let four : tie.Else4 = search needs in
     let a = start (search needs) .args in
-    let fits = ltb-false (length (a .out .now)) (sweptLength (sweepInput (a .d) (a .v) (a .s) (a .h) (a .table .now) 0)) (fifteen-passes (search needs)) in
+    let count = sweptLength (sweepInput (a .d) (a .v) (a .s) (a .h) (a .table .now) 0) in
+    let fits = ltb-false (length (a .out .now)) count (fifteen-passes (search needs)) in
     (ready four, omega (arith, call-long (a .d) (a .v) (a .s) (a .h) (a .table .now) (ready four .long) 0))
 
 returns-6 : tie.Need-returns-6

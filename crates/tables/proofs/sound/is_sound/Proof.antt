@@ -26,7 +26,8 @@ start c = search needs
 outside : (c : tie.After-within) → let a = start c .args in not (shapeOk maxDimension (a .d) (a .v) (a .s)) ≡ not (c .within .result)
 outside c = ap not (sym (c .within .ensures))
 
-longer : (c : tie.After-differ) → let a = start (search needs) .args in not (eqb (length (a .table .now)) (tableLength (a .d) (a .s))) ≡ c .differ .result
+longer : (c : tie.After-differ) → let a = start (search needs) .args in
+    not (eqb (length (a .table .now)) (tableLength (a .d) (a .s))) ≡ c .differ .result
 longer c =
     let a = start (search needs) .args in
     let count : tie.After-table-words = search needs in

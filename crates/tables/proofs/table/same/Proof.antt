@@ -40,8 +40,8 @@ found c =
     let l = c .before .before in
     let a = l .before .before .before .args in
     c .same-record .ensures
-    ∙ ap (λ (i : ℕ). sameRow (run (recordSize (a .d)) i (a .table .now)) (recordHeld (a .d) (a .rows .now) (a .signs .now) (a .wings .now) (l .loop .p)))
-    (l .loop .inv .1)
+    ∙ ap (λ (i : ℕ). sameRow (run (recordSize (a .d)) i (a .table .now))
+    (recordHeld (a .d) (a .rows .now) (a .signs .now) (a .wings .now) (l .loop .p))) (l .loop .inv .1)
 
 same-record-requires : tie.Need-same-record-requires Inv-loop μ-loop
 same-record-requires c κs = (omega arith, omega arith, fits c)
