@@ -3,7 +3,7 @@
 use mathlib.Core.Path.{_≡_, refl, sym, ap, _∙_}
 use mathlib.Core.Bool.{Bool, true, false, not, true≢false}
 use mathlib.Core.List.{List, [], map}
-use Prim.Native.Nat.{ℕ, zero, suc, _+_, _*_, _≤_, _<_}
+use Prim.Native.Nat.{ℕ, zero, suc, _*_, _≤_, _<_}
 use native.Mathlib.Omega.{arith}
 use native.Mathlib.Nat.{add-zero, not-suc-le-zero, le-of-suc-le-suc}
 use lib.Dec.{leb, ltb}
@@ -13,7 +13,6 @@ use borrow.Author.Tests.{leb-true, leb-false, lt-ltb, le-ltb}
 use Rattle.words.specs.Records.{anyOf, part, tabulate, anyBelow}
 use Rattle.words.proofs.Records.{EachLong, part-concat, tabulate-at, tabulate-ext, tabulate-length, tabulate-map}
 use Rattle.rules.specs.Calls.{firstRefusal}
-use Rattle.rules.specs.Limits.{within}
 use Rattle.simplex.specs.Cell.{Cell, Sign}
 use Rattle.simplex.specs.Order.{ascending, sorted}
 use Rattle.simplex.proofs.Insert.{Each}
