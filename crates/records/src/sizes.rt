@@ -1,11 +1,14 @@
-// How many words there are to a list cell, a table record and a face record, and to whole lists and tables.
+// How many words there are to a list cell, a table record and a face record, and to whole lists and tables; where the
+// vertices and the wings begin.
 ghost use mathlib.Core.Path.{_≡_};
 ghost use Prim.Native.Nat.{_≤_};
 ghost use Rattle.rules.specs.Limits.{maxDimension, maxCells};
-ghost use Rattle.records.specs.Layout.{listSize, recordSize, faceSize, listLength, tableLength};
+ghost use Rattle.records.specs.Layout.{listSize, recordSize, faceSize, wingPlace, listLength, tableLength};
 
 // The wing word for no neighbour.
 pub const EMPTY: u16 = 65535;
+// The place of the first vertex in a list cell and in a table record.
+pub const VERTICES: usize = 1;
 // Words of the largest list of cells, and of the largest table: 4,096 cells of dimension 7.
 pub const LIST_ROOM: usize = 36864;
 
@@ -25,6 +28,14 @@ pub fn record_size(d: usize) -> usize
     ensures { λ r. ⌜ r ≡ recordSize d ⌝ }
 {
     d + d + 3
+}
+
+// The place of the first wing in a table record, which begins with a list cell.
+pub fn first_wing(d: usize) -> usize
+    requires { ⌜ d ≤ maxDimension ⌝ }
+    ensures { λ r. ⌜ r ≡ wingPlace d 0 ⌝ }
+{
+    list_size(d)
 }
 
 // Of a face of a cell of dimension d.

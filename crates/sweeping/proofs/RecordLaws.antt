@@ -1,5 +1,5 @@
 -- The record of a swept cell, word by word.
---   record-long                           it has 2 d + 5 words:
+--   record-long                           it has the words of a table record of dimension d + 1:
 --   word-sign, word-vertex, word-wing     the sign word, d + 2 vertices, d + 2 wings
 --   word-lower, word-upper                its vertices at this level, at the next
 -- Assumes nothing.
@@ -18,7 +18,7 @@ use Rattle.words.proofs.Records.{tabulate-at, tabulate-length}
 use Rattle.simplex.specs.Cell.{Cell, Row, times, alternating}
 use Rattle.simplex.specs.SignWords.{signOf, signWord}
 use Rattle.records.specs.Inner.Inside.{signIn}
-use Rattle.records.specs.Layout.{Entry, recordSize, listSize, tableLength, cellWords}
+use Rattle.records.specs.Layout.{Entry, recordSize, listSize, vertexPlace, wingPlace, tableLength, cellWords}
 use Rattle.solids.specs.Table.{entryAt}
 use Rattle.prism.specs.Cells.{atLevel, lifted, dimension, prismCell}
 use Rattle.prism.specs.Wings.{sweptWing}
@@ -60,7 +60,7 @@ module _ (d v s h : ℕ) (ws : List ℕ) (i p k : ℕ) (long : length ws ≡ tab
   both-long : length (low ++ high) ≡ d + 2
   both-long = omega (arith, length-append low high, low-long, high-long)
 
-  pub record-long : length (recordWords d v s h ws i p k) ≡ d + d + 5
+  pub record-long : length (recordWords d v s h ws i p k) ≡ recordSize (suc d)
   unfolding recordWords
   record-long =
       omega (arith, length-append (low ++ high) wings, both-long, tabulate-length (suc (suc d)) (sweptWing d s h (solidWing d s ws) i p k))
@@ -93,28 +93,28 @@ module _ (d v s h : ℕ) (ws : List ℕ) (i p k : ℕ) (long : length ws ≡ tab
           ∙ map-at (atLevel v (suc i)) (take (suc k) R) m (omega (arith, length-take-le (suc k) R (omega (arith, row-long))))
           ∙ ap (atLevel v (suc i)) (getD-take (suc k) R m 0 (omega arith)))
 
-  pub word-vertex : (j : ℕ) → j ≤ d + 1 → getD (recordWords d v s h ws i p k) (suc j) 0 ≡ sweptVertex d v s ws i p k j
+  pub word-vertex : (j : ℕ) → j ≤ d + 1 → getD (recordWords d v s h ws i p k) (vertexPlace j) 0 ≡ sweptVertex d v s ws i p k j
   unfolding recordWords
-  word-vertex j hj = List·getD-append (low ++ high) wings 0 j (omega (arith, both-long)) ∙ vertex-at j hj
+  word-vertex j hj =
+      ap (λ n. getD (recordWords d v s h ws i p k) n 0) (add-one j)
+      ∙ List·getD-append (low ++ high) wings 0 j (omega (arith, both-long)) ∙ vertex-at j hj
 
-  pub word-wing : (j : ℕ) → j ≤ d + 1 → getD (recordWords d v s h ws i p k) (d + 3 + j) 0 ≡ sweptWing d s h (solidWing d s ws) i p k j
+  pub word-wing : (j : ℕ) → j ≤ d + 1 → getD (recordWords d v s h ws i p k) (wingPlace (suc d) j) 0 ≡ sweptWing d s h (solidWing d s ws) i p k j
   unfolding recordWords
   word-wing j hj =
       let first = cellWords (prismCell v i k here) in
-      let split : d + 3 + j ≡ length first + j = omega (arith, both-long) in
+      let split : wingPlace (suc d) j ≡ length first + j = omega (arith, both-long) in
       ap (λ n. getD (first ++ wings) n 0) split ∙ getD-append-add first wings j 0
       ∙ tabulate-at (suc (suc d)) (sweptWing d s h (solidWing d s ws) i p k) j 0 (omega arith)
 
-  -- places m by j: the lower vertices from 1 on, the upper ones behind them
-  pub word-lower : (m j : ℕ) → m ≡ 1 + j → k + j ≤ d → getD (recordWords d v s h ws i p k) m 0 ≡ liftedFrom d v s ws i p k j
+  -- places m by j: the lower vertices first, the upper ones behind them
+  pub word-lower : (m j : ℕ) → m ≡ vertexPlace j → k + j ≤ d → getD (recordWords d v s h ws i p k) m 0 ≡ liftedFrom d v s ws i p k j
   word-lower m j e low =
-      let at : m ≡ suc j = omega arith in
-      ap (λ n. getD (recordWords d v s h ws i p k) n 0) at ∙ word-vertex j (omega arith) ∙ rw (le-leb (k + j) d low) refl
+      ap (λ n. getD (recordWords d v s h ws i p k) n 0) e ∙ word-vertex j (omega arith) ∙ rw (le-leb (k + j) d low) refl
 
-  pub word-upper : (m j : ℕ) → m ≡ d + 2 - k + j → j ≤ k → getD (recordWords d v s h ws i p k) m 0 ≡ liftedFrom d v s ws (i + 1) p 0 j
+  pub word-upper : (m j : ℕ) → m ≡ vertexPlace (d + 1 - k + j) → j ≤ k → getD (recordWords d v s h ws i p k) m 0 ≡ liftedFrom d v s ws (i + 1) p 0 j
   word-upper m j e low =
       let n = d + 1 - k + j in
-      let at : m ≡ suc n = omega arith in
       let vertex : k + n - suc d ≡ 0 + j = omega arith in
-      ap (λ n. getD (recordWords d v s h ws i p k) n 0) at ∙ word-vertex n (omega arith)
+      ap (λ n. getD (recordWords d v s h ws i p k) n 0) e ∙ word-vertex n (omega arith)
       ∙ rw (lt-leb (k + n) d (omega arith)) (ap₂ (λ l x. atLevel v l (solidVertex d s ws p x)) (sym (add-one i)) vertex)

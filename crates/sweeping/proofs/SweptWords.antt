@@ -58,7 +58,7 @@ module _ (d v s h : ℕ) (ws : List ℕ) where
     prism-long i p hp =
         ap length (prism-is i p)
         ∙ concat-tabulate-length (recordSize (suc d)) (d + 1) (recordWords d v s h ws i p)
-        (λ k l. omega (arith, record-long d v s h ws i p k long hp (omega arith)))
+        (λ k l. record-long d v s h ws i p k long hp (omega arith))
 
     level-long : (i : ℕ) → length (levelWords d v s h ws i) ≡ s * ((d + 1) * recordSize (suc d))
     level-long i =

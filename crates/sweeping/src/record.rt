@@ -1,10 +1,11 @@
 // The record of cell k over cell p at level i, written from place `at` of the lent buffer on.
 ghost use mathlib.Core.Path.{_≡_};
-ghost use Prim.Native.Nat.{_+_, _-_, _<_, _≤_};
+ghost use Prim.Native.Nat.{suc, _+_, _-_, _<_, _≤_};
 ghost use lib.ListN.{length, take, getD};
 ghost use Rattle.rules.specs.Limits.{maxCells, maxVertices, sweptVertices};
 ghost use Rattle.words.specs.Records.{tabulate};
 ghost use Rattle.words.specs.Inner.Placed.{placed};
+ghost use Rattle.records.specs.Layout.{listSize, recordSize};
 ghost use Rattle.prism.specs.Cells.{atLevel};
 ghost use Rattle.prism.specs.Swept.{sweptCells};
 ghost use Rattle.sweeping.specs.Inner.RecordWords.{liftedFrom};
@@ -15,6 +16,9 @@ use crate::reading::vertex;
 use crate::reading::wide;
 use crate::wings::wing_above;
 use crate::wings::wing_below;
+use records::sizes::VERTICES;
+use records::sizes::first_wing;
+use records::sizes::record_size;
 use simplex::sign_words::turned;
 
 // Vertex x at level i.
@@ -66,12 +70,13 @@ fn write_cell(
 )
     requires ready { ⌜ Ready d v s h (now table) ⌝ }
     requires at { ⌜ (i < h) × (p < s) × (k ≤ d) ⌝ }
-    requires room { ⌜ at + (d + d + 5) ≤ length (now out) ⌝ }
-    ensures { λ _. ⌜ now (out .exit) ≡ placed at (take (d + 3) (recordWords d v s h (now (table .entry)) i p k)) (now (out .entry)) ⌝ }
+    requires room { ⌜ at + recordSize (suc d) ≤ length (now out) ⌝ }
+    ensures { λ _. ⌜ now (out .exit) ≡ placed at (take (listSize (suc d)) (recordWords d v s h (now (table .entry)) i p k)) (now (out .entry)) ⌝ }
 {
     out[at] = turned(sign(d, s, table, p), k * d);
-    write_vertices(d, v, s, h, table, i, p, k, d + 1 - k, at + 1, out);
-    write_vertices(d, v, s, h, table, i + 1, p, 0, k + 1, at + d + 2 - k, out);
+    write_vertices(d, v, s, h, table, i, p, k, d + 1 - k, at + VERTICES, out);
+    let upper = at + VERTICES + (d + 1 - k);
+    write_vertices(d, v, s, h, table, i + 1, p, 0, k + 1, upper, out);
 }
 
 // The side at place l over face a.
@@ -178,6 +183,7 @@ pub fn write_record(
     ensures words { λ r. ⌜ now (out .exit) ≡ placed at (recordWords d v s h (now (table .entry)) i p k) (now (out .entry)) ⌝ }
 {
     write_cell(d, v, s, h, table, i, p, k, at, out);
-    write_wings(d, s, h, i, p, k, firsts, rows, cells, at + d + 3, out);
-    at + (d + d + 5)
+    let wings = at + first_wing(d + 1);
+    write_wings(d, s, h, i, p, k, firsts, rows, cells, wings, out);
+    at + record_size(d + 1)
 }

@@ -18,7 +18,7 @@ use Rattle.words.proofs.Records.{EachLong, part-concat, tabulate-at, tabulate-e
 use Rattle.simplex.specs.Cell.{Sign, sameRow}
 use Rattle.tables.specs.Inner.Held.{heldWords, recordHeld, run}
 use Rattle.simplex.specs.SignWords.{signWord}
-use Rattle.records.specs.Layout.{recordSize, tableLength}
+use Rattle.records.specs.Layout.{recordSize, vertexPlace, wingPlace, tableLength}
 use Rattle.solids.proofs.Codec.{part-length}
 use Rattle.matching.proofs.KeptRows.{same-false}
 use Rattle.simplex.proofs.Rows.{same-rows}
@@ -76,16 +76,17 @@ tabulate-split (suc m) n f =
     (tabulate-ext n (λ j. f (suc (m + j))) (λ j. f (suc m + j)) (λ j l. ap f {x = suc (m + j)} {y = suc m + j} (omega arith))))
 
 -- the parts of a record of the table
-run-record : (d at : ℕ) (ws : List ℕ) → run (recordSize d) at ws ≡ getD ws at 0 ∷ (run (d + 1) (at + 1) ws ++ run (d + 1) (at + 1 + (d + 1)) ws)
+run-record : (d at : ℕ) (ws : List ℕ) →
+    run (recordSize d) at ws ≡ getD ws at 0 ∷ (run (d + 1) (at + vertexPlace 0) ws ++ run (d + 1) (at + wingPlace d 0) ws)
 run-record d at ws =
     ap (λ n. run n at ws) {x = recordSize d} {y = suc (d + 1 + (d + 1))} (omega arith)
     ∙ ap₂ {C = List ℕ} (λ x r. x ∷ r) (ap (λ i. getD ws i 0) (add-zero at))
     (tabulate-split (d + 1) (d + 1) (λ j. getD ws (at + suc j) 0)
     ∙ ap₂ {C = List ℕ} (λ a b. a ++ b)
-    (tabulate-ext (d + 1) (λ j. getD ws (at + suc j) 0) (λ j. getD ws (at + 1 + j) 0)
-    (λ j l. ap (λ i. getD ws i 0) {x = at + suc j} {y = at + 1 + j} (omega arith)))
-    (tabulate-ext (d + 1) (λ j. getD ws (at + suc (d + 1 + j)) 0) (λ j. getD ws (at + 1 + (d + 1) + j) 0)
-    (λ j l. ap (λ i. getD ws i 0) {x = at + suc (d + 1 + j)} {y = at + 1 + (d + 1) + j} (omega arith))))
+    (tabulate-ext (d + 1) (λ j. getD ws (at + suc j) 0) (λ j. getD ws (at + vertexPlace 0 + j) 0)
+    (λ j l. ap (λ i. getD ws i 0) {x = at + suc j} {y = at + vertexPlace 0 + j} (omega arith)))
+    (tabulate-ext (d + 1) (λ j. getD ws (at + suc (d + 1 + j)) 0) (λ j. getD ws (at + wingPlace d 0 + j) 0)
+    (λ j l. ap (λ i. getD ws i 0) {x = at + suc (d + 1 + j)} {y = at + wingPlace d 0 + j} (omega arith))))
 
 and-assoc : (a b c : Bool) → (a && (b && c)) ≡ ((a && b) && c)
 and-assoc true b c = refl
@@ -117,14 +118,14 @@ module _ (d : ℕ) (rows : List ℕ) (signs : List Sign) (wings : List ℕ) (p :
 
   -- a record written in its three parts
   module _ (at x : ℕ) (buf one : List ℕ) (room : at + recordSize d ≤ length buf) (ex : x ≡ signWord (getD signs p false))
-      (e : one ≡ placed (at + 1) vertices (set buf at x)) where
+      (e : one ≡ placed (at + vertexPlace 0) vertices (set buf at x)) where
     first : set buf at x ≡ placed at (x ∷ []) buf
     first =
         ap (λ n. set buf n x) (sym (add-zero at))
         ∙ placed-word at 0 x (x ∷ []) buf buf (omega arith) (omega arith) (sym (placed-none at buf)) refl
 
     first-two : one ≡ placed at (x ∷ vertices) buf
-    first-two = e ∙ ap (placed (at + 1) vertices) first ∙ placed-then at (x ∷ []) vertices buf (omega arith)
+    first-two = e ∙ ap (placed (at + vertexPlace 0) vertices) first ∙ placed-then at (x ∷ []) vertices buf (omega arith)
 
     abbrev head-long : length (x ∷ vertices) ≡ 1 + (d + 1)
     head-long = omega (arith, tabulate-length (d + 1) (λ j. getD rows (p * 8 + j) 0))
@@ -132,10 +133,11 @@ module _ (d : ℕ) (rows : List ℕ) (signs : List Sign) (wings : List ℕ) (p :
     pub part-room : length one ≡ length buf
     part-room = ap length first-two ∙ placed-length at (x ∷ vertices) buf (omega (arith, head-long))
 
-    pub record-placed : (two : List ℕ) → two ≡ placed (at + 1 + (d + 1)) neighbours one → two ≡ placed at (recordHeld d rows signs wings p) buf
+    pub record-placed : (w : ℕ) (two : List ℕ) → w ≡ wingPlace d 0 → two ≡ placed (at + w) neighbours one →
+        two ≡ placed at (recordHeld d rows signs wings p) buf
     unfolding recordHeld
-    record-placed two e2 =
-        e2 ∙ ap₂ {C = List ℕ} (λ n l. placed n neighbours l) {x = at + 1 + (d + 1)}
+    record-placed w two ew e2 =
+        e2 ∙ ap₂ {C = List ℕ} (λ n l. placed n neighbours l) {x = at + w}
         {y = at + length (x ∷ vertices)} (omega (arith, head-long)) first-two
         ∙ placed-then at (x ∷ vertices) neighbours buf (omega (arith, head-long))
         ∙ ap (λ n. placed at (n ∷ (vertices ++ neighbours)) buf) ex
@@ -143,13 +145,13 @@ module _ (d : ℕ) (rows : List ℕ) (signs : List Sign) (wings : List ℕ) (p :
   -- a record compared in its three parts
   pub record-same : (at : ℕ) (ws : List ℕ) → sameRow (run (recordSize d) at ws) (recordHeld d rows signs wings p)
       ≡ (eqb (getD ws at 0) (signWord (getD signs p false))
-      && (sameRow (run (d + 1) (at + 1) ws) vertices && sameRow (run (d + 1) (at + 1 + (d + 1)) ws) neighbours))
+      && (sameRow (run (d + 1) (at + vertexPlace 0) ws) vertices && sameRow (run (d + 1) (at + wingPlace d 0) ws) neighbours))
   unfolding recordHeld
   record-same at ws =
       ap (λ (t : List ℕ). sameRow t (signWord (getD signs p false) ∷ (vertices ++ neighbours))) (run-record d at ws)
       ∙ ap (λ t. eqb (getD ws at 0) (signWord (getD signs p false)) && t)
-      (same-append (run (d + 1) (at + 1) ws) vertices (run (d + 1) (at + 1 + (d + 1)) ws) neighbours
-      (tabulate-length (d + 1) (λ j. getD ws (at + 1 + j) 0) ∙ sym (tabulate-length (d + 1) (λ j. getD rows (p * 8 + j) 0))))
+      (same-append (run (d + 1) (at + vertexPlace 0) ws) vertices (run (d + 1) (at + wingPlace d 0) ws) neighbours
+      (tabulate-length (d + 1) (λ j. getD ws (at + vertexPlace 0 + j) 0) ∙ sym (tabulate-length (d + 1) (λ j. getD rows (p * 8 + j) 0))))
 
 -- record p of s ends within them; the next one begins there
 pub record-fits : (n p s : ℕ) → p < s → p * n + n ≤ s * n

@@ -1,8 +1,9 @@
 -- Rows 6, 7 and 8 of a list of records, and its cells in ascending order, as the code holds them.
+--   first-sign, first-vertex, first-twice     what each of them is where it is the first
 use mathlib.Core.Path.{_≡_, refl, sym, ap, _∙_}
 use mathlib.Core.Bool.{Bool, true, false, not, true≢false}
 use mathlib.Core.List.{List, [], map}
-use Prim.Native.Nat.{ℕ, zero, suc, _+_, _*_, _≤_, _<_}
+use Prim.Native.Nat.{ℕ, zero, suc, _*_, _≤_, _<_}
 use native.Mathlib.Omega.{arith}
 use native.Mathlib.Nat.{add-zero, not-suc-le-zero, le-of-suc-le-suc}
 use lib.Dec.{leb, ltb}
@@ -12,13 +13,12 @@ use borrow.Author.Tests.{leb-true, leb-false, lt-ltb, le-ltb}
 use Rattle.words.specs.Records.{anyOf, part, tabulate, anyBelow}
 use Rattle.words.proofs.Records.{EachLong, part-concat, tabulate-at, tabulate-ext, tabulate-length, tabulate-map}
 use Rattle.rules.specs.Calls.{firstRefusal}
-use Rattle.rules.specs.Limits.{within}
 use Rattle.simplex.specs.Cell.{Cell, Sign}
 use Rattle.simplex.specs.Order.{ascending, sorted}
 use Rattle.simplex.proofs.Insert.{Each}
 use Rattle.solids.specs.Accept.{Listed, badSign, listedCells, repeats, solidOf, solidRules, vertexBeyond, vertexTwice}
 use Rattle.tables.specs.Inner.Held.{badAt, beyondAt, cellHeld, cellRead, falls, faults, heldCells, recordList}
-use Rattle.records.specs.Layout.{cellOf, listSize}
+use Rattle.records.specs.Layout.{cellOf, listSize, vertexPlace}
 use Rattle.tables.proofs.Adjacent.{held-falls, held-vertex}
 use Rattle.words.proofs.Below.{below-not, some-below, true-unless}
 use Rattle.solids.proofs.Codec.{part-length}
@@ -51,7 +51,21 @@ not-leb x = go (leb x 1) refl
     go true e = sym (le-ltb 1 x (leb-true x 1 e))
     go false e = sym (lt-ltb 1 x (leb-false x 1 e))
 
-module _ (size d v s : ℕ) (ws : List ℕ) (hz : d + 2 ≤ size) (room : s * size ≤ length ws) where
+module _ (l : Listed) where
+  pub first-sign : badSign l ≡ true → 6 ≡ firstRefusal solidRules l
+  unfolding solidRules
+  first-sign six = rw six refl
+
+  pub first-vertex : badSign l ≡ false → vertexBeyond (l .v) (listedCells l) ≡ true → 7 ≡ firstRefusal solidRules l
+  unfolding solidRules
+  first-vertex six seven = rw (six, seven) refl
+
+  pub first-twice : badSign l ≡ false → vertexBeyond (l .v) (listedCells l) ≡ false → vertexTwice (listedCells l) ≡ true →
+      8 ≡ firstRefusal solidRules l
+  unfolding solidRules
+  first-twice six seven eight = rw (six, seven, eight) refl
+
+module _ (size d v s : ℕ) (ws : List ℕ) (hz : listSize d ≤ size) (room : s * size ≤ length ws) where
   abbrev list : Listed
   list = recordList size d v s ws
 
@@ -93,7 +107,7 @@ module _ (size d v s : ℕ) (ws : List ℕ) (hz : d + 2 ≤ size) (room : s * si
     row-held p h = ap (λ (c : Cell). c .row) (held p h)
 
     row-long : (p : ℕ) → p < s → length (cellRead size d ws p .row) ≡ suc d
-    row-long p h = omega (arith, length-drop 1 (take (listSize d) (part size p ws)), read-long p h)
+    row-long p h = omega (arith, length-drop (vertexPlace 0) (take (listSize d) (part size p ws)), read-long p h)
 
     -- 7
     pub vertex-beyond : vertexBeyond v (listedCells (recordList size d v s ws)) ≡ anyBelow s (beyondAt d v rows)

@@ -2,7 +2,7 @@
 use mathlib.Core.Path.{_≡_, refl, sym, ap, _∙_}
 use mathlib.Core.Bool.{Bool, true, false, not}
 use mathlib.Core.List.{List}
-use Prim.Native.Nat.{ℕ, _≤_}
+use Prim.Native.Nat.{ℕ}
 use native.Mathlib.Omega.{arith}
 use lib.Dec.{eqb}
 use lib.ListN.{length, replicate, length-replicate, getD-replicate}
@@ -13,7 +13,7 @@ use Rattle.rules.specs.Shapes.{shapeOk}
 use Rattle.simplex.specs.Cell.{Sign, sameRow}
 use Rattle.solids.specs.Accept.{acceptable, solidRules}
 use Rattle.tables.specs.Inner.Held.{Blank, Taken, heldWords, recordList}
-use Rattle.records.specs.Layout.{recordSize, tableLength}
+use Rattle.records.specs.Layout.{empty, recordSize, tableLength}
 use Rattle.solids.specs.Table.{ownTable, sound}
 use Rattle.rules.specs.Numbers.{numberOf}
 use Rattle.rules.specs.declared.refusal.Refusal.{Refusal}
@@ -21,8 +21,8 @@ use Rattle.rules.proofs.Answers.{numberOf-range}
 use Rattle.rules.proofs.InLimits.{limits-are}
 use Rattle.tables.proofs.Taking.{taken-table}
 
-pub fresh-blank : Blank (replicate 32768 65535)
-fresh-blank = (length-replicate {A = ℕ} 32768 65535, λ g h. getD-replicate {A = ℕ} 32768 g 65535 0 h)
+pub fresh-blank : Blank (replicate 32768 empty)
+fresh-blank = (length-replicate {A = ℕ} 32768 empty, λ g h. getD-replicate {A = ℕ} 32768 g empty 0 h)
 
 module _ (d v s : ℕ) (ws : List ℕ) where
   pub unsound-outside : not (shapeOk maxDimension d v s) ≡ true → false ≡ sound d v s ws

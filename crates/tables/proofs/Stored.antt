@@ -7,7 +7,7 @@ use native.Mathlib.Omega.{arith}
 use native.Mathlib.Nat.{add-zero, ne-of-lt}
 use lib.ListN.{length, take, drop, getD, set, replicate, length-set, length-append, length-drop, List·getD-append}
 use lib.Seq.{paste, length-paste, length-take-le, take-at, drop-at, take-take, drop-drop, getD-take, getD-drop, getD-set-same, getD-set-other}
-use lib.Seq.{ext-getD}
+use lib.Seq.{ext-getD, take-nil}
 use Rattle.words.specs.Records.{part}
 use Rattle.simplex.specs.Cell.{Sign, cell, times}
 use Rattle.simplex.specs.Order.{orientation, sorted}
@@ -17,6 +17,7 @@ use Rattle.simplex.proofs.Sorting.{sorted-length}
 use Rattle.tables.specs.Inner.Held.{Gathered, cellRead, rowOfEight}
 use Rattle.tables.proofs.Reading.{eight-front, eight-long, eight-rest}
 use Rattle.simplex.specs.SignWords.{signOf}
+use Rattle.records.specs.Layout.{listSize, vertexPlace}
 
 -- two lists with one record p
 pub part-same : (n p : ℕ) (X Y : List ℕ) → p * n + n ≤ length X → length X ≡ length Y →
@@ -30,24 +31,25 @@ part-same n p X Y h e same = ext-getD 0 (part n p X) (part n p Y) (long X h ∙ 
     word : (Z : List ℕ) (i : ℕ) → i < n → getD (part n p Z) i 0 ≡ getD Z (p * n + i) 0
     word Z i l = getD-take n (drop (p * n) Z) i 0 l ∙ getD-drop (p * n) Z i 0
 
-drop-take : (n : ℕ) (l : List ℕ) → drop 1 (take (suc n) l) ≡ take n (drop 1 l)
-drop-take zero [] = refl
-drop-take (suc n) [] = refl
-drop-take n (x ∷ l) = refl
+drop-take : (m n k : ℕ) (l : List ℕ) → k ≡ m + n → drop m (take k l) ≡ take n (drop m l)
+drop-take zero n k l e = ap (λ i. take i l) {x = k} {y = n} (omega arith)
+drop-take (suc m) n zero l e = absurd (omega arith)
+drop-take (suc m) n (suc k) [] e = sym (take-nil n)
+drop-take (suc m) n (suc k) (x ∷ l) e = drop-take m n k l (omega arith)
 
 -- the sign word and the vertices of record p
-module _ (size d p : ℕ) (ws : List ℕ) (hd : d + 2 ≤ size) where
+module _ (size d p : ℕ) (ws : List ℕ) (hd : listSize d ≤ size) where
   pub read-sign : cellRead size d ws p .sign ≡ signOf (getD ws (p * size) 0)
   read-sign =
       ap signOf
-      (getD-take (d + 2) (part size p ws) 0 0 (omega arith) ∙ getD-take size (drop (p * size) ws) 0 0 (omega arith)
+      (getD-take (listSize d) (part size p ws) 0 0 (omega arith) ∙ getD-take size (drop (p * size) ws) 0 0 (omega arith)
       ∙ getD-drop (p * size) ws 0 0 ∙ ap (λ i. getD ws i 0) (add-zero (p * size)))
 
-  pub read-row : cellRead size d ws p .row ≡ take (suc d) (drop (p * size + 1) ws)
+  pub read-row : cellRead size d ws p .row ≡ take (suc d) (drop (p * size + vertexPlace 0) ws)
   read-row =
-      ap (drop 1) (take-take (d + 2) size (drop (p * size) ws) hd)
-      ∙ ap (λ n. drop 1 (take n (drop (p * size) ws))) {x = d + 2} {y = suc (suc d)} (omega arith)
-      ∙ drop-take (suc d) (drop (p * size) ws) ∙ ap (take (suc d)) (drop-drop 1 (p * size) ws)
+      ap (drop (vertexPlace 0)) (take-take (listSize d) size (drop (p * size) ws) hd)
+      ∙ drop-take (vertexPlace 0) (suc d) (listSize d) (drop (p * size) ws) (omega arith)
+      ∙ ap (take (suc d)) (drop-drop (vertexPlace 0) (p * size) ws)
 
 module _ (rows row : List ℕ) (p : ℕ) (hp : p < 4096) (wide : length rows ≡ 32768) (eight : length row ≡ 8) where
   pub paste-wide : length (paste rows (p * 8) row 8) ≡ 32768
@@ -96,8 +98,8 @@ module _ (d : ℕ) (row : List ℕ) (hd : d ≤ 7) (eight : length row ≡ 8) wh
 
 -- what storing a cell leaves
 pub gathered : (size d p : ℕ) (ws rows : List ℕ) (signs : List Sign) (row new rows′ : List ℕ) (signs′ : List Sign) (n at : ℕ) (odd t : Bool) →
-    d ≤ 7 → d + 2 ≤ size → p < 4096 → length rows ≡ 32768 → length signs ≡ 4096 →
-    n ≡ suc d → at ≡ p * size + 1 → at + n ≤ length ws → row ≡ rowOfEight (take n (drop at ws)) →
+    d ≤ 7 → listSize d ≤ size → p < 4096 → length rows ≡ 32768 → length signs ≡ 4096 →
+    n ≡ suc d → at ≡ p * size + vertexPlace 0 → at + n ≤ length ws → row ≡ rowOfEight (take n (drop at ws)) →
     new ≡ rowSorted n row → odd ≡ rowOdd n row → t ≡ times (not odd) (signOf (getD ws (p * size) 0)) →
     rows′ ≡ paste rows (p * 8) new 8 → signs′ ≡ set signs p t →
     Gathered size d p ws rows signs rows′ signs′

@@ -1,6 +1,7 @@
 // Cells from words: each row in ascending order, eight words a cell, and its sign; and the tests of rows 6, 7 and 8.
 // A record has size words: a sign word, d + 1 vertices, and perhaps more.
 use crate::adjacency::wide;
+use records::sizes::VERTICES;
 use simplex::sign_words::product;
 use simplex::sort::sort_row;
 ghost use mathlib.Core.Path.{_≡_};
@@ -8,7 +9,9 @@ ghost use Prim.Native.Nat.{ℕ, _+_, _*_, _<_, _≤_};
 ghost use lib.ListN.{length, take, drop};
 ghost use lib.Seq.{paste};
 ghost use Rattle.words.specs.Records.{anyBelow};
+ghost use Rattle.rules.specs.Limits.{maxDimension};
 ghost use Rattle.simplex.specs.Order.{ascending};
+ghost use Rattle.records.specs.Layout.{listSize, recordSize};
 ghost use Rattle.tables.specs.Inner.Held.{rowOfEight, Gathered, cellHeld, cellRead, badAt, beyondAt, fallsAt, falls};
 
 // The first n words from at, as a row of eight: the places behind them are 0. There are always eight turns, which
@@ -49,12 +52,12 @@ fn gather_cell(
     rows: &mut [u16; 32768],
     signs: &mut [bool; 4096],
 )
-    requires { ⌜ (d ≤ 7) × (d + 2 ≤ size) × (size ≤ 17) × (p < 4096) × (p * size + size ≤ length (now words)) ⌝ }
+    requires { ⌜ (d ≤ 7) × (listSize d ≤ size) × (size ≤ recordSize maxDimension) × (p < 4096) × (p * size + size ≤ length (now words)) ⌝ }
     requires { ⌜ (length (now rows) ≡ 32768) × (length (now signs) ≡ 4096) ⌝ }
     ensures { λ _. ⌜ Gathered size d p (now (words .entry)) (now (rows .entry)) (now (signs .entry)) (now (rows .exit)) (now (signs .exit)) ⌝ }
 {
     let at = p * size;
-    let sorted = sort_row(read_row(d + 1, at + 1, words), d + 1);
+    let sorted = sort_row(read_row(d + 1, at + VERTICES, words), d + 1);
     let row = sorted.row;
     signs[p] = product(!sorted.odd, words[at] == 0);
     store_row(row, p, rows);
@@ -69,7 +72,7 @@ pub fn gather(
     rows: &mut [u16; 32768],
     signs: &mut [bool; 4096],
 )
-    requires { ⌜ (d ≤ 7) × (d + 2 ≤ size) × (size ≤ 17) × (s ≤ 4096) × (s * size ≤ length (now words)) ⌝ }
+    requires { ⌜ (d ≤ 7) × (listSize d ≤ size) × (size ≤ recordSize maxDimension) × (s ≤ 4096) × (s * size ≤ length (now words)) ⌝ }
     requires { ⌜ (length (now rows) ≡ 32768) × (length (now signs) ≡ 4096) ⌝ }
     ensures { λ _. ⌜ (length (now (rows .exit)) ≡ 32768) × (length (now (signs .exit)) ≡ 4096) ⌝ }
     ensures { λ _. ⌜ ((p : ℕ) → p < s → cellHeld d (now (rows .exit)) (now (signs .exit)) p ≡ ascending (cellRead size d (now (words .entry)) p)) ⌝ }
@@ -83,7 +86,7 @@ pub fn gather(
 
 // 6: whether a sign word is neither 0 nor 1.
 pub fn bad_sign(size: usize, s: usize, words: &[u16]) -> bool
-    requires { ⌜ (s ≤ 4096) × (1 ≤ size) × (size ≤ 17) × (s * size ≤ length (now words)) ⌝ }
+    requires { ⌜ (s ≤ 4096) × (1 ≤ size) × (size ≤ recordSize maxDimension) × (s * size ≤ length (now words)) ⌝ }
     ensures { λ r. ⌜ r ≡ anyBelow s (badAt size (now (words .entry))) ⌝ }
 {
     let mut p: usize = 0;

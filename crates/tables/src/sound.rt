@@ -1,6 +1,8 @@
 // Whether a table is sound: it is the table of its own cells, and those are acceptable.
 use crate::table::same;
 use crate::take::take;
+use records::sizes::EMPTY;
+use records::sizes::record_size;
 use records::sizes::table_words;
 use rules::compare::differ;
 use rules::limits::Shape;
@@ -20,8 +22,9 @@ pub fn is_sound(d: usize, v: usize, s: usize, table: &[u16]) -> bool
     }
     let mut rows = [0u16; 32768];
     let mut signs = [false; 4096];
-    let mut wings = [65535u16; 32768];
-    let verdict = take(d + d + 3, d, v, s, table, &mut rows, &mut signs, &mut wings);
+    let mut wings = [EMPTY; 32768];
+    let size = record_size(d);
+    let verdict = take(size, d, v, s, table, &mut rows, &mut signs, &mut wings);
     if let Verdict::Refuse(_) = verdict {
         return false;
     }

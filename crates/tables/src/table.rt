@@ -6,6 +6,9 @@ ghost use Rattle.words.specs.Inner.Placed.{placed};
 ghost use Rattle.simplex.specs.Cell.{sameRow};
 ghost use Rattle.records.specs.Layout.{recordSize, tableLength};
 ghost use Rattle.tables.specs.Inner.Held.{run, recordHeld, heldWords};
+use records::sizes::VERTICES;
+use records::sizes::first_wing;
+use records::sizes::record_size;
 use simplex::sign_words::sign_word;
 
 // Writes n of the words, from place `from` on, to place `to` of the table and on. There are always eight turns, which
@@ -39,8 +42,8 @@ fn write_record(
 {
     let k = d + 1;
     table[at] = sign_word(signs[p]);
-    copy_run(k, p * 8, rows, at + 1, table);
-    copy_run(k, p * k, wings, at + 1 + k, table);
+    copy_run(k, p * 8, rows, at + VERTICES, table);
+    copy_run(k, p * k, wings, at + first_wing(d), table);
 }
 
 // Writes the table of s cells from the start, and no further.
@@ -56,11 +59,12 @@ pub fn fill(
     ensures { λ _. ⌜ now (table .exit)
         ≡ placed 0 (heldWords d s (now (rows .entry)) (now (signs .entry)) (now (wings .entry))) (now (table .entry)) ⌝ }
 {
+    let size = record_size(d);
     let mut at: usize = 0;
     let mut p: usize = 0;
     while p < s {
         write_record(d, p, at, rows, signs, wings, table);
-        at += d + d + 3;
+        at += size;
         p += 1;
     }
 }
@@ -98,8 +102,8 @@ fn same_record(
     if table[at] != sign_word(signs[p]) {
         return false;
     }
-    if same_run(k, p * 8, rows, at + 1, table) {
-        return same_run(k, p * k, wings, at + 1 + k, table);
+    if same_run(k, p * 8, rows, at + VERTICES, table) {
+        return same_run(k, p * k, wings, at + first_wing(d), table);
     }
     false
 }
@@ -116,13 +120,14 @@ pub fn same(
     requires { ⌜ (d ≤ 7) × (s ≤ 4096) × (length (now table) ≡ tableLength d s) ⌝ }
     ensures { λ r. ⌜ r ≡ sameRow (now (table .entry)) (heldWords d s (now (rows .entry)) (now (signs .entry)) (now (wings .entry))) ⌝ }
 {
+    let size = record_size(d);
     let mut at: usize = 0;
     let mut p: usize = 0;
     while p < s {
         if !same_record(d, p, at, rows, signs, wings, table) {
             return false;
         }
-        at += d + d + 3;
+        at += size;
         p += 1;
     }
     true

@@ -1,6 +1,8 @@
 // The table of a list of cells, written into lent words.
 use crate::table::fill;
 use crate::take::take;
+use records::sizes::EMPTY;
+use records::sizes::list_size;
 use records::sizes::table_words;
 use rules::compare::less;
 use rules::refusal::Answer;
@@ -22,8 +24,9 @@ pub fn write_table(d: usize, v: usize, s: usize, cells: &[u16], table: &mut [u16
 {
     let mut rows = [0u16; 32768];
     let mut signs = [false; 4096];
-    let mut wings = [65535u16; 32768];
-    let verdict = take(d + 2, d, v, s, cells, &mut rows, &mut signs, &mut wings);
+    let mut wings = [EMPTY; 32768];
+    let size = list_size(d);
+    let verdict = take(size, d, v, s, cells, &mut rows, &mut signs, &mut wings);
     if let Verdict::Refuse(why) = verdict {
         return Answer::Refused(why);
     }

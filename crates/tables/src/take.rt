@@ -7,10 +7,12 @@ use crate::gather::gather;
 use rules::refusal::Refusal;
 use rules::refusal::Verdict;
 ghost use mathlib.Core.Path.{_≡_};
-ghost use Prim.Native.Nat.{_+_, _*_, _≤_};
+ghost use Prim.Native.Nat.{_*_, _≤_};
 ghost use lib.ListN.{length};
 ghost use Rattle.rules.specs.Calls.{firstRefusal};
+ghost use Rattle.rules.specs.Limits.{maxDimension};
 ghost use Rattle.rules.specs.Numbers.{verdictOf};
+ghost use Rattle.records.specs.Layout.{listSize, recordSize};
 ghost use Rattle.solids.specs.Accept.{solidRules};
 ghost use Rattle.tables.specs.Inner.Held.{recordList, Blank, Taken};
 
@@ -25,7 +27,7 @@ pub fn take(
     signs: &mut [bool; 4096],
     wings: &mut [u16; 32768],
 ) -> Verdict
-    requires { ⌜ (d ≤ 7) × (d + 2 ≤ size) × (size ≤ 17) × (s ≤ 4096) × (s * size ≤ length (now words)) ⌝ }
+    requires { ⌜ (d ≤ 7) × (listSize d ≤ size) × (size ≤ recordSize maxDimension) × (s ≤ 4096) × (s * size ≤ length (now words)) ⌝ }
     requires { ⌜ (length (now rows) ≡ 32768) × (length (now signs) ≡ 4096) × Blank (now wings) ⌝ }
     ensures number { λ r. ⌜ verdictOf r ≡ firstRefusal solidRules (recordList size d v s (now (words .entry))) ⌝ }
     ensures taken { λ r. ⌜ (verdictOf r ≡ 0 →

@@ -1,4 +1,5 @@
 // The call wing: it takes a list of cells and writes its table.
+use records::sizes::list_words;
 use rules::compare::differ;
 use rules::limits::Shape;
 use rules::refusal::Answer;
@@ -19,7 +20,7 @@ pub fn wing(d: usize, v: usize, s: usize, cells: &[u16], table: &mut [u16]) -> A
     if !Shape::within(Shape::MAX_DIMENSION, d, v, s) {
         return Answer::Refused(Refusal::OutsideLimits);
     }
-    if differ(cells.len(), s * (d + 2)) {
+    if differ(cells.len(), list_words(d, s)) {
         return Answer::Refused(Refusal::WrongLength);
     }
     write_table(d, v, s, cells, table)

@@ -13,28 +13,31 @@ use Rattle.sweeping.proofs.wings.face_first.Tie as tie
 abbrev wingHere : tie.Start → ℕ
 wingHere c = solidWing (c .args .d) (c .args .s) (c .args .table .now) (c .args .p) (c .args .a)
 
-full : (c : tie.Else1) → wingHere (c .before .before .before) ≡ empty → ⊥
+full : (c : tie.Else1) → wingHere (search needs) ≡ empty → ⊥
 full c e = c .if1 .left (c .before .wing .ensures ∙ e)
 
+abbrev start : tie.After-wide → tie.Start
+start c = search needs
+
 -- the cell across
-across : (c : tie.After-wide) → c .wide .result ≡ wingHere (c .before .before .before .before)
+across : (c : tie.After-wide) → c .wide .result ≡ wingHere (start c)
 across c = c .wide .ensures ∙ c .before .before .wing .ensures
 
-low : (c : tie.After-wide) → c .wide .result < c .before .before .before .before .args .s
+low : (c : tie.After-wide) → c .wide .result < start c .args .s
 low c =
-    let start = c .before .before .before .before in
-    omega (arith, across c, start .pre .0 .across _ _ (start .pre .1 .1) (start .pre .1 .2) (full (c .before)))
+    let s = start c in
+    omega (arith, across c, s .pre .0 .across _ _ (s .pre .1 .1) (s .pre .1 .2) (full (c .before)))
 
 returns : tie.Need-returns
 returns c = rw (eq-eqb _ _ (sym (c .before .wing .ensures) ∙ c .if1 .taken)) refl
 
 cell-number-requires : tie.Need-cell-number-requires
-cell-number-requires c κs = let start = c .before .before .before .before in (start .pre .0 .cells, start .pre .1 .0, low c, omega arith)
+cell-number-requires c κs = let s = start c in (s .pre .0 .cells, s .pre .1 .0, low c, omega arith)
 
 returns-2 : tie.Need-returns-2
 returns-2 c =
     let wide = c .before .before in
-    let a = wide .before .before .before .before .args in
+    let a = start wide .args in
     rw (ne-eqb _ _ (full (wide .before)))
     (c .wide2 .ensures ∙ c .before .cell-number .ensures ∙ ap (λ (q : ℕ). cellNumber (a .d) (a .s) (a .i) q 0) (across wide))
 

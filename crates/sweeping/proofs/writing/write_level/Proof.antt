@@ -34,8 +34,8 @@ loop-holds c = (omega arith, omega arith, omega arith, sym (placed-none _ _))
 
 write-prism-requires : tie.Need-write-prism-requires Inv-loop μ-loop
 write-prism-requires c κs =
-    let at = c .before .before in
-    let start = at .before .before .before in
+    let start : tie.Start Inv-loop μ-loop = search needs in
+    let at : tie.At-loop Inv-loop μ-loop = search needs in
     let a = start .args in (
       start .pre .0,
       (
@@ -55,10 +55,10 @@ write-prism-requires c κs =
 
 loop-again : tie.Need-loop-again Inv-loop μ-loop
 loop-again c =
-    let at = c .before .before .before .before .before in
-    let start = at .before .before .before in
+    let start : tie.Start Inv-loop μ-loop = search needs in
+    let at : tie.At-loop Inv-loop μ-loop = search needs in
     let a = start .args in
-    let call = c .before .before .write-prism in
+    let call = (let done : tie.After-write-prism Inv-loop μ-loop = search needs in done .write-prism) in
     let more =
     placed-record (a .s) (a .at) _ _ _ (prismWords (a .d) (a .v) (a .s) (a .h) _ (a .i)) (a .out .now) _ _ (omega arith) (room start)
     (at .loop .inv .1) (at .loop .inv .3) (call .ensures .0) (call .ensures .1) in
@@ -66,8 +66,9 @@ loop-again c =
 
 returns : tie.Need-returns Inv-loop μ-loop
 returns c =
+    let start : tie.Start Inv-loop μ-loop = search needs in
     let at = c .before in
-    let a = at .before .before .before .args in
+    let a = start .args in
     let all : at .loop .p ≡ a .s = omega arith in
     let words = ap (λ (m : ℕ). concat (tabulate m (prismWords (a .d) (a .v) (a .s) (a .h) (a .table .now) (a .i)))) all
     ∙ sym (level-is _ _ _ _ _ _) in

@@ -34,14 +34,17 @@ loop-holds c = (omega arith, omega arith, omega arith, sym (placed-none _ _))
 
 write-record-requires : tie.Need-write-record-requires Inv-loop μ-loop
 write-record-requires c κs =
-    let at = c .before .before .before .before in
-    let start = at .before .before .before .before .before .before .before in
+    let start : tie.Start Inv-loop μ-loop = search needs in
+    let firsts : tie.After-face-firsts Inv-loop μ-loop = search needs in
+    let rows : tie.After-face-rows Inv-loop μ-loop = search needs in
+    let at : tie.At-loop Inv-loop μ-loop = search needs in
+    let turn : tie.In-loop Inv-loop μ-loop = search needs in
     let a = start .args in (
       start .pre .0,
       (
-        (start .pre .1 .1 .0 .0, start .pre .1 .1 .0 .1, c .before .before .before .loop-test .taken),
+        (start .pre .1 .1 .0 .0, start .pre .1 .1 .0 .1, turn .loop-test .taken),
         (
-          record { first = at .before .before .before .face-firsts .ensures; row = at .before .face-rows .ensures; cell = start .pre .1 .0 },
+          record { first = firsts .face-firsts .ensures; row = rows .face-rows .ensures; cell = start .pre .1 .0 },
           omega (
             arith,
             room start,
@@ -55,20 +58,22 @@ write-record-requires c κs =
 
 loop-again : tie.Need-loop-again Inv-loop μ-loop
 loop-again c =
-    let at = c .before .before .before .before .before .before .before in
-    let start = at .before .before .before .before .before .before .before in
+    let start : tie.Start Inv-loop μ-loop = search needs in
+    let at : tie.At-loop Inv-loop μ-loop = search needs in
+    let turn : tie.In-loop Inv-loop μ-loop = search needs in
+    let call = (let done : tie.After-write-record Inv-loop μ-loop = search needs in done .write-record) in
     let a = start .args in
-    let call = c .before .before .write-record in
     let more =
     placed-record (a .d + 1) _ _ _ _ (recordWords _ _ _ _ _ _ _) _ _ _
-    (omega (arith, c .before .before .before .before .before .before .loop-test .taken))
+    (omega (arith, turn .loop-test .taken))
     (room start) (at .loop .inv .1) (at .loop .inv .3) (call .ensures .0) (call .ensures .1) in
-    (omega (arith, c .before .before .before .before .before .before .loop-test .taken), more .place, more .long, more .words)
+    (omega (arith, turn .loop-test .taken), more .place, more .long, more .words)
 
 returns : tie.Need-returns Inv-loop μ-loop
 returns c =
+    let start : tie.Start Inv-loop μ-loop = search needs in
     let at = c .before in
-    let a = at .before .before .before .before .before .before .before .args in
+    let a = start .args in
     let all : at .loop .k ≡ a .d + 1 = omega arith in
     let words = ap (λ (m : ℕ). concat (tabulate m (recordWords (a .d) (a .v) (a .s) (a .h) (a .table .now) (a .i) (a .p)))) all
     ∙ sym (prism-is _ _ _ _ _ _ _) in

@@ -33,8 +33,8 @@ loop-holds c = (omega arith, omega arith, omega arith, sym (placed-none (0) _))
 
 write-level-requires : tie.Need-write-level-requires Inv-loop μ-loop
 write-level-requires c κs =
-    let at = c .before .before .before in
-    let start = at .before .before .before .before in
+    let start : tie.Start Inv-loop μ-loop = search needs in
+    let at : tie.At-loop Inv-loop μ-loop = search needs in
     let a = start .args in (
       start .pre .0,
       (
@@ -54,10 +54,10 @@ write-level-requires c κs =
 
 loop-again : tie.Need-loop-again Inv-loop μ-loop
 loop-again c =
-    let at = c .before .before .before .before .before .before in
-    let start = at .before .before .before .before in
+    let start : tie.Start Inv-loop μ-loop = search needs in
+    let at : tie.At-loop Inv-loop μ-loop = search needs in
     let a = start .args in
-    let call = c .before .before .write-level in
+    let call = (let done : tie.After-write-level Inv-loop μ-loop = search needs in done .write-level) in
     let more =
     placed-record (a .h) (0) _ _ _ (levelWords (a .d) (a .v) (a .s) (a .h) _) _ _ _ (omega arith) (room start)
     (at .loop .inv .1) (at .loop .inv .3) (call .ensures .0) (call .ensures .1) in
@@ -65,8 +65,9 @@ loop-again c =
 
 returns : tie.Need-returns Inv-loop μ-loop
 returns c =
+    let start : tie.Start Inv-loop μ-loop = search needs in
     let at = c .before in
-    let a = at .before .before .before .before .args in
+    let a = start .args in
     let all : at .loop .i ≡ a .h = omega arith in
     let words = ap (λ (m : ℕ). concat (tabulate m (levelWords (a .d) (a .v) (a .s) (a .h) (a .table .now)))) all
     ∙ sym (all-is _ _ _ (a .h) _) in

@@ -23,15 +23,16 @@ loop-holds c = (search needs, below-none _)
 
 returns : tie.Need-returns Inv-loop μ-loop
 returns c =
-    let a = c .before .before .before .before .before .args in
+    let s : tie.Start Inv-loop μ-loop = search needs in
+    let turn : tie.In-loop Inv-loop μ-loop = search needs in
+    let a = s .args in
     sym (any-below (beyondAt (a .d) (a .v) (a .rows .now)) _ _
-    (c .before .before .before .loop-test .taken) (ap (leb _) (sym (c .before .wide .ensures)) ∙ le-leb _ _ (c .if1 .taken)))
+    (turn .loop-test .taken) (ap (leb _) (sym (c .before .wide .ensures)) ∙ le-leb _ _ (c .if1 .taken)))
 
 loop-again : tie.Need-loop-again Inv-loop μ-loop
-loop-again c = (
-  search needs,
-  below-more _ _ (c .before .before .before .before .loop .inv .1) (ap (leb _) (sym (c .before .wide .ensures)) ∙ lt-leb _ _ (c .if1 .left)),
-)
+loop-again c =
+    let top : tie.At-loop Inv-loop μ-loop = search needs in
+    (search needs, below-more _ _ (top .loop .inv .1) (ap (leb _) (sym (c .before .wide .ensures)) ∙ lt-leb _ _ (c .if1 .left)))
 
 returns-2 : tie.Need-returns-2 Inv-loop μ-loop
 returns-2 c =

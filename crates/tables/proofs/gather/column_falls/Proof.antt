@@ -4,6 +4,7 @@ use mathlib.Core.Path.{_≡_, sym}
 use Prim.Native.Nat.{ℕ, _-_, _≤_, _<_}
 use native.Mathlib.Omega.{arith}
 use borrow.Author.Count.{below-none, below-more}
+use borrow.Author.Needs.{needs}
 use borrow.Author.Tests.{le-leb, lt-leb}
 use Rattle.tables.specs.Inner.Held.{fallsAt}
 use Rattle.words.proofs.Below.{any-below, none-below}
@@ -48,8 +49,10 @@ element-copy-out-if1-2 c = omega arith
 
 returns : tie.Need-returns Inv-loop μ-loop
 returns c =
-    let a = c .before .before .before .before .before .args in
-    sym (any-below (λ (q : ℕ). fallsAt (a .rows .now) q (a .j)) _ _ (c .before .before .before .loop-test .taken) (le-leb _ _ (c .if1 .taken)))
+    let s : tie.Start Inv-loop μ-loop = search needs in
+    let turn : tie.In-loop Inv-loop μ-loop = search needs in
+    let a = s .args in
+    sym (any-below (λ (q : ℕ). fallsAt (a .rows .now) q (a .j)) _ _ (turn .loop-test .taken) (le-leb _ _ (c .if1 .taken)))
 
 add-p : tie.Need-add-p Inv-loop μ-loop
 add-p c = omega arith
@@ -58,7 +61,9 @@ loop-less : tie.Need-loop-less Inv-loop μ-loop
 loop-less c = omega arith
 
 loop-again : tie.Need-loop-again Inv-loop μ-loop
-loop-again c = (omega arith, below-more _ _ (c .before .before .before .before .loop .inv .1) (lt-leb _ _ (c .if1 .left)))
+loop-again c =
+    let top : tie.At-loop Inv-loop μ-loop = search needs in
+    (omega arith, below-more _ _ (top .loop .inv .1) (lt-leb _ _ (c .if1 .left)))
 
 returns-2 : tie.Need-returns-2 Inv-loop μ-loop
 returns-2 c =

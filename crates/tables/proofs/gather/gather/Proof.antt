@@ -23,14 +23,17 @@ loop-holds c = (search needs, c .before .pre .1 .0, c .before .pre .1 .1, below-
 
 gather-cell-requires : tie.Need-gather-cell-requires Inv-loop μ-loop
 gather-cell-requires c κs =
-    let a = c .before .before .before .before .before .args in
-    let l = c .before .before .before .loop in
+    let s : tie.Start Inv-loop μ-loop = search needs in
+    let top : tie.At-loop Inv-loop μ-loop = search needs in
+    let a = s .args in
+    let l = top .loop in
     let inside = mul-le-mul-right {m = suc (l .p)} {n = a .s} (a .size) (omega arith) in
     ((omega arith, omega arith, omega arith, omega arith, omega (arith, inside, suc-mul (l .p) (a .size))), (l .inv .1, l .inv .2))
 
 loop-again : tie.Need-loop-again Inv-loop μ-loop
 loop-again c =
-    let l = c .before .before .before .before .loop in
+    let top : tie.At-loop Inv-loop μ-loop = search needs in
+    let l = top .loop in
     let g = c .gather-cell .ensures in
     (omega arith, g .wide, g .many, below-more _ _ (λ q h. g .old q h ∙ l .inv .3 q h) (g .new))
 

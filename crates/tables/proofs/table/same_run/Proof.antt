@@ -4,6 +4,7 @@ use Prim.Native.Nat.{ℕ, _+_, _-_, _≤_, _<_}
 use native.Mathlib.Omega.{arith}
 use lib.ListN.{getD}
 use borrow.Author.Count.{below-none, below-more}
+use borrow.Author.Needs.{needs}
 use Rattle.tables.proofs.Filling.{run-other, run-same}
 use Rattle.tables.proofs.table.same_run.Statement.{statement}
 use Rattle.tables.proofs.table.same_run.Tie as tie
@@ -37,8 +38,10 @@ element-copy-out-if1 c = omega arith
 
 returns : tie.Need-returns Inv-loop μ-loop
 returns c =
-    let a = c .before .before .before .before .before .args in
-    sym (run-other _ (a .from) (a .to) (a .words .now) (a .table .now) _ (c .before .before .before .loop-test .taken) (c .if1 .taken))
+    let s : tie.Start Inv-loop μ-loop = search needs in
+    let turn : tie.In-loop Inv-loop μ-loop = search needs in
+    let a = s .args in
+    sym (run-other _ (a .from) (a .to) (a .words .now) (a .table .now) _ (turn .loop-test .taken) (c .if1 .taken))
 
 add-j : tie.Need-add-j Inv-loop μ-loop
 add-j c = omega arith
@@ -48,8 +51,8 @@ loop-less c = omega arith
 
 loop-again : tie.Need-loop-again Inv-loop μ-loop
 loop-again c =
-    let l = c .before .before .before .before .loop in
-    (omega arith, below-more _ _ (l .inv .1) (c .if1 .left))
+    let top : tie.At-loop Inv-loop μ-loop = search needs in
+    (omega arith, below-more _ _ (top .loop .inv .1) (c .if1 .left))
 
 returns-2 : tie.Need-returns-2 Inv-loop μ-loop
 returns-2 c =

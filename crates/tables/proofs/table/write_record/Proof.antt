@@ -1,6 +1,6 @@
 -- A record is written in its three parts. Assumes nothing.
 use mathlib.Core.Path.{ap, _∙_}
-use Prim.Native.Nat.{_+_}
+use Prim.Native.Nat.{_+_, _*_, _≤_}
 use native.Mathlib.Nat.{mul-le-mul-right}
 use native.Mathlib.Omega.{arith}
 use borrow.Author.Needs.{needs}
@@ -11,88 +11,60 @@ use Rattle.tables.proofs.Filling.{part-room, record-long, record-placed
 use Rattle.tables.proofs.table.write_record.Statement.{statement}
 use Rattle.tables.proofs.table.write_record.Tie as tie
 
-add-k : tie.Need-add-k
-add-k c = omega arith
-
-element-copy-out-sign-word : tie.Need-element-copy-out-sign-word
-element-copy-out-sign-word c = omega arith
-
-mul-table : tie.Need-mul-table
-mul-table c = omega arith
-
-slice-write-table : tie.Need-slice-write-table
-slice-write-table c = omega arith
-
-mul-copy-run : tie.Need-mul-copy-run
-mul-copy-run c = omega arith
-
-add-copy-run : tie.Need-add-copy-run
-add-copy-run c = omega arith
+-- the wings of cell p are among those held
+held : (c : tie.Start) → let a = c .args in a .p * (a .d + 1) + (a .d + 1) ≤ 32768
+held c = let a = c .args in omega (arith, mul-le-mul-right {m = a .p} {n = 4095} (a .d + 1) (omega arith))
 
 copy-run-requires : tie.Need-copy-run-requires
-copy-run-requires c κs = (
-  omega arith,
-  omega arith,
-  omega (
-    arith,
-    length-set (c .before .before .before .before .args .table .now) (c .before .before .before .before .args .at) (c .before .sign-word .result),
-  ),
-)
+copy-run-requires c κs =
+    let a = (let s : tie.Start = search needs in s .args) in
+    (omega arith, omega arith, omega (arith, length-set (a .table .now) (a .at) (c .before .sign-word .result)))
 
 mul-copy-run-2 : tie.Need-mul-copy-run-2
-mul-copy-run-2 c =
-    let a = c .before .before .before .before .before .before .before .args in
-    omega (arith, mul-le-mul-right {m = a .p} {n = 4095} (a .d + 1) (omega arith))
-
-add-copy-run-2 : tie.Need-add-copy-run-2
-add-copy-run-2 c = omega arith
-
-add-copy-run-3 : tie.Need-add-copy-run-3
-add-copy-run-3 c = omega arith
+mul-copy-run-2 c = omega (arith, held (search needs))
 
 copy-run-requires-2 : tie.Need-copy-run-requires-2
 copy-run-requires-2 c κs =
-    let s = c .before .before .before .before .before .before .before .before in
-    let a = s .args in (
-      omega arith,
-      omega (arith, mul-le-mul-right {m = a .p} {n = 4095} (a .d + 1) (omega arith)),
-      omega (
-        arith,
-        part-room _ (a .rows .now) (a .signs .now) (a .wings .now) _ _ _ (a .table .now) _ (s .pre .2)
-            (cc) (c .before .before .before .copy-run .ensures),
-      ),
-    )
-
-same-length : tie.Need-same-length
-same-length c =
-    let s = c .before .before .before .before .before .before .before .before .before .before .before in
+    let s : tie.Start = search needs in
+    let word : tie.After-sign-word = search needs in
+    let one : tie.After-copy-run = search needs in
     let a = s .args in
-    ap length (record-placed (a .d) _ _ _ (a .p) (a .at) _ _ _ (s .pre .2) (cc)
-    (c .before .before .before .before .before .before .copy-run .ensures) _ (c .before .before .copy-run2 .ensures))
-    ∙ placed-length (a .at) (recordHeld (a .d) (a .rows .now) (a .signs .now) (a .wings .now) (a .p))
-    (a .table .now) (omega (arith, record-long (a .d) (a .rows .now) (a .signs .now) (a .wings .now) (a .p)))
+    let long = part-room _ (a .rows .now) (a .signs .now) (a .wings .now) _ _ _ (a .table .now) _ (s .pre .2) (word .sign-word .ensures)
+    (one .copy-run .ensures) in
+    (omega arith, omega (arith, held s), omega (arith, long, c .before .first-wing .ensures))
 
 returns : tie.Need-returns
 returns c =
-    let s = c .before .before .before .before .before .before .before .before .before .before .before in
-    record-placed _ _ _ _ _ _ _ _ _ (s .pre .2) (cc)
-    (c .before .before .before .before .before .before .copy-run .ensures) _ (c .before .before .copy-run2 .ensures)
+    let s : tie.Start = search needs in
+    let word : tie.After-sign-word = search needs in
+    let one : tie.After-copy-run = search needs in
+    let place : tie.After-first-wing = search needs in
+    let two : tie.After-copy-run2 = search needs in
+    record-placed _ _ _ _ _ _ _ _ _ (s .pre .2) (word .sign-word .ensures) (one .copy-run .ensures) _ _
+    (place .first-wing .ensures) (two .copy-run2 .ensures)
+
+same-length : tie.Need-same-length
+same-length c =
+    let s : tie.Start = search needs in
+    let a = s .args in
+    ap length (returns c) ∙ placed-length (a .at) (recordHeld (a .d) (a .rows .now) (a .signs .now) (a .wings .now) (a .p))
+    (a .table .now) (omega (arith, record-long (a .d) (a .rows .now) (a .signs .now) (a .wings .now) (a .p)))
 
 pub write-record-spec : {M : Type 1} → statement M
 write-record-spec =
     tie.close
     (tie.spec
-    add-k
-    element-copy-out-sign-word
+    (λ c. omega arith)
+    (λ c. omega arith)
     (λ c κs. search needs)
-    mul-table
-    slice-write-table
-    mul-copy-run
-    add-copy-run
+    (λ c. omega arith)
+    (λ c. omega arith)
+    (λ c. omega arith)
+    (λ c. omega arith)
     copy-run-requires
     mul-copy-run-2
-    add-copy-run-2
-    add-copy-run-3
+    (λ c κs. search needs)
+    (λ c. omega arith)
     copy-run-requires-2
     same-length
     returns)

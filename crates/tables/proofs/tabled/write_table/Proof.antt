@@ -19,31 +19,48 @@ use Rattle.tables.proofs.tabled.write_table.Statement.{statement}
 use Rattle.tables.proofs.tabled.write_table.Tie as tie
 
 take-requires : tie.Need-take-requires
-take-requires c κs = (
-  (omega arith, omega arith, omega arith, omega arith, omega arith),
-  (length-replicate {A = ℕ} 32768 0, length-replicate {A = Bool} 4096 false, fresh-blank),
-)
+take-requires c κs =
+    let l : tie.After-list-size = search needs in (
+      (omega arith, omega arith, omega arith, omega arith, rw (l .list-size .ensures) (omega arith)),
+      (length-replicate {A = ℕ} 32768 0, length-replicate {A = Bool} 4096 false, fresh-blank),
+    )
+
+abbrev start : tie.After-take → tie.Start
+start c = search needs
+
+-- what is answered of rows 6 to 11
+answered : (c : tie.After-take) → let a = start c .args in
+    verdictOf (c .take .result) ≡ firstRefusal solidRules (recordList (listSize (a .d)) (a .d) (a .v) (a .s) (a .cells .now))
+answered c =
+    let a = start c .args in
+    let l : tie.After-list-size = search needs in
+    c .take .ensures .0 ∙ ap (λ n. firstRefusal solidRules (recordList n (a .d) (a .v) (a .s) (a .cells .now))) (l .list-size .ensures)
 
 returns : tie.Need-returns
 returns c =
     let s : tie.Start = search needs in
-    let t : tie.After-take = search needs in
     let v = c .before .verdict .given in
-    refuses _ _ _ _ _ (s .pre .2) (v .0 .0) (sym (ap verdictOf (v .1)) ∙ t .take .ensures .0)
+    refuses _ _ _ _ _ (s .pre .2) (v .0 .0) (sym (ap verdictOf (v .1)) ∙ answered (search needs))
 
 -- rows 6 to 11 pass
-abbrev start : tie.After-enum-told → tie.Start
-start c = search needs
-
-none : (c : tie.After-enum-told) → let a = start c .args in
+none : (c : tie.After-enum-told) → let a = start (search needs) .args in
     0 ≡ firstRefusal solidRules (recordList (listSize (a .d)) (a .d) (a .v) (a .s) (a .cells .now))
-none c = let t : tie.After-take = search needs in sym (ap verdictOf (c .enum-told .given .1)) ∙ t .take .ensures .0
+none c = sym (ap verdictOf (c .enum-told .given .1)) ∙ answered (search needs)
+
+-- row 15 is what the code tests
+room : (c : tie.After-less) → let a = start (search needs) .args in ltb (length (a .table .now)) (tableLength (a .d) (a .s)) ≡ c .less .result
+room c =
+    let a = start (search needs) .args in
+    let count : tie.After-table-words = search needs in
+    ap (ltb (length (a .table .now))) (sym (count .table-words .ensures)) ∙ sym (c .less .ensures)
 
 returns-2 : tie.Need-returns-2
-returns-2 c = let s : tie.Start = search needs in no-room _ _ _ _ _ (s .pre .2) (none (search needs)) (cc)
+returns-2 c =
+    let s : tie.Start = search needs in
+    no-room _ _ _ _ _ (s .pre .2) (none (search needs)) (room (c .before) ∙ c .if1 .taken)
 
 fits : (c : tie.Else1) → let a = start (search needs) .args in ltb (length (a .table .now)) (tableLength (a .d) (a .s)) ≡ false
-fits c = cc
+fits c = room (c .before) ∙ c .if1 .left
 
 fill-requires : tie.Need-fill-requires
 fill-requires c κs = (omega arith, omega arith, ltb-false _ _ (fits (search needs)))
@@ -52,19 +69,20 @@ returns-3 : tie.Need-returns-3
 returns-3 c =
     let e : tie.Else1 = search needs in
     let t = e .before .before .before in
-    let s = start t in
+    let s : tie.Start = search needs in
+    let l : tie.After-list-size = search needs in
+    let call : tie.After-take = search needs in
     let a = s .args in
-    let call = t .before .before .take in
     accepts _ _ _ _ _ (s .pre .2) (none t) _ _ (fits e) (e .before .before .table-words .ensures)
     (c .before .before .fill .ensures
     ∙ taken-written (a .d) (a .v) (a .s) (a .cells .now) _ _ _ (a .table .now) (omega arith)
-    (omega arith) (s .pre .2) (call .ensures .1 (ap verdictOf (t .enum-told .given .1))))
+    (omega arith) (s .pre .2) (rw (l .list-size .ensures) at (call .take .ensures .1 (ap verdictOf (t .enum-told .given .1)))))
 
 pub write-table-spec : {M : Type 1} → statement M
 write-table-spec =
     tie.close
     (tie.spec
-    (λ c. search needs)
+    (λ c κs. search needs)
     take-requires
     (λ c. search needs)
     returns

@@ -2,25 +2,21 @@
 use mathlib.Core.Path.{_≡_, sym, _∙_}
 use mathlib.Core.Bool.{false}
 use mathlib.Core.List.{List}
-use Prim.Native.Nat.{ℕ}
+use Prim.Native.Nat.{ℕ, suc}
 use native.Mathlib.Omega.{arith}
 use borrow.Author.Needs.{needs}
-use Rattle.rules.proofs.Refusing.{first-is}
 use Rattle.simplex.specs.Cell.{Sign}
-use Rattle.solids.specs.Accept.{Listed, badSign, listedCells, solidRules, vertexBeyond, vertexTwice}
+use Rattle.solids.specs.Accept.{Listed, badSign, listedCells, vertexBeyond, vertexTwice}
 use Rattle.tables.specs.Inner.Held.{recordList}
-use Rattle.tables.proofs.Refusing.{sign-bad, vertex-beyond, vertex-twice, refused-rest, solid-held}
+use Rattle.tables.proofs.Refusing.{first-sign, first-vertex, first-twice, sign-bad, vertex-beyond, vertex-twice, refused-rest, solid-held}
 use Rattle.tables.proofs.take.take.Statement.{statement}
 use Rattle.tables.proofs.take.take.Tie as tie
 
-abbrev list : tie.Start → Listed
-list s = let a = s .args in recordList (a .size) (a .d) (a .v) (a .s) (a .words .now)
-
 abbrev start : tie.After-bad-sign → tie.Start
-start c = c .before .before
+start c = search needs
 
-abbrev first : tie.After-gather → tie.After-bad-sign
-first c = c .before .before .before .before
+abbrev list : tie.After-bad-sign → Listed
+list c = let a = start c .args in recordList (a .size) (a .d) (a .v) (a .s) (a .words .now)
 
 abbrev rows : tie.After-gather → List ℕ
 rows c = c .gather .last .1 .1 .1 .1 .0
@@ -29,58 +25,76 @@ abbrev signs : tie.After-gather → List Sign
 signs c = c .gather .last .1 .1 .1 .1 .1 .0
 
 -- rows 6 to 8 are what the code tests
-six : (c : tie.After-bad-sign) → badSign (list (start c)) ≡ c .bad-sign .result
-six c = let a = start c .args in sign-bad (a .size) (a .d) (a .v) (a .s) (a .words .now) (omega arith) (omega arith) ∙ sym (c .bad-sign .ensures)
+six : (c : tie.After-bad-sign) → badSign (list c) ≡ c .bad-sign .result
+six c =
+    let s = start c in
+    let a = s .args in
+    sign-bad (a .size) (a .d) (a .v) (a .s) (a .words .now) (s .pre .0 .1) (s .pre .0 .4) ∙ sym (c .bad-sign .ensures)
 
-seven : (c : tie.After-beyond) → let l = list (start (first (c .before .before))) in vertexBeyond (l .v) (listedCells l) ≡ c .beyond .result
+seven : (c : tie.After-beyond) → let l = list (search needs) in vertexBeyond (l .v) (listedCells l) ≡ c .beyond .result
 seven c =
-    let g = c .before .before in
-    let a = start (first g) .args in
-    vertex-beyond (a .size) (a .d) (a .v) (a .s) (a .words .now) (omega arith) (omega arith) (rows g) (signs g) (omega arith) (omega arith)
+    let s : tie.Start = search needs in
+    let g : tie.After-gather = search needs in
+    let a = s .args in
+    let pre = s .pre .0 in
+    vertex-beyond (a .size) (a .d) (a .v) (a .s) (a .words .now) (pre .1) (pre .4) (rows g) (signs g) (pre .3) (pre .0)
     (g .gather .ensures .0 .0) (g .gather .ensures .1) ∙ sym (c .beyond .ensures)
 
-eight : (c : tie.After-any-falls) → vertexTwice (listedCells (list (start (first (search needs))))) ≡ c .any-falls .result
+eight : (c : tie.After-any-falls) → vertexTwice (listedCells (list (search needs))) ≡ c .any-falls .result
 eight c =
+    let s : tie.Start = search needs in
     let g : tie.After-gather = search needs in
-    let a = start (first g) .args in
-    vertex-twice (a .size) (a .d) (a .v) (a .s) (a .words .now) (omega arith) (omega arith) (rows g)
-    (signs g) (omega arith) (omega arith) (g .gather .ensures .0 .0) (g .gather .ensures .1)
-    ∙ sym (c .any-falls .ensures)
+    let a = s .args in
+    let pre = s .pre .0 in
+    vertex-twice (a .size) (a .d) (a .v) (a .s) (a .words .now) (pre .1) (pre .4) (rows g) (signs g) (pre .3) (pre .0)
+    (g .gather .ensures .0 .0) (g .gather .ensures .1) ∙ sym (c .any-falls .ensures)
+
+-- and where they pass
+six-passes : (c : tie.Else1) → badSign (list (c .before)) ≡ false
+six-passes c = six (c .before) ∙ c .if1 .left
+
+seven-passes : (c : tie.Else2) → let l = list (search needs) in vertexBeyond (l .v) (listedCells l) ≡ false
+seven-passes c = seven (c .before) ∙ c .if2 .left
+
+eight-passes : (c : tie.Else3) → vertexTwice (listedCells (list (search needs))) ≡ false
+eight-passes c = eight (c .before) ∙ c .if3 .left
+
+-- a refusal's number is not 0
+some : (n : ℕ) → suc n ≡ 0 → ⊥
+some n e = omega arith
 
 returns : tie.Need-returns
-unfolding solidRules
-returns c = (sym (first-is solidRules (list (start (c .before))) 6 (cc (six (c .before)))), λ z. absurd (omega (arith, z)))
+returns c = (first-sign (list (c .before)) (six (c .before) ∙ c .if1 .taken), λ z. absurd (some _ z))
 
 returns-2 : tie.Need-returns-2
-unfolding solidRules
-returns-2 c =
-    (sym (first-is solidRules (list (start (search needs))) 7 (cc (six (search needs), seven (search needs)))), λ z. absurd (omega (arith, z)))
+returns-2 c = (first-vertex (list (search needs)) (six-passes (search needs)) (seven (c .before) ∙ c .if2 .taken), λ z. absurd (some _ z))
 
 returns-3 : tie.Need-returns-3
-unfolding solidRules
 returns-3 c = (
-  sym (first-is solidRules (list (start (search needs))) 8 (cc (six (search needs), seven (search needs), eight (search needs)))),
-  λ z. absurd (omega (arith, z)),
+  first-twice (list (search needs)) (six-passes (search needs)) (seven-passes (search needs)) (eight (c .before) ∙ c .if3 .taken),
+  λ z. absurd (some _ z),
 )
 
 adjacent-requires : tie.Need-adjacent-requires
 adjacent-requires c κs =
     let s : tie.Start = search needs in
     let g : tie.After-gather = search needs in
-    ((omega arith, omega arith, g .gather .ensures .0 .0, s .pre .1 .2), cc)
+    let e : tie.Else3 = search needs in
+    let pre = s .pre .0 in
+    ((pre .0, pre .3, g .gather .ensures .0 .0, s .pre .1 .2), sym (e .before .any-falls .ensures) ∙ e .if3 .left)
 
 returns-4 : tie.Need-returns-4
 returns-4 c =
-    let e : tie.Else3 = search needs in
+    let s : tie.Start = search needs in
     let g : tie.After-gather = search needs in
     let held = g .gather .ensures in
-    let a = start (first g) .args in
+    let a = s .args in
+    let pre = s .pre .0 in
     let rest =
-    refused-rest (a .size) (a .d) (a .v) (a .s) (a .words .now) (omega arith)
-    (omega arith) (rows g) (signs g) (omega arith) (omega arith) (held .0 .0) (held .1)
-    (cc (six (search needs))) (cc (seven (search needs))) (cc (eight (search needs))) in
-    let cells = solid-held (a .size) (a .d) (a .v) (a .s) (a .words .now) (omega arith)
-    (omega arith) (rows g) (signs g) (omega arith) (omega arith) (held .0 .0) (held .1) in
+    refused-rest (a .size) (a .d) (a .v) (a .s) (a .words .now) (pre .1) (pre .4) (rows g) (signs g) (pre .3) (pre .0) (held .0 .0) (held .1)
+    (six-passes (search needs)) (seven-passes (search needs)) (eight-passes (search needs)) in
+    let cells = solid-held (a .size) (a .d) (a .v) (a .s) (a .words .now) (pre .1) (pre .4)
+    (rows g) (signs g) (pre .3) (pre .0) (held .0 .0) (held .1) in
     (c .adjacent .ensures .0 ∙ sym rest, λ z. record { wide = held .0 .0; cells = cells; winged = c .adjacent .ensures .1 z })
 
 pub take-spec : {M : Type 1} → statement M
