@@ -4,7 +4,7 @@ use mathlib.Core.List.{List}
 use Prim.Native.Nat.{ℕ}
 use Rattle.rules.specs.Calls.{accepted}
 use Rattle.read.specs.Read.{readInput, readOutcome, headerOutcome}
-use Rattle.hosting.specs.Inner.Rooms.{floatRoom}
+use Rattle.hosting.specs.Inner.Rooms.{wordRoom, floatRoom}
 use Rattle.hosting.proofs.ReadRows.{passed, read-accepts, read-refuses, read-roomy, words-roomy}
 use borrow.Author.Needs.{needs}
 use Rattle.hosting.proofs.reading.read_words.Statement.{statement}
@@ -13,7 +13,7 @@ use Rattle.hosting.proofs.reading.read_words.Tie as tie
 abbrev file : tie.After-enum-told → List ℕ
 file c = c .before .before .before .before .before .before .before .before .before .before .args .file .now
 
-accepts : (c : tie.After-enum-told) → accepted (c .enum-told .given .0 .0) ≡ readOutcome (readInput (file c) floatRoom floatRoom)
+accepts : (c : tie.After-enum-told) → accepted (c .enum-told .given .0 .0) ≡ readOutcome (readInput (file c) wordRoom floatRoom)
 accepts c =
     ap headerOutcome (sym (c .enum-told .given .1))
     ∙ read-roomy (file c) (c .before .before .before .before .before .before .before .before .before .before .args .words .now)
