@@ -2,8 +2,7 @@
 --   decoded-front         the decoded words stand at the front of the array
 --   wing-outside, wing-wrong, wing-right      the outcome, as the code finds it
 --   wing-after            the buffer, as its outcome says
---   wing-room             room beyond the largest table changes nothing
---   wing-host             the answer and the lent bytes, as the host's definitions say
+--   wing-host             the answer and the lent bytes, as the host's definitions say: room beyond the largest table changes nothing
 --   wing-long             the count is that of the answer's words
 --   sweep-..              the same of sweep
 --   sweep-large           a table too long for its array is swept to too many cells
@@ -69,13 +68,6 @@ module _ (d v s : ℕ) (cells : List ℕ) (x : ℕ) where
   unfolding wingRead
   wing-right e = sym (hosted-right (shapeOk maxDimension d v s) cells (listLength d s) (wingOutcome (wingInput d v s (words16 cells) x)) e)
 
-  pub wing-host : (out : List ℕ) (o : Outcome ℕ) → x ≡ wordsIn out → o ≡ wingRead d v s cells x →
-      (hostAnswer o ≡ hostWing d v s cells out) × (after o (bytesOf (tableOfList (hostList d v s cells out))) out ≡ hostWingBuffer d v s cells out)
-  unfolding wingRead hostWing hostWingOutcome hostWingBuffer
-  wing-host out o room e =
-      let q = e ∙ ap (λ y. hosted (shapeOk maxDimension d v s) cells (wingOutcome (wingInput d v s (words16 cells) y))) room in
-      (ap hostAnswer q, ap (λ r. after r (bytesOf (tableOfList (hostList d v s cells out))) out) q)
-
 -- the largest list and the largest table
 pub list-fits : (d s : ℕ) → d ≤ maxDimension → s ≤ maxCells → listLength d s ≤ listLength maxDimension maxCells
 list-fits d s hd hs = mul-le-mul {m₁ = listSize d} {m₂ = listSize maxDimension} hs (omega arith)
@@ -92,9 +84,17 @@ wing-same d v s ws x = go (shapeOk maxDimension d v s) refl
         rw (room-cut x tableRoom (tableLength d s) (table-fits d s (l .dimension) (l .cells))) refl
     go false e = rw e refl
 
-pub wing-room : (d v s : ℕ) (cells : List ℕ) (x : ℕ) → wingRead d v s cells (lesser x tableRoom) ≡ wingRead d v s cells x
+wing-room : (d v s : ℕ) (cells : List ℕ) (x : ℕ) → wingRead d v s cells (lesser x tableRoom) ≡ wingRead d v s cells x
 unfolding wingRead
 wing-room d v s cells x = rw (wing-same d v s (words16 cells) x) refl
+
+-- with so many words of room as are lent
+pub wing-host : (d v s : ℕ) (cells out : List ℕ) (x : ℕ) (o : Outcome ℕ) → x ≡ lesser (wordsIn out) tableRoom → o ≡ wingRead d v s cells x →
+    (hostAnswer o ≡ hostWing d v s cells out) × (after o (bytesOf (tableOfList (hostList d v s cells out))) out ≡ hostWingBuffer d v s cells out)
+unfolding wingRead hostWing hostWingOutcome hostWingBuffer
+wing-host d v s cells out x o room e =
+    let q = e ∙ ap (wingRead d v s cells) room ∙ wing-room d v s cells (wordsIn out) in
+    (ap hostAnswer q, ap (λ r. after r (bytesOf (tableOfList (hostList d v s cells out))) out) q)
 
 pub wing-long : (d v s : ℕ) (cells : List ℕ) (x k : ℕ) → wingRead d v s cells x ≡ accepted k →
     k ≡ length (tableOfList (record { d = d; v = v; s = s; words = words16 cells }))
@@ -144,14 +144,6 @@ module _ (d v s h : ℕ) (table : List ℕ) (x : ℕ) where
       let large = or-right (ltb maxVertices (sweptVertices v h)) (lt-ltb maxCells (sweptCells d s h) (many-cells d s h (steps-some d v s h ok) n)) in
       sweep.refuses (sweepInput d v s h (words16 table) x) [] 12 (rw (ok, right, large)) .0 ∙ sweep-right e
 
-  pub sweep-host : (out : List ℕ) (o : Outcome ℕ) → x ≡ wordsIn out → o ≡ sweepRead d v s h table x →
-      (hostAnswer o ≡ hostSweep d v s h table out)
-      × (after o (bytesOf (sweptWords (hostSweepInput d v s h table out))) out ≡ hostSweepBuffer d v s h table out)
-  unfolding sweepRead hostSweep hostSweepOutcome hostSweepBuffer
-  sweep-host out o room e =
-      let q = e ∙ ap (λ y. hosted (shapeOk maxSource d v s && stepsOk h) table (sweepOutcome (sweepInput d v s h (words16 table) y))) room in
-      (ap hostAnswer q, ap (λ r. after r (bytesOf (sweptWords (hostSweepInput d v s h table out))) out) q)
-
 sweep-same : (d v s h : ℕ) (ws : List ℕ) (x : ℕ) → sweepOutcome (sweepInput d v s h ws (lesser x tableRoom)) ≡ sweepOutcome (sweepInput d v s h ws x)
 unfolding sweepOutcome sweepRules
 sweep-same d v s h ws x =
@@ -168,7 +160,7 @@ sweep-same d v s h ws x =
         rw (room-cut x tableRoom (tableLength (suc d) (sweptCells d s h)) (table-fits (suc d) (sweptCells d s h) (omega (arith, l .dimension)) n))
         refl
 
-pub sweep-room : (d v s h : ℕ) (table : List ℕ) (x : ℕ) → sweepRead d v s h table (lesser x tableRoom) ≡ sweepRead d v s h table x
+sweep-room : (d v s h : ℕ) (table : List ℕ) (x : ℕ) → sweepRead d v s h table (lesser x tableRoom) ≡ sweepRead d v s h table x
 unfolding sweepRead
 sweep-room d v s h table x = rw (sweep-same d v s h (words16 table) x) refl
 
@@ -179,7 +171,10 @@ sweep-long d v s h table x k e =
     swept-long d v s h (words16 table) x k
     (hosted-accepted (shapeOk maxSource d v s && stepsOk h) table (sweepOutcome (sweepInput d v s h (words16 table) x)) k e)
 
--- the room is no part of the words
-pub words-apart : (d v s h : ℕ) (ws : List ℕ) (x y : ℕ) → sweptWords (sweepInput d v s h ws x) ≡ sweptWords (sweepInput d v s h ws y)
-unfolding sweptWords
-words-apart d v s h ws x y = refl
+pub sweep-host : (d v s h : ℕ) (table out : List ℕ) (x : ℕ) (o : Outcome ℕ) → x ≡ lesser (wordsIn out) tableRoom → o ≡ sweepRead d v s h table x →
+    (hostAnswer o ≡ hostSweep d v s h table out)
+    × (after o (bytesOf (sweptWords (sweepInput d v s h (words16 table) x))) out ≡ hostSweepBuffer d v s h table out)
+unfolding sweepRead hostSweep hostSweepOutcome hostSweepBuffer sweptWords
+sweep-host d v s h table out x o room e =
+    let q = e ∙ ap (sweepRead d v s h table) room ∙ sweep-room d v s h table (wordsIn out) in
+    (ap hostAnswer q, ap (λ r. after r (bytesOf (sweptWords (hostSweepInput d v s h table out))) out) q)
