@@ -49,7 +49,8 @@ returns c =
     let l = turn .before in
     let b = bytes l in
     let here = turn .loop-test .taken in
-    all-stops inRange nan (floats64 b) _ (l .loop .k) (floats-length b) here _ (float-of b _ here) _ (tested (c .before) ∙ c .if1 .left) (l .loop .inv .1)
+    all-stops inRange nan (floats64 b) _ (l .loop .k) (floats-length b) here _ (float-of b _ here) _
+    (tested (c .before) ∙ c .if1 .left) (l .loop .inv .1)
 
 returns-2 : tie.Need-returns-2 Inv-loop μ-loop
 returns-2 c =

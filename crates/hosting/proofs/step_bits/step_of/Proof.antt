@@ -1,9 +1,16 @@
 -- `step_of` answers the step, kind by kind. Assumes nothing.
 use mathlib.Core.Path.{sym}
-use Rattle.hosting.proofs.StepLaws.{slide-is, slant-is, turn-is, slide-held, slant-held, turn-held}
+use Rattle.hosting.proofs.StepLaws.{Held, slide-is, slant-is, turn-is, slide-held, slant-held, turn-held}
 use borrow.Author.Needs.{needs}
 use Rattle.hosting.proofs.step_bits.step_of.Statement.{statement}
 use Rattle.hosting.proofs.step_bits.step_of.Tie as tie
+
+-- the floats of a slant and of a turn
+slant : (c : tie.Then2) → let s : tie.Start = search needs in let t = s .args .t in Held (t .a) (t .b) 0
+slant c = let s : tie.Start = search needs in slant-held (s .args .t) (c .before .before .if1 .left) (c .if2 .taken) (s .pre)
+
+turn : (c : tie.Else2) → let s : tie.Start = search needs in let t = s .args .t in Held (t .a) (t .b) (t .c)
+turn c = let s : tie.Start = search needs in turn-held (s .args .t) (c .before .before .if1 .left) (c .if2 .left) (s .pre)
 
 returns : tie.Need-returns
 returns c = rw (c .float-of .ensures) (sym (slide-is _ (c .before .if1 .taken)))
@@ -24,10 +31,10 @@ step-of-spec =
     (tie.spec
     (λ c κs. let s : tie.Start = search needs in slide-held (s .args .t) (c .if1 .taken) (s .pre) .0)
     returns
-    (λ c κs. let s : tie.Start = search needs in slant-held (s .args .t) (c .before .before .if1 .left) (c .if2 .taken) (s .pre) .0)
-    (λ c κs. let s : tie.Start = search needs in slant-held (s .args .t) (c .before .before .before .if1 .left) (c .before .if2 .taken) (s .pre) .1)
+    (λ c κs. slant (search needs) .0)
+    (λ c κs. slant (search needs) .1)
     returns-2
-    (λ c κs. let s : tie.Start = search needs in turn-held (s .args .t) (c .before .before .if1 .left) (c .if2 .left) (s .pre) .0)
-    (λ c κs. let s : tie.Start = search needs in turn-held (s .args .t) (c .before .before .before .if1 .left) (c .before .if2 .left) (s .pre) .1)
-    (λ c κs. let s : tie.Start = search needs in turn-held (s .args .t) (c .before .before .before .before .if1 .left) (c .before .before .if2 .left) (s .pre) .2)
+    (λ c κs. turn (search needs) .0)
+    (λ c κs. turn (search needs) .1)
+    (λ c κs. turn (search needs) .2)
     returns-3)
