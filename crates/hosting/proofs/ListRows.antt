@@ -18,63 +18,66 @@ use Rattle.words.specs.Bytes.{words16}
 use Rattle.words.specs.Records.{allOf}
 use Rattle.words.proofs.Bytes.{words-count}
 use Rattle.rules.specs.Calls.{Outcome, refused}
-use Rattle.rules.specs.Limits.{maxDimension, axesOk}
+use Rattle.rules.specs.Limits.{maxDimension, maxAxes, maxVertices, maxCells, axesOk}
 use Rattle.rules.specs.Shapes.{shapeOk}
 use Rattle.rules.proofs.InLimits.{list-limits-are}
 use Rattle.rules.proofs.Tests.{and-parts}
-use Rattle.records.specs.Layout.{tableLength}
+use Rattle.records.specs.Layout.{recordSize, tableLength}
 use Rattle.points.specs.Step.{inRange}
 use Rattle.list.specs.List.{listInput, listRules, listOutcome, listBuffer}
 use Rattle.hosting.specs.Floats.{floats64}
 use Rattle.hosting.specs.Lists.{hostListInput, hostListOutcome, hostListBuffer}
+use Rattle.hosting.specs.Inner.Rooms.{tableRoom, floatRoom}
 use Rattle.hosting.proofs.FloatLaws.{floats-length}
 
-pub list-needs : (d n v s : ℕ) → not (shapeOk maxDimension d v s && axesOk n) ≡ false → (d ≤ 7) × (n ≤ 8) × (v ≤ 4096) × (s ≤ 4096)
-list-needs d n v s a = let l = list-limits-are d n v s a in (l .dimension, l .axes, l .vertices, l .cells)
-
-module _ (d n v s : ℕ) (table points out : List ℕ) where
-  abbrev pub Refuses : ℕ → Type 0
-  Refuses k = (refused k ≡ hostListOutcome d n v s table points out) × (out ≡ hostListBuffer d n v s table points out)
-
+module _ (d n v s : ℕ) where
   abbrev pub numbers : Bool
   numbers = shapeOk maxDimension d v s && axesOk n
 
-  abbrev pub lengths : Bool
-  lengths = eqb (length table) (tableLength d s * 2) && eqb (length points) (v * n * 8)
+  pub list-needs : not numbers ≡ false → (d ≤ maxDimension) × (n ≤ maxAxes) × (v ≤ maxVertices) × (s ≤ maxCells)
+  list-needs a = let l = list-limits-are d n v s a in (l .dimension, l .axes, l .vertices, l .cells)
 
-  pub list-2 : not numbers ≡ true → Refuses 2
+  module _ (table points : List ℕ) where
+    abbrev pub lengths : Bool
+    lengths = eqb (length table) (tableLength d s * 2) && eqb (length points) (v * n * 8)
+
+    right : not lengths ≡ false → (length table ≡ tableLength d s * 2) × (length points ≡ v * n * 8)
+    right b =
+        let both = and-parts (eqb (length table) (tableLength d s * 2)) (eqb (length points) (v * n * 8)) (not-false lengths b) in
+        (eqb-true _ _ (both .0), eqb-true _ _ (both .1))
+
+    pub list-small : not numbers ≡ false → not lengths ≡ false → not (allOf inRange (floats64 points)) ≡ false →
+        (length table ≤ tableRoom * 2) × (length points ≤ floatRoom * 8) × (allOf inRange (floats64 points) ≡ true)
+    list-small a b c =
+        let l = list-needs a in
+        let words = mul-le-mul {m₁ = recordSize d} {m₂ = recordSize maxDimension} (l .3) (omega arith) in
+        (omega (arith, right b .0, words), omega (arith, right b .1, mul-le-mul (l .2) (l .1)), not-false _ c)
+
+    decoded : not lengths ≡ false → (eqb (length (words16 table)) (tableLength d s) && eqb (length (floats64 points)) (v * n)) ≡ true
+    decoded b =
+        let r = right b in
+        rw (
+          eq-eqb (length (words16 table)) (tableLength d s) (omega (arith, words-count table)),
+          eq-eqb (length (floats64 points)) (v * n) (omega (arith, floats-length points)),
+        ) refl
+
+module _ (d n v s : ℕ) (table points out : List ℕ) where
+  abbrev Refuses : ℕ → Type 0
+  Refuses k = (refused k ≡ hostListOutcome d n v s table points out) × (out ≡ hostListBuffer d n v s table points out)
+
+  pub list-2 : not (numbers d n v s) ≡ true → Refuses 2
   unfolding hostListOutcome hostListBuffer
   list-2 a = rw a (refl, refl)
 
-  module _ (a : not numbers ≡ false) where
-    pub list-3 : not lengths ≡ true → Refuses 3
+  module _ (a : not (numbers d n v s) ≡ false) where
+    pub list-3 : not (lengths d n v s table points) ≡ true → Refuses 3
     unfolding hostListOutcome hostListBuffer
     list-3 b = rw (a, b) (refl, refl)
 
-    module _ (b : not lengths ≡ false) where
-      right : (length table ≡ tableLength d s * 2) × (length points ≡ v * n * 8)
-      right =
-          let both = and-parts (eqb (length table) (tableLength d s * 2)) (eqb (length points) (v * n * 8)) (not-false lengths b) in
-          (eqb-true _ _ (both .0), eqb-true _ _ (both .1))
-
-      pub list-small : not (allOf inRange (floats64 points)) ≡ false →
-          (length table ≤ 139264) × (length points ≤ 262144) × (allOf inRange (floats64 points) ≡ true)
-      list-small c =
-          let l = list-needs d n v s a in
-          let words = mul-le-mul {n₁ = s} {m₁ = d + d + 3} {n₂ = 4096} {m₂ = 17} (l .3) (omega arith) in
-          (omega (arith, right .0, words), omega (arith, right .1, mul-le-mul (l .2) (l .1)), not-false _ c)
-
-      decoded : (eqb (length (words16 table)) (tableLength d s) && eqb (length (floats64 points)) (v * n)) ≡ true
-      decoded =
-          let r = right in
-          rw (
-            eq-eqb (length (words16 table)) (tableLength d s) (omega (arith, words-count table)),
-            eq-eqb (length (floats64 points)) (v * n) (omega (arith, floats-length points)),
-          ) refl
-
+    module _ (b : not (lengths d n v s table points) ≡ false) where
       pub list-4 : not (allOf inRange (floats64 points)) ≡ true → Refuses 4
       unfolding hostListOutcome hostListBuffer listOutcome listRules
-      list-4 c = rw (a, b, decoded, c) (refl, refl)
+      list-4 c = rw (a, b, decoded d n v s table points b, c) (refl, refl)
 
       pub list-right : (o : Outcome ℕ) (w : List ℕ) →
           (o ≡ listOutcome (hostListInput d n v s table points out)) × (w ≡ listBuffer (hostListInput d n v s table points out) out) →

@@ -1,7 +1,7 @@
 -- The call move on bytes, row by row.
---   Told, told                the numbers within the limits
---   move-2 .. move-12         a refusal: the answer, and the lent bytes as they were
---   step-ranged               the floats of the step are in range
+--   row2 .. row12             the tests before row 13
+--   refuses                   refused by the first that applies, and the lent bytes as they were
+--   limits, ranged            what rows 2 and 4 say where they do not apply
 --   move-small                so few points are lent that they fit their array
 --   move-right                the tests before row 13 passed: what move answers on what is decoded, and then the room
 --   move-decodes              move on what is decoded
@@ -12,7 +12,7 @@
 use mathlib.Core.Path.{_≡_, refl, sym, ap, _∙_}
 use mathlib.Core.Bool.{Bool, true, false, not, cond, _&&_, _||_}
 use mathlib.Core.List.{List}
-use Prim.Native.Nat.{ℕ, suc, _*_, _/_, _≤_, _<_}
+use Prim.Native.Nat.{ℕ, _*_, _/_, _≤_, _<_}
 use native.Mathlib.Nat.{mul-le-mul, mul-le-mul-right, suc-mul, one-mul}
 use native.Mathlib.Omega.{arith}
 use lib.Dec.{eqb, leb, ltb}
@@ -21,8 +21,10 @@ use lib.ListN.{length, take}
 use borrow.Author.Tests.{eq-eqb, eqb-true, leb-true, le-ltb, lt-ltb, ltb-false, not-false}
 use Rattle.words.specs.Records.{allOf}
 use Rattle.rules.specs.Calls.{Outcome, accepted, refused, after, written}
-use Rattle.rules.specs.Limits.{axesOk, verticesOk, stepsOk, maxVertices, sweptVertices, within}
+use Rattle.rules.specs.Limits.{axesOk, verticesOk, stepsOk, maxVertices, maxSteps, sweptVertices, within}
 use Rattle.rules.proofs.Accepting.{accepted-by}
+use Rattle.rules.proofs.InLimits.{MoveLimits, move-limits-are}
+use Rattle.rules.proofs.Refusing.{First, refused-first, kept}
 use Rattle.rules.proofs.Tests.{and-parts}
 use Rattle.solids.proofs.Tests.{or-false}
 use Rattle.points.specs.Step.{inRange, stepFits, stepFloats}
@@ -31,134 +33,90 @@ use Rattle.motion.specs.Move.{MoveInput, moveInput, movedLevels, movedLength, m
 use Rattle.motion.proofs.Lengths.{moved-front}
 use Rattle.hosting.specs.Floats.{floats64, floatBytes}
 use Rattle.hosting.specs.Moves.{MoveTold, toldStep, unusedSet, toldMove, hostMoveRules, hostMoveOutcome, hostMoveBuffer}
-use Rattle.hosting.specs.declared.step_bits.StepBits.{StepBits}
-use Rattle.hosting.specs.Inner.Rooms.{floatRoom, inRoom}
+use Rattle.hosting.specs.Inner.Rooms.{floatRoom, movedRoom, inRoom}
 use Rattle.hosting.proofs.FloatLaws.{floats-length}
 
--- what row 2 says where it does not apply
-pub record Told (n v h : ℕ) : Type 0 where
-  pub numbers : (axesOk n && (verticesOk v && stepsOk h)) ≡ true
-  pub axes : n ≤ 8
-  pub vertices : v ≤ 4096
-  pub some : 1 ≤ h
-  pub steps : h ≤ 64
-
-pub told : (n v h kind : ℕ) → not ((axesOk n && (verticesOk v && stepsOk h)) && within 1 3 kind) ≡ false → Told n v h
-told n v h kind a =
-    let all = and-parts (axesOk n && (verticesOk v && stepsOk h)) (within 1 3 kind) (not-false _ a) .0 in
-    let axes = and-parts (axesOk n) (verticesOk v && stepsOk h) all in
-    let counts = and-parts (verticesOk v) (stepsOk h) (axes .1) in
-    let steps = and-parts (leb 1 h) (leb h 64) (counts .1) in
-    record {
-      numbers = all;
-      axes = leb-true n 8 (and-parts (leb 1 n) (leb n 8) (axes .0) .1);
-      vertices = leb-true v 4096 (and-parts (leb 1 v) (leb v 4096) (counts .0) .1);
-      some = leb-true 1 h (steps .0);
-      steps = leb-true h 64 (steps .1);
-    }
-
--- what row 4 says of the step where it does not apply
-pub step-ranged : (t : StepBits) (b : List ℕ) → not (allOf inRange (stepFloats (toldStep t)) && allOf inRange (floats64 b)) ≡ false →
-    allOf inRange (stepFloats (toldStep t)) ≡ true
-step-ranged t b c = and-parts (allOf inRange (stepFloats (toldStep t))) (allOf inRange (floats64 b)) (not-false _ c) .0
-
-module _ (i : MoveTold) (out : List ℕ) where
-  abbrev pub Refuses : ℕ → Type 0
-  Refuses k = (refused k ≡ hostMoveOutcome i) × (out ≡ hostMoveBuffer i out)
-
+module _ (i : MoveTold) where
   -- the same call with room enough
   abbrev pub roomy : MoveInput
   roomy = moveInput (i .n) (i .v) (i .h) (toldStep (i .step)) (floats64 (i .points)) floatRoom
 
-  abbrev row2 : Bool
+  abbrev pub row2 : Bool
   row2 = not ((axesOk (i .n) && (verticesOk (i .v) && stepsOk (i .h))) && within 1 3 (i .step .kind))
 
-  abbrev row3 : Bool
+  abbrev pub row3 : Bool
   row3 = not (eqb (length (i .points)) (i .v * i .n * 8))
 
-  abbrev row4 : Bool
+  abbrev pub row4 : Bool
   row4 = not (allOf inRange (stepFloats (toldStep (i .step))) && allOf inRange (floats64 (i .points)))
 
-  abbrev row5 : Bool
+  abbrev pub row5 : Bool
   row5 = not (stepFits (i .n) (toldStep (i .step))) || unusedSet (i .step)
 
-  abbrev row12 : Bool
+  abbrev pub row12 : Bool
   row12 = ltb maxVertices (sweptVertices (i .v) (i .h))
 
-  pub move-2 : row2 ≡ true → Refuses 2
+  pub refuses : (out : List ℕ) (n : ℕ) → First hostMoveRules i n → (refused n ≡ hostMoveOutcome i) × (out ≡ hostMoveBuffer i out)
   unfolding hostMoveOutcome hostMoveRules hostMoveBuffer
-  move-2 a = rw a (refl, refl)
+  refuses out n h =
+      let e = refused-first hostMoveRules (λ i. movedLength (toldMove i)) i refl n h in
+      (e, kept _ n (floatBytes (movedLevels (toldMove i))) out e)
 
-  module _ (a : row2 ≡ false) where
-    pub move-3 : row3 ≡ true → Refuses 3
-    unfolding hostMoveOutcome hostMoveRules hostMoveBuffer
-    move-3 b = rw (a, b) (refl, refl)
+  -- what rows 2 and 4 say where they do not apply
+  numbers : row2 ≡ false → (axesOk (i .n) && (verticesOk (i .v) && stepsOk (i .h))) ≡ true
+  numbers a = and-parts _ (within 1 3 (i .step .kind)) (not-false _ a) .0
 
-    module _ (b : row3 ≡ false) where
-      pub move-4 : row4 ≡ true → Refuses 4
-      unfolding hostMoveOutcome hostMoveRules hostMoveBuffer
-      move-4 c = rw (a, b, c) (refl, refl)
+  pub limits : row2 ≡ false → MoveLimits (i .n) (i .v) (i .h)
+  limits a = move-limits-are (i .n) (i .v) (i .h) (ap not (numbers a))
 
-      module _ (c : row4 ≡ false) where
-        pub move-5 : row5 ≡ true → Refuses 5
-        unfolding hostMoveOutcome hostMoveRules hostMoveBuffer
-        move-5 d = rw (a, b, c, d) (refl, refl)
+  some-steps : row2 ≡ false → 1 ≤ i .h
+  some-steps a =
+      let counts = and-parts (axesOk (i .n)) (verticesOk (i .v) && stepsOk (i .h)) (numbers a) .1 in
+      leb-true 1 (i .h) (and-parts (leb 1 (i .h)) (leb (i .h) maxSteps) (and-parts (verticesOk (i .v)) (stepsOk (i .h)) counts .1) .0)
 
-        module _ (d : row5 ≡ false) where
-          pub move-12 : row12 ≡ true → Refuses 12
-          unfolding hostMoveOutcome hostMoveRules hostMoveBuffer
-          move-12 e = rw (a, b, c, d, e) (refl, refl)
+  pub ranged : row4 ≡ false → (allOf inRange (stepFloats (toldStep (i .step))) ≡ true) × (allOf inRange (floats64 (i .points)) ≡ true)
+  ranged c = and-parts (allOf inRange (stepFloats (toldStep (i .step)))) (allOf inRange (floats64 (i .points))) (not-false _ c)
 
-          module _ (e : row12 ≡ false) where
-            long : length (i .points) ≡ i .v * i .n * 8
-            long = eqb-true _ _ (not-false _ b)
+  module _ (a : row2 ≡ false) (b : row3 ≡ false) (c : row4 ≡ false) (d : row5 ≡ false) (e : row12 ≡ false) where
+    long : length (i .points) ≡ i .v * i .n * 8
+    long = eqb-true _ _ (not-false _ b)
 
-            swept : suc (i .h) * i .v ≤ 4096
-            swept = ltb-false 4096 (suc (i .h) * i .v) e
+    swept : sweptVertices (i .v) (i .h) ≤ maxVertices
+    swept = ltb-false maxVertices (sweptVertices (i .v) (i .h)) e
 
-            pub move-small : (length (i .points) ≤ 131072) × (allOf inRange (floats64 (i .points)) ≡ true)
-            move-small =
-                let l = told (i .n) (i .v) (i .h) (i .step .kind) a in
-                let half = mul-le-mul-right {m = 1} {n = i .h} (i .v) (l .some) in
-                let few : i .v ≤ 2048 = omega (arith, swept, suc-mul (i .h) (i .v), half, one-mul (i .v)) in (
-                  omega (arith, long, mul-le-mul few (l .axes)),
-                  and-parts (allOf inRange (stepFloats (toldStep (i .step)))) (allOf inRange (floats64 (i .points))) (not-false _ c) .1,
-                )
+    pub move-small : (length (i .points) ≤ movedRoom * 8) × (allOf inRange (floats64 (i .points)) ≡ true)
+    move-small =
+        let half = mul-le-mul-right {m = 1} {n = i .h} (i .v) (some-steps a) in
+        let few : i .v ≤ 2048 = omega (arith, swept, suc-mul (i .h) (i .v), half, one-mul (i .v)) in
+        (omega (arith, long, mul-le-mul few (limits a .axes)), ranged c .1)
 
-            fits : ltb floatRoom (movedLength roomy) ≡ false
-            fits = le-ltb floatRoom (movedLength roomy) (omega (arith, mul-le-mul swept (told (i .n) (i .v) (i .h) (i .step .kind) a .axes)))
+    fits : ltb floatRoom (movedLength roomy) ≡ false
+    fits = le-ltb floatRoom (movedLength roomy) (omega (arith, mul-le-mul swept (limits a .axes)))
 
-            same : hostMoveOutcome i ≡ inRoom (i .room) (moveOutcome roomy)
-            unfolding hostMoveOutcome hostMoveRules moveOutcome moveRules movedLevels
-            same = go (not (allOf inRange (movedLevels roomy))) refl (ltb (i .room) (movedLength roomy)) refl
-              where
-                numbers : (axesOk (i .n) && (verticesOk (i .v) && stepsOk (i .h))) ≡ true
-                numbers = told (i .n) (i .v) (i .h) (i .step .kind) a .numbers
+    same : hostMoveOutcome i ≡ inRoom (i .room) (moveOutcome roomy)
+    unfolding hostMoveOutcome hostMoveRules moveOutcome moveRules movedLevels
+    same = go (not (allOf inRange (movedLevels roomy))) refl (ltb (i .room) (movedLength roomy)) refl
+      where
+        right : eqb (length (floats64 (i .points))) (i .v * i .n) ≡ true
+        right = eq-eqb (length (floats64 (i .points))) (i .v * i .n) (omega (arith, long, floats-length (i .points)))
 
-                right : eqb (length (floats64 (i .points))) (i .v * i .n) ≡ true
-                right = eq-eqb (length (floats64 (i .points))) (i .v * i .n) (omega (arith, long, floats-length (i .points)))
+        fit : not (stepFits (i .n) (toldStep (i .step))) ≡ false
+        fit = or-false _ (unusedSet (i .step)) d .0
 
-                fit : not (stepFits (i .n) (toldStep (i .step))) ≡ false
-                fit = or-false _ (unusedSet (i .step)) d .0
+        go : (x : Bool) → not (allOf inRange (movedLevels roomy)) ≡ x → (y : Bool) → ltb (i .room) (movedLength roomy) ≡ y →
+            hostMoveOutcome i ≡ inRoom (i .room) (moveOutcome roomy)
+        go true p y q = rw (a, b, c, d, e, p, numbers a, right, fit) refl
+        go false p true q = rw (a, b, c, d, e, p, q, numbers a, right, fit, fits, q) refl
+        go false p false q = rw (a, b, c, d, e, p, q, numbers a, right, fit, fits, q) refl
 
-                go : (x : Bool) → not (allOf inRange (movedLevels roomy)) ≡ x → (y : Bool) → ltb (i .room) (movedLength roomy) ≡ y →
-                    hostMoveOutcome i ≡ inRoom (i .room) (moveOutcome roomy)
-                go true p y q = rw (a, b, c, d, e, p, numbers, right, fit) refl
-                go false p true q = rw (a, b, c, d, e, p, q, numbers, right, fit, fits, q) refl
-                go false p false q = rw (a, b, c, d, e, p, q, numbers, right, fit, fits, q) refl
-
-            pub move-right : (step : Step) → step ≡ toldStep (i .step) → (o : Outcome ℕ) (w : List ℕ) →
-                let m = moveInput (i .n) (i .v) (i .h) step (floats64 (i .points)) floatRoom in
-                (o ≡ inRoom (i .room) (moveOutcome m)) × (w ≡ after o (floatBytes (movedLevels m)) out) →
-                (o ≡ hostMoveOutcome i) × (w ≡ hostMoveBuffer i out)
-            unfolding hostMoveBuffer movedLevels
-            move-right step q o w g =
-                let s : o ≡ hostMoveOutcome i = g .0
-                ∙ ap (λ x. inRoom (i .room) (moveOutcome (moveInput (i .n) (i .v) (i .h) x (floats64 (i .points)) floatRoom))) q ∙ sym same in (
-                  s,
-                  g .1 ∙ ap (λ x. after o (floatBytes (movedLevels (moveInput (i .n) (i .v) (i .h) x (floats64 (i .points)) floatRoom))) out) q
-                      ∙ ap (λ (r : Outcome ℕ). after r (floatBytes (movedLevels roomy)) out) s,
-                )
+    pub move-right : (out : List ℕ) (step : Step) → step ≡ toldStep (i .step) → (o : Outcome ℕ) (w : List ℕ) →
+        let m = moveInput (i .n) (i .v) (i .h) step (floats64 (i .points)) floatRoom in
+        (o ≡ inRoom (i .room) (moveOutcome m)) × (w ≡ after o (floatBytes (movedLevels m)) out) →
+        (o ≡ hostMoveOutcome i) × (w ≡ hostMoveBuffer i out)
+    unfolding hostMoveBuffer movedLevels
+    move-right out step q o w g =
+        let h = rw q at g in
+        (h .0 ∙ sym same, h .1 ∙ ap (λ (r : Outcome ℕ). after r (floatBytes (movedLevels roomy)) out) (h .0 ∙ sym same))
 
 -- floats that were decoded to the front of an array
 pub move-decodes : (n v h : ℕ) (step : Step) (b : List ℕ) (out : List Float) (o : Outcome ℕ) (w fs : List Float) →

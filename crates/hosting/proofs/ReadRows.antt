@@ -21,12 +21,13 @@ use Rattle.words.specs.Inner.Placed.{placed}
 use Rattle.words.proofs.Bytes.{bytes-length}
 use Rattle.words.proofs.Placed.{placed-first, placed-then}
 use Rattle.rules.specs.Calls.{Outcome, accepted, refused, outcome, after, written, firstRefusal}
-use Rattle.rules.specs.Limits.{maxSource, axesOk, stepsOk, within}
+use Rattle.rules.specs.Limits.{maxSource, maxAxes, axesOk, stepsOk, within}
 use Rattle.rules.specs.Shapes.{shapeOk}
 use Rattle.rules.proofs.Accepting.{none-applies, front-of}
 use Rattle.rules.proofs.Answers.{orElse, firstRefusal-append}
 use Rattle.rules.proofs.InLimits.{limits-are}
 use Rattle.rules.proofs.Tests.{and-parts}
+use Rattle.records.specs.Layout.{listSize}
 use Rattle.solids.proofs.Tests.{or-false}
 use Rattle.file.specs.File.{headerSize, dimensionOf, axesOf, vertexCountOf, cellCountOf, stepsOf, kindOf, axisOf, pointCount, fileLength}
 use Rattle.file.specs.Tests.{numbersOk, cellsLength, fileWords}
@@ -34,7 +35,7 @@ use Rattle.file.proofs.Stores.{words-count}
 use Rattle.read.specs.declared.Header.{Header}
 use Rattle.read.specs.Read.{readInput, readRules, readOutcome, readCells, headerOf}
 use Rattle.read.proofs.Outcomes.{ours-long, right-length}
-use Rattle.hosting.specs.Inner.Rooms.{floatRoom}
+use Rattle.hosting.specs.Inner.Rooms.{wordRoom, floatRoom}
 use Rattle.hosting.specs.Reads.{headerBytes, headerWords, pointBytes, wordCount, withHeader, hostReadOutcome, hostReadHeader, hostReadCells}
 use Rattle.hosting.specs.Reads.{hostReadPoints}
 
@@ -45,7 +46,7 @@ pub record Passed (b : List ℕ) : Type 0 where
   pub none : tests b ≡ 0
   pub header : headerSize ≤ length b
   pub whole : length b ≡ fileLength b
-  pub words : cellsLength b ≤ floatRoom
+  pub words : cellsLength b ≤ wordRoom
   pub floats : pointCount b ≤ floatRoom
 
 module _ (b : List ℕ) where
@@ -63,23 +64,23 @@ module _ (b : List ℕ) where
       let l = limits-are maxSource (dimensionOf b) (vertexCountOf b) (cellCountOf b) (ap not (numbers .0)) in
       let both = and-parts (axesOk (axesOf b) && leb (suc (dimensionOf b)) (axesOf b)) (stepsOk (stepsOf b) && within 1 3 (kindOf b)) (numbers .1) in
       let axes =
-      and-parts (leb 1 (axesOf b)) (leb (axesOf b) 8) (and-parts (axesOk (axesOf b)) (leb (suc (dimensionOf b)) (axesOf b)) (both .0) .0) in
+      and-parts (leb 1 (axesOf b)) (leb (axesOf b) maxAxes) (and-parts (axesOk (axesOf b)) (leb (suc (dimensionOf b)) (axesOf b)) (both .0) .0) in
       record {
         none = e;
         header = ours-long b (by .0);
         whole = right-length b (by .1 .1 .0);
-        words = mul-le-mul {n₁ = cellCountOf b} {m₁ = dimensionOf b + 2} {n₂ = 4096} {m₂ = 8} (l .cells) (omega (arith, l .dimension));
-        floats = mul-le-mul {n₁ = vertexCountOf b} {m₁ = axesOf b} {n₂ = 4096} {m₂ = 8} (l .vertices) (leb-true (axesOf b) 8 (axes .1));
+        words = mul-le-mul {m₁ = listSize (dimensionOf b)} {m₂ = listSize maxSource} (l .cells) (omega (arith, l .dimension));
+        floats = mul-le-mul (l .vertices) (leb-true (axesOf b) maxAxes (axes .1));
       }
 
   -- the outcome with room enough
   abbrev pub roomy : Outcome ℕ
-  roomy = wordCount b (readOutcome (readInput b floatRoom floatRoom))
+  roomy = wordCount b (readOutcome (readInput b wordRoom floatRoom))
 
   accepts : tests b ≡ 0 → accepted (cellsLength b) ≡ roomy
   accepts e =
       let f = facts e in
-      rw (split floatRoom floatRoom, e, le-ltb floatRoom (cellsLength b) (f .words), le-ltb floatRoom (pointCount b) (f .floats)) refl
+      rw (split wordRoom floatRoom, e, le-ltb wordRoom (cellsLength b) (f .words), le-ltb floatRoom (pointCount b) (f .floats)) refl
 
   refuses : (k : ℕ) → tests b ≡ suc k → (c p : ℕ) → readOutcome (readInput b c p) ≡ refused (suc k)
   refuses k e c p = rw (split c p, e) refl
@@ -89,7 +90,7 @@ module _ (b : List ℕ) where
     where
       go : (t : ℕ) → tests b ≡ t → Passed b × (n ≡ cellsLength b)
       go zero e = let f = accepts e in (facts e, cc)
-      go (suc k) e = let f = refuses k e floatRoom floatRoom in let z : _≡_ {A = ℕ} 0 1 = cc in absurd (omega arith)
+      go (suc k) e = let f = refuses k e wordRoom floatRoom in let z : _≡_ {A = ℕ} 0 1 = cc in absurd (omega arith)
 
   module _ (header cells points : List ℕ) where
     -- the outcome, and the three buffers by it
@@ -117,7 +118,7 @@ module _ (b : List ℕ) where
             refused k ≡ withHeader (length header) (wordCount b (readOutcome (readInput b (length cells / 2) (length points / 8))))
         go zero e = let f = accepts e in let z : _≡_ {A = ℕ} 0 1 = cc in absurd (omega arith)
         go (suc j) e =
-            let f = refuses j e floatRoom floatRoom in
+            let f = refuses j e wordRoom floatRoom in
             let n : k ≡ suc j = cc in
             rw (refuses j e (length cells / 2) (length points / 8)) (ap {B = Outcome ℕ} refused n)
 
@@ -156,27 +157,27 @@ module _ (b : List ℕ) where
           ltb-false (length points / 8) (pointCount b) (two .1),
         )
 
-  pub read-accepts : (x : Header) → accepted x ≡ readOutcome (readInput b floatRoom floatRoom) → accepted (cellsLength b) ≡ roomy
+  pub read-accepts : (x : Header) → accepted x ≡ readOutcome (readInput b wordRoom floatRoom) → accepted (cellsLength b) ≡ roomy
   read-accepts x e = rw (sym e) refl
 
-  pub read-refuses : (k : ℕ) → refused k ≡ readOutcome (readInput b floatRoom floatRoom) → refused k ≡ roomy
+  pub read-refuses : (k : ℕ) → refused k ≡ readOutcome (readInput b wordRoom floatRoom) → refused k ≡ roomy
   read-refuses k e = rw (sym e) refl
 
   -- with the room told by the array's length
-  pub read-roomy : (words : List ℕ) → length words ≡ floatRoom → (o : Outcome Header) → o ≡ readOutcome (readInput b (length words) floatRoom) →
-      o ≡ readOutcome (readInput b floatRoom floatRoom)
+  pub read-roomy : (words : List ℕ) → length words ≡ wordRoom → (o : Outcome Header) → o ≡ readOutcome (readInput b (length words) floatRoom) →
+      o ≡ readOutcome (readInput b wordRoom floatRoom)
   read-roomy words l o e = e ∙ ap (λ n. readOutcome (readInput b n floatRoom)) l
 
-  pub words-roomy : (words : List ℕ) → length words ≡ floatRoom → (w : List ℕ) → w ≡ readCells (readInput b (length words) floatRoom) words →
-      w ≡ readCells (readInput b floatRoom floatRoom) words
+  pub words-roomy : (words : List ℕ) → length words ≡ wordRoom → (w : List ℕ) → w ≡ readCells (readInput b (length words) floatRoom) words →
+      w ≡ readCells (readInput b wordRoom floatRoom) words
   words-roomy words l w e = e ∙ ap (λ n. readCells (readInput b n floatRoom) words) l
 
-  whole-read : tests b ≡ 0 → readOutcome (readInput b floatRoom floatRoom) ≡ accepted (headerOf b)
+  whole-read : tests b ≡ 0 → readOutcome (readInput b wordRoom floatRoom) ≡ accepted (headerOf b)
   whole-read e =
       let f = facts e in
-      rw (split floatRoom floatRoom, e, le-ltb floatRoom (cellsLength b) (f .words), le-ltb floatRoom (pointCount b) (f .floats)) refl
+      rw (split wordRoom floatRoom, e, le-ltb wordRoom (cellsLength b) (f .words), le-ltb floatRoom (pointCount b) (f .floats)) refl
 
-  pub words-read : (n : ℕ) → accepted n ≡ roomy → (old w : List ℕ) → w ≡ readCells (readInput b floatRoom floatRoom) old →
+  pub words-read : (n : ℕ) → accepted n ≡ roomy → (old w : List ℕ) → w ≡ readCells (readInput b wordRoom floatRoom) old →
       (n ≤ length w) × (take n w ≡ fileWords b)
   unfolding readCells
   words-read n a old w e =

@@ -1,15 +1,15 @@
 -- A step told by numbers, kind by kind.
 --   slide-is, slant-is, turn-is               the step
 --   in-slide, in-slant, in-turn               its floats, with 0 for those that it does not hold
---   held                                      three floats in range
+--   slide-held, slant-held, turn-held         the same floats one by one, where those of the step are in range
 --   unused-slide, unused-slant, unused-turn   which parts are to be zero
 -- Assumes nothing.
-use mathlib.Core.Path.{_≡_, refl}
+use mathlib.Core.Path.{_≡_, refl, _∙_}
 use mathlib.Core.Bool.{true}
 use mathlib.Core.List.{[], _∷_}
 use Prim.Native.Nat.{ℕ}
 use native.Mathlib.Omega.{arith}
-use lib.Ieee.{Float, nan, binary64, ofBits}
+use lib.Ieee.{nan, binary64, ofBits}
 use borrow.Author.Tests.{eq-eqb, ne-eqb}
 use Rattle.words.specs.Records.{allOf}
 use Rattle.words.proofs.Loops.{all-at}
@@ -23,9 +23,13 @@ zero-in : inRange (ofBits binary64 0) ≡ true
 unfolding computing
 zero-in = refl
 
-pub held : (x y z : Float) → allOf inRange (x ∷ y ∷ z ∷ []) ≡ true → (inRange x ≡ true) × (inRange y ≡ true) × (inRange z ≡ true)
-held x y z e =
-    let at = all-at inRange nan (x ∷ y ∷ z ∷ []) in
+-- three floats in range, by their bits
+abbrev pub Held : ℕ → ℕ → ℕ → Type 0
+Held a b c = (inRange (ofBits binary64 a) ≡ true) × (inRange (ofBits binary64 b) ≡ true) × (inRange (ofBits binary64 c) ≡ true)
+
+held : (a b c : ℕ) → allOf inRange (ofBits binary64 a ∷ ofBits binary64 b ∷ ofBits binary64 c ∷ []) ≡ true → Held a b c
+held a b c e =
+    let at = all-at inRange nan (ofBits binary64 a ∷ ofBits binary64 b ∷ ofBits binary64 c ∷ []) in
     (at 0 e (omega arith), at 1 e (omega arith), at 2 e (omega arith))
 
 module _ (t : StepBits) where
@@ -35,6 +39,9 @@ module _ (t : StepBits) where
 
     pub in-slide : allOf inRange (ofBits binary64 (t .a) ∷ ofBits binary64 0 ∷ ofBits binary64 0 ∷ []) ≡ allOf inRange (stepFloats (toldStep t))
     in-slide = rw (eq-eqb (t .kind) 1 e, zero-in) refl
+
+    pub slide-held : allOf inRange (stepFloats (toldStep t)) ≡ true → Held (t .a) 0 0
+    slide-held ranged = held (t .a) 0 0 (in-slide ∙ ranged)
 
     pub unused-slide : anySet (t .other) (t .b) (t .c) ≡ unusedSet t
     unused-slide = rw (eq-eqb (t .kind) 1 e) refl
@@ -46,6 +53,9 @@ module _ (t : StepBits) where
     pub in-slant : allOf inRange (ofBits binary64 (t .a) ∷ ofBits binary64 (t .b) ∷ ofBits binary64 0 ∷ []) ≡ allOf inRange (stepFloats (toldStep t))
     in-slant = rw (ne-eqb (t .kind) 1 n, eq-eqb (t .kind) 2 e, zero-in) refl
 
+    pub slant-held : allOf inRange (stepFloats (toldStep t)) ≡ true → Held (t .a) (t .b) 0
+    slant-held ranged = held (t .a) (t .b) 0 (in-slant ∙ ranged)
+
     pub unused-slant : anySet 0 0 (t .c) ≡ unusedSet t
     unused-slant = rw (ne-eqb (t .kind) 1 n, eq-eqb (t .kind) 2 e) refl
 
@@ -56,6 +66,9 @@ module _ (t : StepBits) where
     pub in-turn : allOf inRange (ofBits binary64 (t .a) ∷ ofBits binary64 (t .b) ∷ ofBits binary64 (t .c) ∷ [])
         ≡ allOf inRange (stepFloats (toldStep t))
     in-turn = rw (ne-eqb (t .kind) 1 n, ne-eqb (t .kind) 2 e) refl
+
+    pub turn-held : allOf inRange (stepFloats (toldStep t)) ≡ true → Held (t .a) (t .b) (t .c)
+    turn-held ranged = held (t .a) (t .b) (t .c) (in-turn ∙ ranged)
 
     pub unused-turn : anySet (t .axis) (t .other) 0 ≡ unusedSet t
     unused-turn = rw (ne-eqb (t .kind) 1 n, ne-eqb (t .kind) 2 e) refl

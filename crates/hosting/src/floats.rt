@@ -12,6 +12,9 @@ ghost use Rattle.hosting.specs.Floats.{floats64, lowBytes, floatBytes};
 use points::range;
 use words::little;
 
+// Floats of the most points: 4,096 on 8 axes.
+pub const FLOAT_ROOM: usize = 32768;
+
 // Whether all floats of the bytes are in range.
 pub fn all_in_range(b: &[u8]) -> bool
     ensures { λ r. ⌜ r ≡ allOf inRange (floats64 (now (b .entry))) ⌝ }

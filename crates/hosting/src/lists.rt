@@ -5,17 +5,24 @@ ghost use Prim.Native.Nat.{_*_, _≤_};
 ghost use lib.Dec.{eqb};
 ghost use lib.ListN.{length};
 ghost use Rattle.words.specs.Records.{allOf};
-ghost use Rattle.rules.specs.Limits.{maxDimension, axesOk};
+ghost use Rattle.rules.specs.Limits.{maxDimension, maxAxes, maxVertices, maxCells, axesOk};
 ghost use Rattle.rules.specs.Shapes.{shapeOk};
 ghost use Rattle.rules.specs.Numbers.{outcomeOf};
 ghost use Rattle.records.specs.Layout.{tableLength};
 ghost use Rattle.points.specs.Step.{inRange};
 ghost use Rattle.list.specs.List.{listOutcome, listBuffer};
 ghost use Rattle.hosting.specs.Floats.{floats64};
+ghost use Rattle.hosting.specs.Inner.Rooms.{tableRoom, floatRoom};
 ghost use Rattle.hosting.specs.Lists.{hostListInput, hostListOutcome, hostListBuffer};
 use crate::floats;
+use crate::floats::FLOAT_ROOM;
 use list::list;
+use records::sizes::TABLE_ROOM;
+use records::sizes::table_words;
+use rules::compare::both;
+use rules::compare::equal;
 use rules::limits::Shape;
+use rules::limits::axes_ok;
 use rules::refusal::Answer;
 use rules::refusal::Refusal;
 use words::copy;
@@ -24,18 +31,16 @@ use words::copy;
 fn numbers_fit(d: usize, n: usize, v: usize, s: usize) -> bool
     ensures { λ r. ⌜ r ≡ (shapeOk maxDimension d v s && axesOk n) ⌝ }
 {
-    Shape::within(Shape::MAX_DIMENSION, d, v, s) & ((1 <= n) & (n <= Shape::MAX_AXES))
+    both(Shape::within(Shape::MAX_DIMENSION, d, v, s), axes_ok(n))
 }
 
 // Row 3: two bytes for each word of the table, eight for each float of the points.
 fn lengths_fit(d: usize, n: usize, v: usize, s: usize, table: usize, points: usize) -> bool
-    requires { ⌜ (d ≤ 7) × (n ≤ 8) × (v ≤ 4096) × (s ≤ 4096) ⌝ }
+    requires { ⌜ (d ≤ maxDimension) × (n ≤ maxAxes) × (v ≤ maxVertices) × (s ≤ maxCells) ⌝ }
     ensures { λ r. ⌜ r ≡ (eqb table (tableLength d s * 2) && eqb points (v * n * 8)) ⌝ }
 {
-    if table != s * (d + d + 3) * 2 {
-        return false;
-    }
-    points == v * n * 8
+    let right = equal(table, table_words(d, s) * 2);
+    both(right, equal(points, v * n * 8))
 }
 
 // List on bytes of the right lengths, whose floats are in range.
@@ -48,15 +53,15 @@ fn list_decoded(
     points: &[u8],
     text: &mut [u8],
 ) -> Answer
-    requires { ⌜ (length (now table) ≤ 139264) × (length (now points) ≤ 262144) × (allOf inRange (floats64 (now points)) ≡ true) ⌝ }
+    requires { ⌜ (length (now table) ≤ tableRoom * 2) × (length (now points) ≤ floatRoom * 8) × (allOf inRange (floats64 (now points)) ≡ true) ⌝ }
     ensures answer { λ r. ⌜ outcomeOf r ≡ listOutcome (hostListInput d n v s (now (table .entry)) (now (points .entry)) (now (text .entry))) ⌝ }
     ensures buffer { λ _. ⌜ now (text .exit)
         ≡ listBuffer (hostListInput d n v s (now (table .entry)) (now (points .entry)) (now (text .entry))) (now (text .entry)) ⌝ }
 {
     let size = table.len() / 2;
     let count = points.len() / 8;
-    let mut words = [0u16; 69632];
-    let mut floats = [0.0f64; 32768];
+    let mut words = [0u16; TABLE_ROOM];
+    let mut floats = [0.0f64; FLOAT_ROOM];
     copy::decode(table, &mut words);
     floats::decode(points, &mut floats);
     list(d, n, v, s, &words[..size], &floats[..count], text)

@@ -11,9 +11,10 @@ ghost use Rattle.rules.specs.Numbers.{outcomeOf};
 ghost use Rattle.file.specs.File.{headerSize, pointCount, fileLength};
 ghost use Rattle.file.specs.Tests.{cellsLength};
 ghost use Rattle.read.specs.Read.{readInput, readOutcome, readCells};
-ghost use Rattle.hosting.specs.Inner.Rooms.{floatRoom};
+ghost use Rattle.hosting.specs.Inner.Rooms.{wordRoom, floatRoom};
 ghost use Rattle.hosting.specs.Reads.{headerBytes, headerWords, pointBytes, wordCount, hostReadOutcome, hostReadHeader, hostReadCells};
 ghost use Rattle.hosting.specs.Reads.{hostReadPoints};
+use crate::floats::FLOAT_ROOM;
 use file::cells;
 use file::numbers;
 use printing::writing::put_text;
@@ -23,13 +24,16 @@ use rules::refusal::Answer;
 use rules::refusal::Refusal;
 use words::copy;
 
+// Words of the largest list that is read: 4,096 cells of dimension 6.
+const WORD_ROOM: usize = 32768;
+
 // The cells' words, with room for the largest file.
 fn read_words(file: &[u8], words: &mut [u16]) -> Answer
-    requires { ⌜ length (now words) ≡ floatRoom ⌝ }
-    ensures answer { λ r. ⌜ outcomeOf r ≡ wordCount (now (file .entry)) (readOutcome (readInput (now (file .entry)) floatRoom floatRoom)) ⌝ }
-    ensures buffer { λ _. ⌜ now (words .exit) ≡ readCells (readInput (now (file .entry)) floatRoom floatRoom) (now (words .entry)) ⌝ }
+    requires { ⌜ length (now words) ≡ wordRoom ⌝ }
+    ensures answer { λ r. ⌜ outcomeOf r ≡ wordCount (now (file .entry)) (readOutcome (readInput (now (file .entry)) wordRoom floatRoom)) ⌝ }
+    ensures buffer { λ _. ⌜ now (words .exit) ≡ readCells (readInput (now (file .entry)) wordRoom floatRoom) (now (words .entry)) ⌝ }
 {
-    let mut floats = [0.0f64; 32768];
+    let mut floats = [0.0f64; FLOAT_ROOM];
     match read(file, words, &mut floats) {
         ReadAnswer::Accepted(_) => Answer::Written(cells::words(file)),
         ReadAnswer::Refused(r) => Answer::Refused(r),
@@ -93,7 +97,7 @@ pub fn read_bytes(file: &[u8], header: &mut [u8], cells: &mut [u8], points: &mut
     ensures points { λ _. ⌜ now (points .exit)
         ≡ hostReadPoints (now (file .entry)) (now (header .entry)) (now (cells .entry)) (now (points .entry)) ⌝ }
 {
-    let mut words = [0u16; 32768];
+    let mut words = [0u16; WORD_ROOM];
     match read_words(file, &mut words) {
         Answer::Written(n) => {
             if no_room(file, header.len(), cells.len(), points.len()) {

@@ -2,8 +2,7 @@
 --   decoded-front         the decoded words stand at the front of the array
 --   wing-outside, wing-wrong, wing-right      the outcome, as the code finds it
 --   wing-after            the buffer, as its outcome says
---   wing-room             room beyond the largest table changes nothing
---   wing-host             the answer and the lent bytes, as the host's definitions say
+--   wing-host             the answer and the lent bytes, as the host's definitions say: room beyond the largest table changes nothing
 --   wing-long             the count is that of the answer's words
 --   sweep-..              the same of sweep
 --   sweep-large           a table too long for its array is swept to too many cells
@@ -25,7 +24,7 @@ use Rattle.rules.specs.Shapes.{shapeOk}
 use Rattle.rules.specs.Calls.{Outcome, accepted, refused, after}
 use Rattle.rules.proofs.Tests.{and-parts}
 use Rattle.solids.specs.Accept.{solidRules}
-use Rattle.records.specs.Layout.{listSize, recordSize, tableLength}
+use Rattle.records.specs.Layout.{listSize, recordSize, listLength, tableLength}
 use Rattle.solids.specs.Table.{tableOfList}
 use Rattle.wing.specs.Wing.{WingInput, wingInput, wingOutcome, wingBuffer, wingRules}
 use Rattle.rules.proofs.InLimits.{limits-are, sweep-limits-are}
@@ -59,26 +58,22 @@ module _ (d v s : ℕ) (cells : List ℕ) (x : ℕ) where
   unfolding wingRead wingRules
   wing-outside e = rw e (wing.refuses (wingInput d v s (words16 cells) x) [] 2 (rw e) .0)
 
-  pub wing-wrong : shapeOk maxDimension d v s ≡ true → (length cells ≡ s * listSize d * 2 → ⊥) → refused 3 ≡ wingRead d v s cells x
+  pub wing-wrong : shapeOk maxDimension d v s ≡ true → (length cells ≡ listLength d s * 2 → ⊥) → refused 3 ≡ wingRead d v s cells x
   unfolding wingRead wingRules
   wing-wrong ok n =
-      sym (hosted-wrong (shapeOk maxDimension d v s) cells (s * listSize d) (wingOutcome (wingInput d v s (words16 cells) x)) ok n
-      (λ w. sym (wing.refuses (wingInput d v s (words16 cells) x) [] 3 (rw (ok, ne-eqb (length (words16 cells)) (s * listSize d) w)) .0)))
+      sym (hosted-wrong (shapeOk maxDimension d v s) cells (listLength d s) (wingOutcome (wingInput d v s (words16 cells) x)) ok n
+      (λ w. sym (wing.refuses (wingInput d v s (words16 cells) x) [] 3 (rw (ok, ne-eqb (length (words16 cells)) (listLength d s) w)) .0)))
 
-  pub wing-right : length cells ≡ s * listSize d * 2 → wingOutcome (wingInput d v s (words16 cells) x) ≡ wingRead d v s cells x
+  pub wing-right : length cells ≡ listLength d s * 2 → wingOutcome (wingInput d v s (words16 cells) x) ≡ wingRead d v s cells x
   unfolding wingRead
-  wing-right e = sym (hosted-right (shapeOk maxDimension d v s) cells (s * listSize d) (wingOutcome (wingInput d v s (words16 cells) x)) e)
+  wing-right e = sym (hosted-right (shapeOk maxDimension d v s) cells (listLength d s) (wingOutcome (wingInput d v s (words16 cells) x)) e)
 
-  pub wing-host : (out : List ℕ) (o : Outcome ℕ) → x ≡ wordsIn out → o ≡ wingRead d v s cells x →
-      (hostAnswer o ≡ hostWing d v s cells out) × (after o (bytesOf (tableOfList (hostList d v s cells out))) out ≡ hostWingBuffer d v s cells out)
-  unfolding wingRead hostWing hostWingOutcome hostWingBuffer
-  wing-host out o room e =
-      let q = e ∙ ap (λ y. hosted (shapeOk maxDimension d v s) cells (wingOutcome (wingInput d v s (words16 cells) y))) room in
-      (ap hostAnswer q, ap (λ r. after r (bytesOf (tableOfList (hostList d v s cells out))) out) q)
+-- the largest list and the largest table
+pub list-fits : (d s : ℕ) → d ≤ maxDimension → s ≤ maxCells → listLength d s ≤ listLength maxDimension maxCells
+list-fits d s hd hs = mul-le-mul {m₁ = listSize d} {m₂ = listSize maxDimension} hs (omega arith)
 
--- the largest table
-pub table-fits : (d s : ℕ) → d ≤ 7 → s ≤ 4096 → tableLength d s ≤ tableRoom
-table-fits d s hd hs = mul-le-mul {n₁ = s} {m₁ = recordSize d} {n₂ = 4096} {m₂ = 17} hs (omega arith)
+pub table-fits : (d s : ℕ) → d ≤ maxDimension → s ≤ maxCells → tableLength d s ≤ tableRoom
+table-fits d s hd hs = mul-le-mul {m₁ = recordSize d} {m₂ = recordSize maxDimension} hs (omega arith)
 
 wing-same : (d v s : ℕ) (ws : List ℕ) (x : ℕ) → wingOutcome (wingInput d v s ws (lesser x tableRoom)) ≡ wingOutcome (wingInput d v s ws x)
 unfolding wingOutcome wingRules solidRules
@@ -89,9 +84,17 @@ wing-same d v s ws x = go (shapeOk maxDimension d v s) refl
         rw (room-cut x tableRoom (tableLength d s) (table-fits d s (l .dimension) (l .cells))) refl
     go false e = rw e refl
 
-pub wing-room : (d v s : ℕ) (cells : List ℕ) (x : ℕ) → wingRead d v s cells (lesser x tableRoom) ≡ wingRead d v s cells x
+wing-room : (d v s : ℕ) (cells : List ℕ) (x : ℕ) → wingRead d v s cells (lesser x tableRoom) ≡ wingRead d v s cells x
 unfolding wingRead
 wing-room d v s cells x = rw (wing-same d v s (words16 cells) x) refl
+
+-- with so many words of room as are lent
+pub wing-host : (d v s : ℕ) (cells out : List ℕ) (x : ℕ) (o : Outcome ℕ) → x ≡ lesser (wordsIn out) tableRoom → o ≡ wingRead d v s cells x →
+    (hostAnswer o ≡ hostWing d v s cells out) × (after o (bytesOf (tableOfList (hostList d v s cells out))) out ≡ hostWingBuffer d v s cells out)
+unfolding wingRead hostWing hostWingOutcome hostWingBuffer
+wing-host d v s cells out x o room e =
+    let q = e ∙ ap (wingRead d v s cells) room ∙ wing-room d v s cells (wordsIn out) in
+    (ap hostAnswer q, ap (λ r. after r (bytesOf (tableOfList (hostList d v s cells out))) out) q)
 
 pub wing-long : (d v s : ℕ) (cells : List ℕ) (x k : ℕ) → wingRead d v s cells x ≡ accepted k →
     k ≡ length (tableOfList (record { d = d; v = v; s = s; words = words16 cells }))
@@ -107,8 +110,12 @@ or-right false e = e
 steps-some : (d v s h : ℕ) → (shapeOk maxSource d v s && stepsOk h) ≡ true → 1 ≤ h
 steps-some d v s h ok = leb-true 1 h (and-parts (leb 1 h) (leb h maxSteps) (and-parts (shapeOk maxSource d v s) (stepsOk h) ok .1) .0)
 
+-- words of the largest table that can be swept: its cells are points
+abbrev pub solidRoom : ℕ
+solidRoom = tableLength 0 maxCells
+
 -- a cell of the table has at most 3 words for each swept cell
-many-cells : (d s h : ℕ) → 1 ≤ h → 12288 < tableLength d s → maxCells < sweptCells d s h
+many-cells : (d s h : ℕ) → 1 ≤ h → solidRoom < tableLength d s → maxCells < sweptCells d s h
 many-cells d s h steps n =
     omega
     (arith, mul-suc s d, mul-add s (d + d) 3, mul-add s d d, one-mul (s * suc d), mul-le-mul-right {m = 1} {n = h} (s * suc d) steps)
@@ -129,21 +136,13 @@ module _ (d v s h : ℕ) (table : List ℕ) (x : ℕ) where
   sweep-right e =
       sym (hosted-right (shapeOk maxSource d v s && stepsOk h) table (tableLength d s) (sweepOutcome (sweepInput d v s h (words16 table) x)) e)
 
-  pub sweep-large : (shapeOk maxSource d v s && stepsOk h) ≡ true → length table ≡ tableLength d s * 2 → 12288 < tableLength d s →
+  pub sweep-large : (shapeOk maxSource d v s && stepsOk h) ≡ true → length table ≡ tableLength d s * 2 → solidRoom < tableLength d s →
       refused 12 ≡ sweepRead d v s h table x
   unfolding sweepRules
   sweep-large ok e n =
       let right = eq-eqb (length (words16 table)) (tableLength d s) (omega (arith, words-count table)) in
       let large = or-right (ltb maxVertices (sweptVertices v h)) (lt-ltb maxCells (sweptCells d s h) (many-cells d s h (steps-some d v s h ok) n)) in
       sweep.refuses (sweepInput d v s h (words16 table) x) [] 12 (rw (ok, right, large)) .0 ∙ sweep-right e
-
-  pub sweep-host : (out : List ℕ) (o : Outcome ℕ) → x ≡ wordsIn out → o ≡ sweepRead d v s h table x →
-      (hostAnswer o ≡ hostSweep d v s h table out)
-      × (after o (bytesOf (sweptWords (hostSweepInput d v s h table out))) out ≡ hostSweepBuffer d v s h table out)
-  unfolding sweepRead hostSweep hostSweepOutcome hostSweepBuffer
-  sweep-host out o room e =
-      let q = e ∙ ap (λ y. hosted (shapeOk maxSource d v s && stepsOk h) table (sweepOutcome (sweepInput d v s h (words16 table) y))) room in
-      (ap hostAnswer q, ap (λ r. after r (bytesOf (sweptWords (hostSweepInput d v s h table out))) out) q)
 
 sweep-same : (d v s h : ℕ) (ws : List ℕ) (x : ℕ) → sweepOutcome (sweepInput d v s h ws (lesser x tableRoom)) ≡ sweepOutcome (sweepInput d v s h ws x)
 unfolding sweepOutcome sweepRules
@@ -161,7 +160,7 @@ sweep-same d v s h ws x =
         rw (room-cut x tableRoom (tableLength (suc d) (sweptCells d s h)) (table-fits (suc d) (sweptCells d s h) (omega (arith, l .dimension)) n))
         refl
 
-pub sweep-room : (d v s h : ℕ) (table : List ℕ) (x : ℕ) → sweepRead d v s h table (lesser x tableRoom) ≡ sweepRead d v s h table x
+sweep-room : (d v s h : ℕ) (table : List ℕ) (x : ℕ) → sweepRead d v s h table (lesser x tableRoom) ≡ sweepRead d v s h table x
 unfolding sweepRead
 sweep-room d v s h table x = rw (sweep-same d v s h (words16 table) x) refl
 
@@ -172,7 +171,10 @@ sweep-long d v s h table x k e =
     swept-long d v s h (words16 table) x k
     (hosted-accepted (shapeOk maxSource d v s && stepsOk h) table (sweepOutcome (sweepInput d v s h (words16 table) x)) k e)
 
--- the room is no part of the words
-pub words-apart : (d v s h : ℕ) (ws : List ℕ) (x y : ℕ) → sweptWords (sweepInput d v s h ws x) ≡ sweptWords (sweepInput d v s h ws y)
-unfolding sweptWords
-words-apart d v s h ws x y = refl
+pub sweep-host : (d v s h : ℕ) (table out : List ℕ) (x : ℕ) (o : Outcome ℕ) → x ≡ lesser (wordsIn out) tableRoom → o ≡ sweepRead d v s h table x →
+    (hostAnswer o ≡ hostSweep d v s h table out)
+    × (after o (bytesOf (sweptWords (sweepInput d v s h (words16 table) x))) out ≡ hostSweepBuffer d v s h table out)
+unfolding sweepRead hostSweep hostSweepOutcome hostSweepBuffer sweptWords
+sweep-host d v s h table out x o room e =
+    let q = e ∙ ap (sweepRead d v s h table) room ∙ sweep-room d v s h table (wordsIn out) in
+    (ap hostAnswer q, ap (λ r. after r (bytesOf (sweptWords (hostSweepInput d v s h table out))) out) q)

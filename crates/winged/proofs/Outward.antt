@@ -4,7 +4,8 @@
 --   count-fits        an accepted call's count is at most the words it was lent
 --   sent-is           what is sent are the bytes of its answer
 --   room-fits         the room is at most the array's words, and the lent buffer's
---   lent-fits, lent-is, send-fits, relayed    the same, where a part of an array was lent
+--   Relayed           what is known where a part of an array was lent
+--   lent-fits, lent-long, send-fits, relayed      so it can be sent, and what is sent are the bytes of the call's answer
 -- Assumes nothing.
 use mathlib.Core.Path.{_≡_, refl, sym, ap, ap₂, _∙_}
 use mathlib.Core.Bool.{Bool, true, false, cond}
@@ -49,17 +50,27 @@ pub room-fits : (m : ℕ) (words out : List ℕ) → m ≡ lesser (length out / 
     (m ≤ length words) × (m * 2 ≤ length out)
 room-fits m words out e long = let l = lesser-le (length out / 2) tableRoom in (omega (arith, l .1), omega (arith, l .0))
 
--- w is what a call left in the first m words of an array
-module _ (words w : List ℕ) (m : ℕ) (same : length w ≡ m) where
+-- w is what a call left in the first m words of an array: accepted, it answers the count of its words T, and they stand there
+pub record Relayed (words out w T : List ℕ) (m : ℕ) (o : Outcome ℕ) : Type 0 where
+  pub room : m * 2 ≤ length out
+  pub same : length w ≡ m
+  pub long : (k : ℕ) → o ≡ accepted k → k ≡ length T
+  pub content : w ≡ after o T (take m words)
+
+module _ {words out w T : List ℕ} {m : ℕ} {o : Outcome ℕ} (r : Relayed words out w T m o) where
   pub lent-fits : m ≤ length (w ++ drop m words)
-  lent-fits = omega (arith, length-append w (drop m words))
+  lent-fits = omega (arith, length-append w (drop m words), r .same)
 
-  pub lent-is : take m (w ++ drop m words) ≡ w
-  lent-is = take-at w (drop m words) m same
+  lent-is : take m (w ++ drop m words) ≡ w
+  lent-is = take-at w (drop m words) m (r .same)
 
-  module _ (T t out : List ℕ) (o : Outcome ℕ) (long : (k : ℕ) → o ≡ accepted k → k ≡ length T) (e : w ≡ after o T t) where
-    pub send-fits : m * 2 ≤ length out → (countOf o ≤ length (take m (w ++ drop m words))) × (countOf o * 2 ≤ length out)
-    send-fits h = let fit = count-fits T t w out o long e in (omega (arith, fit, ap length lent-is), omega (arith, fit))
+  pub lent-long : length (take m (w ++ drop m words)) ≡ m
+  lent-long = ap length lent-is ∙ r .same
 
-    pub relayed : sent o (take m (w ++ drop m words)) out ≡ after o (bytesOf T) out
-    relayed = ap (λ r. sent o r out) lent-is ∙ sent-is T t w out o long e
+  pub send-fits : (countOf o ≤ length (take m (w ++ drop m words))) × (countOf o * 2 ≤ length out)
+  send-fits =
+      let fit = count-fits T (take m words) w out o (r .long) (r .content) in
+      (omega (arith, fit, ap length lent-is), omega (arith, fit, r .same, r .room))
+
+  pub relayed : sent o (take m (w ++ drop m words)) out ≡ after o (bytesOf T) out
+  relayed = ap (λ x. sent o x out) lent-is ∙ sent-is T (take m words) w out o (r .long) (r .content)

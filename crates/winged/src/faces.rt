@@ -16,6 +16,7 @@ use boundary::counting::count_faces;
 use boundary::face::face_word;
 use boundary::walk::next_face;
 use records::sizes::face_size;
+use records::sizes::table_words;
 use rules::limits::Shape;
 use tables::sound::is_sound;
 use words::copy::decode;
@@ -68,7 +69,7 @@ fn faces_from(d: usize, v: usize, s: usize, table: &[u16], out: &mut [u8]) -> i6
     if !is_sound(d, v, s, table) {
         return minus(14);
     }
-    let n = count_faces(d, s, table) * (d + 1);
+    let n = count_faces(d, s, table) * face_size(d);
     if out.len() / 2 < n {
         return minus(15);
     }
@@ -91,7 +92,7 @@ pub(crate) fn faces_bytes(
     if !Shape::within(Shape::MAX_DIMENSION, d, v, s) {
         return minus(2);
     }
-    let n = s * (d + d + 3);
+    let n = table_words(d, s);
     if table.len() != n * 2 {
         return minus(3);
     }

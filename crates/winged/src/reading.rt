@@ -10,6 +10,8 @@ ghost use Rattle.winged.specs.Host.{hostList};
 ghost use Rattle.winged.specs.Inner.Sent.{wingRead, sweepRead};
 use records::sizes::LIST_ROOM;
 use records::sizes::SOLID_ROOM;
+use records::sizes::list_words;
+use records::sizes::table_words;
 use rules::limits::Shape;
 use rules::refusal::Answer;
 use rules::refusal::Refusal;
@@ -26,7 +28,7 @@ pub fn wing_words(d: usize, v: usize, s: usize, cells: &[u8], out: &mut [u16]) -
     if !Shape::within(Shape::MAX_DIMENSION, d, v, s) {
         return Answer::Refused(Refusal::OutsideLimits);
     }
-    let n = s * (d + 2);
+    let n = list_words(d, s);
     if cells.len() != n * 2 {
         return Answer::Refused(Refusal::WrongLength);
     }
@@ -43,7 +45,7 @@ pub fn sweep_words(d: usize, v: usize, s: usize, h: usize, table: &[u8], out: &m
     if !in_limits(d, v, s, h) {
         return Answer::Refused(Refusal::OutsideLimits);
     }
-    let n = s * (d + d + 3);
+    let n = table_words(d, s);
     if table.len() != n * 2 {
         return Answer::Refused(Refusal::WrongLength);
     }

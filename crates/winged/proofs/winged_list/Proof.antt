@@ -12,7 +12,8 @@ use Rattle.winged.proofs.winged_list.Tie as tie
 
 answered-requires : tie.Need-answered-requires
 answered-requires c κs =
-    let a = c .before .before .before .before .before .before .before .args in
+    let s : tie.Start = search needs in
+    let a = s .args in
     omega (
       arith,
       ap countOf (c .before .before .list-bytes .ensures .0),

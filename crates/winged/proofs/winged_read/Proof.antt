@@ -10,12 +10,12 @@ use Rattle.winged.proofs.winged_read.Statement.{statement}
 use Rattle.winged.proofs.winged_read.Tie as tie
 
 answered-requires : tie.Need-answered-requires
-answered-requires c κs = read-small _ _ _ _ _ (c .before .before .before .before .before .before .read-bytes .ensures .0) (omega arith)
+answered-requires c κs = let call : tie.After-read-bytes = search needs in read-small _ _ _ _ _ (call .read-bytes .ensures .0) (omega arith)
 
 returns : tie.Need-returns
 returns c =
-    let call = c .before .before .before .before .before .before .before .read-bytes in
-    (toZ-ofZ w64 _ (search needs) ∙ c .answered .ensures ∙ ap hostAnswer (call .ensures .0), call .ensures .1)
+    let call : tie.After-read-bytes = search needs in
+    (toZ-ofZ w64 _ (search needs) ∙ c .answered .ensures ∙ ap hostAnswer (call .read-bytes .ensures .0), call .read-bytes .ensures .1)
 
 pub winged-read-spec : {M : Type 1} → statement M
 winged-read-spec =

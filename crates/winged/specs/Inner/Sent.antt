@@ -14,11 +14,11 @@ use lib.IntN.{ℤ}
 use lib.ListN.{take, drop}
 use Rattle.words.specs.Records.{concat}
 use Rattle.words.specs.Bytes.{words16, bytesOf}
-use Rattle.rules.specs.Limits.{maxDimension, maxSource, stepsOk}
+use Rattle.rules.specs.Limits.{maxDimension, maxSource, maxCells, stepsOk}
 use Rattle.rules.specs.Shapes.{shapeOk}
 use Rattle.rules.specs.Calls.{Outcome, accepted, refused, after}
 use Rattle.simplex.specs.Cell.{Cell}
-use Rattle.records.specs.Layout.{faceWords, facesWords}
+use Rattle.records.specs.Layout.{tableLength, faceWords, facesWords}
 use Rattle.wing.specs.Wing.{wingInput, wingOutcome}
 use Rattle.sweep.specs.Sweep.{sweepOutcome, sweepInput}
 use Rattle.boundary.specs.Faces.{facesInput, FacesInput, boundaryCells, facesOutcome}
@@ -28,7 +28,7 @@ abbrev pub lesser : ℕ → ℕ → ℕ
 lesser a b = cond (leb a b) a b
 
 abbrev pub tableRoom : ℕ
-tableRoom = 69632
+tableRoom = tableLength maxDimension maxCells
 
 abbrev pub countOf : Outcome ℕ → ℕ
 countOf (accepted n) = n

@@ -1,9 +1,9 @@
 -- `decode` stores the floats: in each turn one more of those that are left is stored. Assumes nothing.
-use mathlib.Core.Path.{refl}
-use Prim.Native.Nat.{_≤_, _-_, _+_}
+use mathlib.Core.Path.{_≡_, refl, sym, ap, _∙_}
+use Prim.Native.Nat.{_≤_, _<_, _-_, _+_}
 use native.Mathlib.Omega.{arith}
-use lib.Ieee.{nan}
-use lib.ListN.{drop}
+use lib.Ieee.{nan, binary64, ofBits}
+use lib.ListN.{length, drop, getD}
 use borrow.Author.Needs.{needs}
 use Rattle.words.proofs.Loops.{all-at}
 use Rattle.words.proofs.Writing.{Left, left-starts, left-next, left-none, put-first}
@@ -25,19 +25,27 @@ start l = l .before .before .before
 loop-holds : tie.Need-loop-holds Inv-loop μ-loop
 loop-holds c = (search needs, left-starts 0 _ _ (omega (arith, floats-length (c .before .before .args .b .now))))
 
+-- a turn's float
+here : (c : tie.After-word64 Inv-loop μ-loop) → let l : tie.At-loop Inv-loop μ-loop = search needs in
+    ofBits binary64 (c .word64 .result) ≡ getD (floats64 (start l .args .b .now)) (l .loop .k) nan
+here c = ap (ofBits binary64) (c .word64 .ensures) ∙ sym (float-of _ _ (c .before .loop-test .taken))
+
+inside : (c : tie.In-loop Inv-loop μ-loop) → let l = c .before in l .loop .k < length (floats64 (start l .args .b .now))
+inside c = omega (arith, floats-length (start (c .before) .args .b .now), c .loop-test .taken)
+
 float-of-requires : tie.Need-float-of-requires Inv-loop μ-loop
 float-of-requires c κs =
-    let l = c .before .before in
-    let b = start l .args .b .now in
-    let k = l .loop .k in
-    cc (float-of b k (omega arith), all-at inRange nan (floats64 b) k (start l .pre .0) (omega (arith, floats-length b)))
+    let l : tie.At-loop Inv-loop μ-loop = search needs in
+    ap inRange (here c) ∙ all-at inRange nan (floats64 (start l .args .b .now)) (l .loop .k) (start l .pre .0) (inside (c .before))
 
 loop-again : tie.Need-loop-again Inv-loop μ-loop
 loop-again c =
-    let l = c .before .before .before in
-    let b = start l .args .b .now in
-    let k = l .loop .k in
-    (omega arith, left-next nan (floats64 b) k (omega (arith, floats-length b)) (l .loop .inv .1) (k + 1) _ (cc (float-of b k (omega arith))) refl)
+    let turn : tie.In-loop Inv-loop μ-loop = search needs in
+    let l = turn .before in
+    let k = l .loop .k in (
+      omega (arith, turn .loop-test .taken),
+      left-next nan (floats64 (start l .args .b .now)) k (inside turn) (l .loop .inv .1) (k + 1) _ (c .float-of .ensures ∙ here (search needs)) refl,
+    )
 
 returns : tie.Need-returns Inv-loop μ-loop
 returns c =

@@ -27,14 +27,16 @@ loop-holds c =
 
 put-float-requires : tie.Need-put-float-requires Inv-loop μ-loop
 put-float-requires c κs =
-    let s = c .before .before .before .before .before .before in
+    let s : tie.Start Inv-loop μ-loop = search needs in
     (all-at inRange nan (s .args .xs .now) (c .before .before .before .loop .k) (s .pre .0) (omega arith), omega arith)
 
 loop-again : tie.Need-loop-again Inv-loop μ-loop
 unfolding floatBytes
 loop-again c =
-    let l = c .before .before .before .before .before .before .loop in
-    let xs = c .before .before .before .before .before .before .before .before .before .args .xs .now in (
+    let turn : tie.At-loop Inv-loop μ-loop = search needs in
+    let s : tie.Start Inv-loop μ-loop = search needs in
+    let l = turn .loop in
+    let xs = s .args .xs .now in (
       omega arith,
       search needs,
       left-item (λ (x : Float). lowBytes 8 (toBits binary64 x)) nan xs (l .k) (omega arith) (l .inv .2) ((l .k + 1) * 8) _
@@ -44,9 +46,9 @@ loop-again c =
 returns : tie.Need-returns Inv-loop μ-loop
 unfolding floatBytes
 returns c =
+    let s : tie.Start Inv-loop μ-loop = search needs in
     let l = c .before .loop in
-    put-first (left-items (λ (x : Float). lowBytes 8 (toBits binary64 x))
-    (c .before .before .before .before .args .xs .now) (l .k) (omega arith) (l .inv .2))
+    put-first (left-items (λ (x : Float). lowBytes 8 (toBits binary64 x)) (s .args .xs .now) (l .k) (omega arith) (l .inv .2))
 
 pub encode-spec : {M : Type 1} → statement M
 encode-spec =

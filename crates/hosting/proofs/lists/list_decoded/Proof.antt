@@ -1,27 +1,29 @@
 -- `list_decoded` lends list what it decoded. Assumes nothing.
 use mathlib.Core.Path.{sym}
+use Prim.Native.Nat.{_/_, _≤_}
 use native.Mathlib.Omega.{arith}
 use borrow.Author.Needs.{needs}
+use lib.ListN.{length}
 use lib.Seq.{length-take-le}
+use Rattle.hosting.specs.Inner.Rooms.{tableRoom, floatRoom}
 use Rattle.hosting.proofs.FloatLaws.{words-front, floats-front}
 use Rattle.hosting.proofs.ListRows.{list-decodes}
 use Rattle.hosting.proofs.lists.list_decoded.Statement.{statement}
 use Rattle.hosting.proofs.lists.list_decoded.Tie as tie
 
-decode-requires-2 : tie.Need-decode-requires-2
-decode-requires-2 c κs = (c .before .before .before .before .before .before .before .pre .2, omega arith)
+-- what is decoded fits its array
+words-fit : (s : tie.Start) → length (s .args .table .now) / 2 ≤ tableRoom
+words-fit s = omega (arith, s .pre .0)
 
-slice-aggregate-list : tie.Need-slice-aggregate-list
-slice-aggregate-list c = sym (length-take-le _ _ (omega arith))
-
-slice-aggregate-list-2 : tie.Need-slice-aggregate-list-2
-slice-aggregate-list-2 c = sym (length-take-le _ _ (omega arith))
+floats-fit : (s : tie.Start) → length (s .args .points .now) / 8 ≤ floatRoom
+floats-fit s = omega (arith, s .pre .1)
 
 returns : tie.Need-returns
 returns c =
-    let floats = c .before .before .before .before .before .before .before in
-    let words = floats .before .before .before in
-    let a = words .before .before .before .before .before .args in
+    let s : tie.Start = search needs in
+    let a = s .args in
+    let words : tie.After-decode = search needs in
+    let floats : tie.After-decode2 = search needs in
     list-decodes (a .d) (a .n) (a .v) (a .s) (a .table .now) (a .points .now) (a .text .now) _ _ _ _ (c .before .before .list .ensures)
     (words-front (a .table .now) _ _ (words .decode .ensures)) (floats-front (a .points .now) _ _ (floats .decode2 .ensures))
 
@@ -32,11 +34,11 @@ list-decoded-spec =
     (λ c. search needs)
     (λ c κs. search needs)
     (λ c. search needs)
-    decode-requires-2
+    (λ c κs. let s : tie.Start = search needs in (s .pre .2, omega (arith, floats-fit s)))
     (λ c. search needs)
-    slice-aggregate-list
+    (λ c. sym (length-take-le _ _ (omega (arith, words-fit (search needs)))))
     (λ c. search needs)
-    slice-aggregate-list-2
+    (λ c. sym (length-take-le _ _ (omega (arith, floats-fit (search needs)))))
     (λ c κs. search needs)
     (λ c. search needs)
     returns)

@@ -1,11 +1,10 @@
--- `numbers_fit` tests the shape and the axes. Assumes nothing.
-use mathlib.Core.Path.{refl}
+-- `numbers_fit` answers row 2, by the tests of the shape and of the axes. Assumes nothing.
 use borrow.Author.Needs.{needs}
 use Rattle.hosting.proofs.lists.numbers_fit.Statement.{statement}
 use Rattle.hosting.proofs.lists.numbers_fit.Tie as tie
 
 returns : tie.Need-returns
-returns c = rw (c .within .ensures) refl
+returns c = cc
 
 pub numbers-fit-spec : {M : Type 1} → statement M
-numbers-fit-spec = tie.close (tie.spec (λ c κs. search needs) returns)
+numbers-fit-spec = tie.close (tie.spec (λ c κs. search needs) (λ c κs. search needs) (λ c κs. search needs) returns)

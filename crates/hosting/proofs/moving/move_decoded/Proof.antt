@@ -13,9 +13,10 @@ slice-aggregate-move-points c = sym (length-take-le _ _ (omega arith))
 
 returns : tie.Need-returns
 returns c =
-    let a = c .before .before .before .before .before .before .before .before .before .before .args in
-    move-decodes _ _ _ _ (a .points .now) (a .out .now) _ _ _ (c .before .before .move-points .ensures)
-    (floats-front (a .points .now) _ _ (c .before .before .before .before .before .before .decode .ensures))
+    let s : tie.Start = search needs in
+    let floats : tie.After-decode = search needs in
+    move-decodes _ _ _ _ (s .args .points .now) (s .args .out .now) _ _ _ (c .before .before .move-points .ensures)
+    (floats-front (s .args .points .now) _ _ (floats .decode .ensures))
 
 pub move-decoded-spec : {M : Type 1} → statement M
 move-decoded-spec =

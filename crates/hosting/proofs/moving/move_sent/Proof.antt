@@ -15,8 +15,7 @@ use Rattle.hosting.proofs.moving.move_sent.Statement.{statement}
 use Rattle.hosting.proofs.moving.move_sent.Tie as tie
 
 abbrev input : tie.After-m → MoveInput
-input c = let a = c .before .before .before .before .before .before .before .args in
-    moveInput (a .n) (a .v) (a .h) (a .step) (floats64 (a .points .now)) floatRoom
+input c = let s : tie.Start = search needs in let a = s .args in moveInput (a .n) (a .v) (a .h) (a .step) (floats64 (a .points .now)) floatRoom
 
 accepts : (c : tie.After-m) → accepted (c .m .given .0 .0) ≡ moveOutcome (input c)
 accepts c = ap outcomeOf (sym (c .m .given .1)) ∙ c .before .before .before .move-decoded .ensures .0
@@ -26,21 +25,13 @@ front : (c : tie.After-m) → let w = c .before .before .before .move-decoded .l
 front c = sent-front (input c) _ _ _ (accepts c) (c .before .before .before .move-decoded .ensures .1)
 
 returns : tie.Need-returns
-returns c = (
-  sent-short (input (c .before .before)) _ _ _ (accepts (c .before .before))
-      (c .before .before .before .before .before .move-decoded .ensures .1) _ (c .if1 .taken),
-  refl,
-)
-
-array-share-prefix-out : tie.Need-array-share-prefix-out
-array-share-prefix-out c = front (c .before .before) .0
-
-slice-aggregate-encode : tie.Need-slice-aggregate-encode
-slice-aggregate-encode c = sym (length-take-le _ _ (front (c .before .before .before) .0))
+returns c =
+    let e : tie.After-m = search needs in
+    (sent-short (input e) _ _ _ (accepts e) (e .before .before .before .move-decoded .ensures .1) _ (c .if1 .taken), refl)
 
 encode-requires : tie.Need-encode-requires
 encode-requires c κs =
-    let e = c .before .before .before .before in (
+    let e : tie.After-m = search needs in (
       sent-ranged (input e) _ _ _ (accepts e) (e .before .before .before .move-decoded .ensures .1),
       omega (
         arith,
@@ -51,12 +42,15 @@ encode-requires c κs =
 
 returns-2 : tie.Need-returns-2
 returns-2 c =
-    let e = c .before .before .before .before .before .before .before in
-    sent-fits (input e) _ _ _ (accepts e) (e .before .before .before .move-decoded .ensures .1) _ _
-    _ (c .before .before .before .before .before .if1 .left) (c .before .before .encode .ensures)
+    let e : tie.After-m = search needs in
+    let room : tie.Else1 = search needs in
+    sent-fits (input e) _ _ _ (accepts e) (e .before .before .before .move-decoded .ensures .1) _ _ _ (room .if1 .left)
+    (c .before .before .encode .ensures)
 
 returns-3 : tie.Need-returns-3
-returns-3 c = (sent-refused _ _ _ (ap outcomeOf (sym (c .before .r .given .1)) ∙ c .before .before .before .before .move-decoded .ensures .0), refl)
+returns-3 c =
+    let call : tie.After-move-decoded = search needs in
+    (sent-refused _ _ _ (ap outcomeOf (sym (c .before .r .given .1)) ∙ call .move-decoded .ensures .0), refl)
 
 pub move-sent-spec : {M : Type 1} → statement M
 move-sent-spec =
@@ -66,8 +60,8 @@ move-sent-spec =
     (λ c κs. search needs)
     (λ c. search needs)
     returns
-    array-share-prefix-out
-    slice-aggregate-encode
+    (λ c. front (search needs) .0)
+    (λ c. sym (length-take-le _ _ (front (search needs) .0)))
     encode-requires
     (λ c. search needs)
     (λ c. search needs)

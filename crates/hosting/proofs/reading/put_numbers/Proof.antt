@@ -18,10 +18,10 @@ cast-t22 c = omega (arith, c .shared-slice-known4 .given 15)
 
 returns : tie.Need-returns
 returns c =
-    let a = c .before .before .before .before .before .before .before .before .before .before .before .before .before .before .before .args in
-    let s = c .before .before .before .before .before .before .before .before in
+    let a : tie.Start = search needs in
+    let s : tie.After-steps = search needs in
     c .before .before .encode .ensures
-    ∙ numbers-put (a .file .now) _ _ _ _ _ (drop 16 (a .header .now))
+    ∙ numbers-put (a .args .file .now) _ _ _ _ _ (drop 16 (a .args .header .now))
     (s .before .before .before .before .dimension .ensures .0) (s .before .before .before .axes .ensures .0)
     (s .before .before .vertex-count .ensures .0) (s .before .cell-count .ensures .0) (s .steps .ensures .0)
 

@@ -5,8 +5,10 @@ use Rattle.hosting.proofs.reading.put_points.Statement.{statement}
 use Rattle.hosting.proofs.reading.put_points.Tie as tie
 
 returns : tie.Need-returns
-returns c = let s = c .before .before .before .before .before .before .before .before in points-put (s .args .file .now) _
-    (s .args .points .now) _ (c .before .before .before .before .before .point-count .ensures .0) (c .before .before .put-text .ensures .content)
+returns c =
+    let s : tie.Start = search needs in
+    let n : tie.After-point-count = search needs in
+    points-put (s .args .file .now) _ (s .args .points .now) _ (n .point-count .ensures .0) (c .before .before .put-text .ensures .content)
 
 pub put-points-spec : {M : Type 1} → statement M
 put-points-spec =

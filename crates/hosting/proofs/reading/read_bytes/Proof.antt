@@ -16,7 +16,7 @@ use Rattle.hosting.proofs.reading.read_bytes.Statement.{statement}
 use Rattle.hosting.proofs.reading.read_bytes.Tie as tie
 
 abbrev file : tie.After-n → List ℕ
-file e = e .before .before .before .before .before .before .before .before .before .args .file .now
+file e = let s : tie.Start = search needs in s .args .file .now
 
 accepts : (e : tie.After-n) → accepted (e .n .given .0 .0) ≡ roomy (file e)
 accepts e = ap outcomeOf (sym (e .n .given .1)) ∙ e .before .before .before .read-words .ensures .0
@@ -30,64 +30,49 @@ front : (e : tie.After-n) → let w = e .before .before .before .read-words .las
 front e = words-read (file e) _ (accepts e) _ _ (e .before .before .before .read-words .ensures .1)
 
 -- there is room
-enough : (c : tie.Else1) → let a = c .before .before .before .before .before .before .before .before .before .before .before .before .args in
+enough : (c : tie.Else1) → let s : tie.Start = search needs in let a = s .args in
     short (a .file .now) (a .header .now) (a .cells .now) (a .points .now) ≡ false
 enough c = sym (c .before .no-room .ensures) ∙ c .if1 .left
 
-space : (c : tie.Else1) → let a = c .before .before .before .before .before .before .before .before .before .before .before .before .args in
+space : (c : tie.Else1) → let s : tie.Start = search needs in let a = s .args in
     (40 ≤ length (a .header .now)) × (cellsLength (a .file .now) ≤ length (a .cells .now) / 2)
     × (pointCount (a .file .now) ≤ length (a .points .now) / 8)
-space c = let a = c .before .before .before .before .before .before .before .before .before .before .before .before .args in
-    rooms (a .file .now) (a .header .now) (a .cells .now) (a .points .now) (enough c)
-
-no-room-requires : tie.Need-no-room-requires
-no-room-requires c κs = ok (c .before) .0 .header
+space c = let s : tie.Start = search needs in let a = s .args in rooms (a .file .now) (a .header .now) (a .cells .now) (a .points .now) (enough c)
 
 returns : tie.Need-returns
 returns c =
-    let e = c .before .before .before in
-    let a = e .before .before .before .before .before .before .before .before .before .args in
-    read-short (file e) (a .header .now) (a .cells .now) (a .points .now) (ok e .0) (sym (c .before .no-room .ensures) ∙ c .if1 .taken)
-
-put-header-requires : tie.Need-put-header-requires
-put-header-requires c κs = (ok (c .before .before .before .before) .0 .header, space (c .before) .0)
-
-array-share-prefix-words : tie.Need-array-share-prefix-words
-array-share-prefix-words c = front (c .before .before .before .before .before .before .before) .0
-
-slice-aggregate-encode : tie.Need-slice-aggregate-encode
-slice-aggregate-encode c = sym (length-take-le _ _ (front (c .before .before .before .before .before .before .before .before) .0))
+    let s : tie.Start = search needs in
+    let a = s .args in
+    read-short (a .file .now) (a .header .now) (a .cells .now) (a .points .now) (ok (search needs) .0)
+    (sym (c .before .no-room .ensures) ∙ c .if1 .taken)
 
 encode-requires : tie.Need-encode-requires
 encode-requires c κs =
-    let e = c .before .before .before .before .before .before .before .before .before in
+    let e : tie.After-n = search needs in
     omega (
       arith,
       length-take-le (e .n .given .0 .0) (e .before .before .before .read-words .last .1 .0) (front e .0),
       ok e .1,
-      space (c .before .before .before .before .before .before) .1,
+      space (search needs) .1,
     )
-
-put-points-requires : tie.Need-put-points-requires
-put-points-requires c κs = (
-  ok (c .before .before .before .before .before .before .before .before .before .before .before .before .before) .0 .whole,
-  space (c .before .before .before .before .before .before .before .before .before .before) .2,
-)
 
 returns-2 : tie.Need-returns-2
 returns-2 c =
-    let e = c .before .before .before .before .before .before .before .before .before .before .before .before .before .before .before .before in
-    let a = e .before .before .before .before .before .before .before .before .before .args in
-    read-done (file e) (a .header .now) (a .cells .now) (a .points .now) (ok e .0) (enough
-    (c .before .before .before .before .before .before .before .before .before .before .before .before .before)) _ (ok e .1) _ (front e .1) _ _ _
-    (c .before .before .before .before .before .before .before .before .before .before .before .put-header .ensures)
-    (c .before .before .before .before .before .before .encode .ensures) (c .before .before .put-points .ensures)
+    let s : tie.Start = search needs in
+    let a = s .args in
+    let e : tie.After-n = search needs in
+    let header : tie.After-put-header = search needs in
+    let words : tie.After-encode = search needs in
+    read-done (a .file .now) (a .header .now) (a .cells .now) (a .points .now) (ok e .0) (enough (search needs)) _ (ok e .1) _ (front e .1) _ _ _
+    (header .put-header .ensures) (words .encode .ensures) (c .before .before .put-points .ensures)
 
 returns-3 : tie.Need-returns-3
 returns-3 c =
-    let a = c .before .before .before .before .before .before .before .before .before .before .args in
-    read-refused (a .file .now) (a .header .now) (a .cells .now)
-    (a .points .now) _ (ap outcomeOf (sym (c .before .r .given .1)) ∙ c .before .before .before .before .read-words .ensures .0)
+    let s : tie.Start = search needs in
+    let a = s .args in
+    let r : tie.After-read-words = search needs in
+    read-refused (a .file .now) (a .header .now) (a .cells .now) (a .points .now) _
+    (ap outcomeOf (sym (c .before .r .given .1)) ∙ r .read-words .ensures .0)
 
 pub read-bytes-spec : {M : Type 1} → statement M
 read-bytes-spec =
@@ -96,13 +81,13 @@ read-bytes-spec =
     (λ c. search needs)
     (λ c κs. search needs)
     (λ c. search needs)
-    no-room-requires
+    (λ c κs. ok (search needs) .0 .header)
     returns
-    put-header-requires
-    array-share-prefix-words
-    slice-aggregate-encode
+    (λ c κs. (ok (search needs) .0 .header, space (search needs) .0))
+    (λ c. front (search needs) .0)
+    (λ c. sym (length-take-le _ _ (front (search needs) .0)))
     encode-requires
-    put-points-requires
+    (λ c κs. (ok (search needs) .0 .whole, space (search needs) .2))
     (λ c. search needs)
     (λ c. search needs)
     (λ c. search needs)

@@ -1,42 +1,31 @@
 -- `read_words` reads with room enough. Assumes nothing.
 use mathlib.Core.Path.{_≡_, sym, ap, _∙_}
-use mathlib.Core.List.{List}
-use Prim.Native.Nat.{ℕ}
 use Rattle.rules.specs.Calls.{accepted}
-use Rattle.read.specs.Read.{readInput, readOutcome, headerOutcome}
-use Rattle.hosting.specs.Inner.Rooms.{floatRoom}
-use Rattle.hosting.proofs.ReadRows.{passed, read-accepts, read-refuses, read-roomy, words-roomy}
+use Rattle.file.specs.Tests.{cellsLength}
+use Rattle.read.specs.Read.{readInput, readOutcome, readCells, headerOutcome}
+use Rattle.hosting.specs.Inner.Rooms.{wordRoom, floatRoom}
+use Rattle.hosting.proofs.ReadRows.{passed, roomy, read-accepts, read-refuses, read-roomy, words-roomy}
 use borrow.Author.Needs.{needs}
 use Rattle.hosting.proofs.reading.read_words.Statement.{statement}
 use Rattle.hosting.proofs.reading.read_words.Tie as tie
 
-abbrev file : tie.After-enum-told → List ℕ
-file c = c .before .before .before .before .before .before .before .before .before .before .args .file .now
+-- what read answers and leaves, with the room told by the limits
+answer : (c : tie.After-read) → let s : tie.Start = search needs in
+    headerOutcome (c .read .result) ≡ readOutcome (readInput (s .args .file .now) wordRoom floatRoom)
+answer c = let s : tie.Start = search needs in read-roomy (s .args .file .now) (s .args .words .now) (s .pre) _ (c .read .ensures .0)
 
-accepts : (c : tie.After-enum-told) → accepted (c .enum-told .given .0 .0) ≡ readOutcome (readInput (file c) floatRoom floatRoom)
-accepts c =
-    ap headerOutcome (sym (c .enum-told .given .1))
-    ∙ read-roomy (file c) (c .before .before .before .before .before .before .before .before .before .before .args .words .now)
-    (c .before .before .before .before .before .before .before .before .before .before .pre)
-    _ (c .before .before .before .before .before .read .ensures .0)
+left : (c : tie.After-read) → let s : tie.Start = search needs in
+    c .read .last .1 .0 ≡ readCells (readInput (s .args .file .now) wordRoom floatRoom) (s .args .words .now)
+left c = let s : tie.Start = search needs in words-roomy (s .args .file .now) (s .args .words .now) (s .pre) _ (c .read .ensures .1 .0)
 
-words-requires : tie.Need-words-requires
-words-requires c κs = passed (file c) _ (read-accepts (file c) _ (accepts c)) .0 .header
+accepts : (c : tie.After-enum-told) → let s : tie.Start = search needs in accepted (cellsLength (s .args .file .now)) ≡ roomy (s .args .file .now)
+accepts c = read-accepts _ _ (ap headerOutcome (sym (c .enum-told .given .1)) ∙ answer (search needs))
 
 returns : tie.Need-returns
-returns c =
-    let s = c .before .before .before .before .before .before .before .before .before .before .before in (
-      ap accepted (c .words2 .ensures) ∙ read-accepts (file (c .before)) _ (accepts (c .before)),
-      words-roomy (s .args .file .now) (s .args .words .now) (s .pre) _ (c .before .before .before .before .before .before .read .ensures .1 .0),
-    )
+returns c = (ap accepted (c .words2 .ensures) ∙ accepts (search needs), left (search needs))
 
 returns-2 : tie.Need-returns-2
-returns-2 c =
-    let s = c .before .before .before .before .before .before .before .before .before .before .before in (
-      read-refuses (s .args .file .now) _ (ap headerOutcome (sym (c .before .r .given .1))
-          ∙ read-roomy (s .args .file .now) (s .args .words .now) (s .pre) _ (c .before .before .before .before .before .before .read .ensures .0)),
-      words-roomy (s .args .file .now) (s .args .words .now) (s .pre) _ (c .before .before .before .before .before .before .read .ensures .1 .0),
-    )
+returns-2 c = (read-refuses _ _ (ap headerOutcome (sym (c .before .r .given .1)) ∙ answer (search needs)), left (search needs))
 
 pub read-words-spec : {M : Type 1} → statement M
 read-words-spec =
@@ -45,7 +34,7 @@ read-words-spec =
     (λ c. search needs)
     (λ c κs. search needs)
     (λ c. search needs)
-    words-requires
+    (λ c κs. passed _ _ (accepts c) .0 .header)
     (λ c. search needs)
     (λ c. search needs)
     returns

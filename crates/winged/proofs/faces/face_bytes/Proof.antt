@@ -37,28 +37,13 @@ fits c =
     bytes-fit (words (start turn)) (turn .loop .j) (omega (arith, long (start turn))) (turn .loop .inv .2)
 
 loop-holds : tie.Need-loop-holds Inv-loop μ-loop
-loop-holds c = (omega arith, cc, left-starts _ _ _ (omega arith))
-
-slice-write-out : tie.Need-slice-write-out Inv-loop μ-loop
-slice-write-out c = omega (arith, fits c)
-
-add-out : tie.Need-add-out Inv-loop μ-loop
-add-out c = omega (arith, fits c)
-
-slice-write-out-2 : tie.Need-slice-write-out-2 Inv-loop μ-loop
-slice-write-out-2 c = below-set ℕ (c .before .before .loop .out) _ _ _ (omega (arith, fits c))
-
-add-next : tie.Need-add-next Inv-loop μ-loop
-add-next c = omega (arith, fits c)
+loop-holds c = let s : tie.Start Inv-loop μ-loop = search needs in (omega arith, c .face-size .ensures, left-starts _ _ _ (s .pre .2))
 
 loop-again : tie.Need-loop-again Inv-loop μ-loop
 loop-again c =
     let turn = c .before .before in
     let here : turn .loop .j < length (words (start turn)) = omega (arith, long (start turn)) in
-    (omega arith, cc, left-bytes (words (start turn)) (turn .loop .j) here (turn .loop .inv .2) _ (c .face-word .ensures))
-
-same-length : tie.Need-same-length Inv-loop μ-loop
-same-length c = c .before .loop .inv .2 .same
+    (omega arith, turn .loop .inv .1, left-bytes (words (start turn)) (turn .loop .j) here (turn .loop .inv .2) _ (c .face-word .ensures))
 
 returns : tie.Need-returns Inv-loop μ-loop
 returns c =
@@ -75,13 +60,13 @@ face-bytes-spec =
     loop-holds
     (λ c κs. search needs)
     (λ c. search needs)
-    slice-write-out
+    (λ c. omega (arith, fits c))
     (λ c. search needs)
-    add-out
-    slice-write-out-2
-    add-next
+    (λ c. omega (arith, fits c))
+    (λ c. below-set ℕ (c .before .before .loop .out) _ _ _ (omega (arith, fits c)))
+    (λ c. omega (arith, fits c))
     (λ c. search needs)
     (λ c. search needs)
     loop-again
-    same-length
+    (λ c. c .before .loop .inv .2 .same)
     returns)

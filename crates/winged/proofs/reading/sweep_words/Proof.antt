@@ -1,9 +1,7 @@
 -- The call sweep on bytes: each return is the outcome of its row, and the call is lent the decoded words. Assumes nothing.
 use mathlib.Core.Path.{_≡_, refl, sym, ap, _∙_}
 use mathlib.Core.Bool.{true, not, _&&_}
-use mathlib.Core.List.{List}
 use Prim.Native.Nat.{ℕ, _*_, _≤_}
-use native.Mathlib.Nat.{mul-le-mul}
 use native.Mathlib.Omega.{arith}
 use borrow.Author.Needs.{needs}
 use borrow.Author.Tests.{not-true, not-false}
@@ -12,90 +10,87 @@ use lib.Seq.{length-take-le}
 use Rattle.words.specs.Bytes.{words16}
 use Rattle.rules.specs.Limits.{maxSource, stepsOk}
 use Rattle.rules.specs.Shapes.{shapeOk}
-use Rattle.records.specs.Layout.{recordSize}
+use Rattle.records.specs.Layout.{tableLength}
 use Rattle.sweep.specs.Sweep.{sweepOutcome, sweepBuffer, sweepInput}
-use Rattle.rules.proofs.InLimits.{sweep-limits-are}
-use Rattle.winged.proofs.Inward.{decoded-front, sweep-after, sweep-large, sweep-outside, sweep-wrong, sweep-right}
+use Rattle.rules.proofs.InLimits.{SweepLimits, sweep-limits-are}
+use Rattle.winged.specs.Inner.Sent.{tableRoom}
+use Rattle.winged.proofs.Inward.{decoded-front, table-fits, sweep-after, sweep-large, sweep-outside, sweep-wrong, sweep-right}
 use Rattle.winged.proofs.reading.sweep_words.Statement.{statement}
 use Rattle.winged.proofs.reading.sweep_words.Tie as tie
 
 abbrev start : tie.Else1 → tie.Start
 start c = c .before .before .before .before
 
-inside : (c : tie.Else1) → (shapeOk maxSource (start c .args .d) (start c .args .v) (start c .args .s) && stepsOk (start c .args .h)) ≡ true
+inside : (c : tie.Else1) → let a = start c .args in (shapeOk maxSource (a .d) (a .v) (a .s) && stepsOk (a .h)) ≡ true
 inside c = sym (c .before .in-limits .ensures) ∙ not-false _ (c .if1 .left)
 
--- the largest table within the limits
-few : (c : tie.Else1) → (start c .args .d ≤ 6) × (start c .args .s * recordSize (start c .args .d) ≤ 61440)
+limits : (c : tie.Else1) → let a = start c .args in SweepLimits (a .d) (a .v) (a .s) (a .h)
+limits c = sweep-limits-are _ _ _ _ (ap not (inside c))
+
+-- the words that the table should have
+twice : (c : tie.After-table-words) → let a = start (c .before) .args in c .table-words .result * 2 ≡ tableLength (a .d) (a .s) * 2
+twice c = ap (λ n. n * 2) (c .table-words .ensures)
+
+few : (c : tie.After-table-words) → c .table-words .result ≤ tableRoom
 few c =
-    let a = start c .args in
-    let l = sweep-limits-are (a .d) (a .v) (a .s) (a .h) (ap not (inside c)) in
-    (l .dimension, mul-le-mul {n₁ = a .s} {m₁ = recordSize (a .d)} {n₂ = 4096} {m₂ = 15} (l .cells) (omega (arith, l .dimension)))
-
--- the table lent, and its words
-abbrev table : tie.Else2 → List ℕ
-table c = start (c .before) .args .table .now
-
-abbrev count : tie.Else2 → ℕ
-count c = start (c .before) .args .s * recordSize (start (c .before) .args .d)
+    let l = limits (c .before) in
+    let a = start (c .before) .args in
+    omega (arith, c .table-words .ensures, table-fits (a .d) (a .s) (omega arith) (l .cells))
 
 returns : tie.Need-returns
 returns c =
-    let a = c .before .before .before .before .args in (
+    let s : tie.Start = search needs in
+    let a = s .args in (
       sweep-outside (a .d) (a .v) (a .s) (a .h) (a .table .now) (length (a .out .now))
           (sym (c .before .in-limits .ensures) ∙ not-true _ (c .if1 .taken)),
       refl,
     )
 
-add-n : tie.Need-add-n
-add-n c = omega (arith, few c .0)
-
-add-n-2 : tie.Need-add-n-2
-add-n-2 c = omega (arith, few c .0)
-
-mul-n : tie.Need-mul-n
-mul-n c = omega (arith, few c .1)
-
-mul-if2 : tie.Need-mul-if2
-mul-if2 c = omega (arith, few c .1)
+table-words-requires : tie.Need-table-words-requires
+table-words-requires c κs = let l = limits c in (omega arith, l .cells)
 
 returns-2 : tie.Need-returns-2
 returns-2 c =
-    let a = start (c .before) .args in
-    (sweep-wrong (a .d) (a .v) (a .s) (a .h) (a .table .now) (length (a .out .now)) (inside (c .before)) (c .if2 .taken), refl)
+    let one : tie.Else1 = search needs in
+    let n : tie.After-table-words = search needs in
+    let a = start one .args in
+    (sweep-wrong (a .d) (a .v) (a .s) (a .h) (a .table .now) (length (a .out .now)) (inside one) (λ e. c .if2 .taken (e ∙ sym (twice n))), refl)
 
 returns-3 : tie.Need-returns-3
 returns-3 c =
-    let two = c .before in
-    let a = start (two .before) .args in
-    (sweep-large (a .d) (a .v) (a .s) (a .h) (a .table .now) (length (a .out .now)) (inside (two .before)) (two .if2 .left) (c .if3 .taken), refl)
+    let one : tie.Else1 = search needs in
+    let n : tie.After-table-words = search needs in
+    let a = start one .args in (
+      sweep-large (a .d) (a .v) (a .s) (a .h) (a .table .now) (length (a .out .now)) (inside one) (c .before .if2 .left ∙ twice n)
+          (omega (arith, c .if3 .taken, n .table-words .ensures)),
+      refl,
+    )
 
 decode-requires : tie.Need-decode-requires
 decode-requires c κs = omega (arith, c .before .if3 .left, c .before .before .if2 .left)
 
 -- the decoded words
-abbrev two : tie.After-decode → tie.Else2
-two c = c .before .before .before
-
-front : (c : tie.After-decode) →
-    (count (two c) ≤ length (c .decode .last .1 .0)) × (take (count (two c)) (c .decode .last .1 .0) ≡ words16 (table (two c)))
-front c = decoded-front (table (two c)) (c .decode .last .1 .0) _ (count (two c)) (c .decode .ensures) (two c .if2 .left)
-
-array-share-prefix-solid : tie.Need-array-share-prefix-solid
-array-share-prefix-solid c = front (c .before) .0
+front : (c : tie.After-decode) → let n : tie.After-table-words = search needs in
+    (n .table-words .result ≤ length (c .decode .last .1 .0))
+    × (take (n .table-words .result) (c .decode .last .1 .0) ≡ words16 (start (n .before) .args .table .now))
+front c =
+    let two : tie.Else2 = search needs in
+    let one : tie.Else1 = search needs in
+    decoded-front (start one .args .table .now) (c .decode .last .1 .0) _ _ (c .decode .ensures) (two .if2 .left)
 
 slice-aggregate-sweep : tie.Need-slice-aggregate-sweep
-slice-aggregate-sweep c = sym (length-take-le _ (c .before .before .decode .last .1 .0) (front (c .before .before) .0))
+slice-aggregate-sweep c = sym (length-take-le _ _ (front (search needs) .0))
 
 returns-4 : tie.Need-returns-4
 returns-4 c =
-    let call = c .before .before in
-    let two = call .before .before .before .before .before .before .before in
-    let a = start (two .before) .args in
-    let words = front (call .before .before .before .before) .1 in
+    let call : tie.After-sweep = search needs in
+    let two : tie.Else2 = search needs in
+    let n : tie.After-table-words = search needs in
+    let a = start (n .before) .args in
+    let words = front (search needs) .1 in
     let x = length (a .out .now) in
     let o = call .sweep .ensures .0 ∙ ap (λ ws. sweepOutcome (sweepInput (a .d) (a .v) (a .s) (a .h) ws x)) words in (
-      o ∙ sweep-right (a .d) (a .v) (a .s) (a .h) (a .table .now) x (two .if2 .left),
+      o ∙ sweep-right (a .d) (a .v) (a .s) (a .h) (a .table .now) x (two .if2 .left ∙ twice n),
       call .sweep .ensures .1 ∙ ap (λ ws. sweepBuffer (sweepInput (a .d) (a .v) (a .s) (a .h) ws x) (a .out .now)) words
           ∙ sweep-after _ (sweepInput (a .d) (a .v) (a .s) (a .h) (words16 (a .table .now)) x) (a .out .now) o,
     )
@@ -106,15 +101,13 @@ sweep-words-spec =
     (tie.spec
     (λ c κs. search needs)
     returns
-    add-n
-    add-n-2
-    mul-n
-    mul-if2
+    table-words-requires
+    (λ c. omega (arith, few (search needs)))
     returns-2
     returns-3
     (λ c. search needs)
     decode-requires
-    array-share-prefix-solid
+    (λ c. front (search needs) .0)
     slice-aggregate-sweep
     (λ c κs. search needs)
     (λ c. search needs)

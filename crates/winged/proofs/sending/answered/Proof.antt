@@ -16,9 +16,6 @@ use Rattle.winged.proofs.sending.answered.Tie as tie
 small : (c : tie.After-a) → c .a .given .0 .0 < 2 ^ 63
 small c = omega (arith, ap (λ (a : Answer). countOf (outcomeOf a)) (c .a .given .1))
 
-cast-result : tie.Need-cast-result
-cast-result c = record { sfits = omega (arith, small (c .before)) }
-
 returns : tie.Need-returns
 returns c = toZ-pos w64 _ (small (c .before)) ∙ ap (λ (a : Answer). hostAnswer (outcomeOf a)) (sym (c .before .a .given .1))
 
@@ -28,4 +25,13 @@ returns-2 c =
     ∙ ap (λ (a : Answer). hostAnswer (outcomeOf a)) (sym (c .before .before .before .a2 .given .1))
 
 pub answered-spec : {M : Type 1} → statement M
-answered-spec = tie.close (tie.spec (λ c. search needs) cast-result (λ c. search needs) (λ c κs. search needs) (λ c κs. search needs) returns returns-2)
+answered-spec =
+    tie.close
+    (tie.spec
+    (λ c. search needs)
+    (λ c. record { sfits = omega (arith, small (search needs)) })
+    (λ c. search needs)
+    (λ c κs. search needs)
+    (λ c κs. search needs)
+    returns
+    returns-2)

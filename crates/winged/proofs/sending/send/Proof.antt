@@ -18,10 +18,10 @@ use Rattle.winged.proofs.sending.send.Statement.{statement}
 use Rattle.winged.proofs.sending.send.Tie as tie
 
 -- the count that the answer has
-fits : (c : tie.After-a) → (c .a .given .0 .0 ≤ length (c .before .before .before .before .args .words .now))
-    × (c .a .given .0 .0 * 2 ≤ length (c .before .before .before .before .args .out .now))
+fits : (c : tie.After-a) → let s : tie.Start = search needs in
+    (c .a .given .0 .0 ≤ length (s .args .words .now)) × (c .a .given .0 .0 * 2 ≤ length (s .args .out .now))
 fits c =
-    let s = c .before .before .before .before in
+    let s : tie.Start = search needs in
     let n = ap (λ (a : Answer). countOf (outcomeOf a)) (c .a .given .1) in
     (omega (arith, n, s .pre .0), omega (arith, n, s .pre .1))
 
@@ -29,36 +29,24 @@ fits c =
 small : (c : tie.After-a) → c .a .given .0 .0 < 2 ^ 63
 small c = omega (arith, fits c .1)
 
-slice-aggregate-encode : tie.Need-slice-aggregate-encode
-slice-aggregate-encode c = sym (length-take-le _ (c .before .before .before .before .before .before .args .words .now) (fits (c .before .before) .0))
-
-encode-requires : tie.Need-encode-requires
-encode-requires c κs = omega (
-  arith,
-  fits (c .before .before .before) .1,
-  length-take-le (c .before .before .before .a .given .0 .0)
-      (c .before .before .before .before .before .before .before .args .words .now) (fits (c .before .before .before) .0),
-)
-
-cast-result : tie.Need-cast-result
-cast-result c = record { sfits = omega (arith, small (c .before .before .before .before .before .before)) }
+front : (c : tie.After-a) → let s : tie.Start = search needs in length (take (c .a .given .0 .0) (s .args .words .now)) ≡ c .a .given .0 .0
+front c = length-take-le _ _ (fits c .0)
 
 returns : tie.Need-returns
 returns c =
-    let e = c .before .before .before .before .before .before in
-    let s = e .before .before .before .before in
-    let n = e .a .given .0 .0 in
-    let call = c .before .before .encode in (
+    let e : tie.After-a = search needs in
+    let s : tie.Start = search needs in
+    let n = e .a .given .0 .0 in (
       toZ-pos w64 n (small e) ∙ ap (λ (a : Answer). hostAnswer (outcomeOf a)) (sym (e .a .given .1)),
-      call .ensures
-          ∙ ap (λ m. bytesOf (take n (s .args .words .now)) ++ drop (m * 2) (s .args .out .now)) (length-take-le n (s .args .words .now) (fits e .0))
+      c .before .before .encode .ensures
+          ∙ ap (λ m. bytesOf (take n (s .args .words .now)) ++ drop (m * 2) (s .args .out .now)) (front e)
           ∙ ap (λ (a : Answer). sent (outcomeOf a) (s .args .words .now) (s .args .out .now)) (sym (e .a .given .1)),
     )
 
 returns-2 : tie.Need-returns-2
 returns-2 c =
     let e = c .before .before .before in
-    let s = e .before .before .before .before in (
+    let s : tie.Start = search needs in (
       toZ-ofZ w64 _ (search needs) ∙ c .minus .ensures ∙ ap (λ k. negℤ (pos k)) (c .before .number .ensures)
           ∙ ap (λ (a : Answer). hostAnswer (outcomeOf a)) (sym (e .a2 .given .1)),
       ap (λ (a : Answer). sent (outcomeOf a) (s .args .words .now) (s .args .out .now)) (sym (e .a2 .given .1)),
@@ -69,9 +57,9 @@ send-spec =
     tie.close
     (tie.spec
     (λ c. search needs)
-    slice-aggregate-encode
-    encode-requires
-    cast-result
+    (λ c. sym (front (search needs)))
+    (λ c κs. omega (arith, fits (search needs) .1, front (search needs)))
+    (λ c. record { sfits = omega (arith, small (search needs)) })
     (λ c. search needs)
     (λ c κs. search needs)
     (λ c κs. search needs)

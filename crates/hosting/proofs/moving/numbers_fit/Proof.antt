@@ -1,0 +1,20 @@
+-- `numbers_fit` answers row 2, by the tests of the four numbers. Assumes nothing.
+use borrow.Author.Needs.{needs}
+use Rattle.hosting.proofs.moving.numbers_fit.Statement.{statement}
+use Rattle.hosting.proofs.moving.numbers_fit.Tie as tie
+
+returns : tie.Need-returns
+returns c = cc
+
+pub numbers-fit-spec : {M : Type 1} → statement M
+numbers-fit-spec =
+    tie.close
+    (tie.spec
+    (λ c κs. search needs)
+    (λ c κs. search needs)
+    (λ c κs. search needs)
+    (λ c κs. search needs)
+    (λ c κs. search needs)
+    (λ c κs. search needs)
+    (λ c κs. search needs)
+    returns)
