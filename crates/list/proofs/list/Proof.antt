@@ -20,7 +20,7 @@ use Rattle.list.proofs.list.Statement.{statement}
 use Rattle.list.proofs.list.Tie as tie
 
 abbrev start : tie.Else1 → tie.Start
-start c = c .before .before .before .before .before
+start c = search needs
 
 limits : (c : tie.Else1) → let a = start c .args in ListLimits (a .d) (a .n) (a .v) (a .s)
 limits c = list-limits-are _ _ _ _ (cc)

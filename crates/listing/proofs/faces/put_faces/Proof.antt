@@ -16,7 +16,7 @@ abbrev μ-loop : tie.MeasureT-loop
 
 -- the loop's turn
 abbrev turn : tie.After-next-face2 Inv-loop μ-loop → tie.At-loop Inv-loop μ-loop
-turn c = c .before .before .before .before .before .before .before .before
+turn c = search needs
 
 loop-holds : tie.Need-loop-holds Inv-loop μ-loop
 loop-holds c = walk-starts (c .next-face .ensures) (omega arith)
@@ -27,7 +27,7 @@ put-face-requires c κs =
     (search needs, t .loop .inv .place .position (omega arith), walk-fits (t .loop .inv) (cc) (omega arith))
 
 add-next-face : tie.Need-add-next-face Inv-loop μ-loop
-add-next-face c = omega (arith, c .before .before .before .before .before .before .before .loop .inv .place .position (omega arith))
+add-next-face c = let t : tie.At-loop Inv-loop μ-loop = search needs in omega (arith, t .loop .inv .place .position (omega arith))
 
 loop-less : tie.Need-loop-less Inv-loop μ-loop
 loop-less c = omega (arith, face-less (cc) (turn c .loop .inv .place) (omega arith) (c .next-face2 .ensures))
