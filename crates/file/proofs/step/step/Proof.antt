@@ -1,5 +1,5 @@
 -- `step` answers `stepOf`, kind by kind. Assumes nothing.
-use mathlib.Core.Path.{_≡_}
+use mathlib.Core.Path.{_≡_, sym, ap, _∙_}
 use mathlib.Core.Bool.{true}
 use Prim.Native.Nat.{ℕ, _<_}
 use native.Mathlib.Omega.{arith}
@@ -28,7 +28,10 @@ float-at-requires : tie.Need-float-at-requires
 float-at-requires c κs = (omega arith, amount (start c) 0 (omega arith))
 
 returns : tie.Need-returns
-returns c = cc (slide-of (start (c .before .before) .args .b .now) (cc))
+returns c =
+    let k : tie.After-byte-at = search needs in
+    let a : tie.After-byte-at2 = search needs in
+    rw (a .byte-at2 .ensures .0, c .before .float-at .ensures) (sym (slide-of (start a .args .b .now) (sym (k .byte-at .ensures .0) ∙ c .if1 .taken)))
 
 float-at-requires-2 : tie.Need-float-at-requires-2
 float-at-requires-2 c κs = (omega arith, amount (start (c .before .before)) 1 (omega arith))
