@@ -30,8 +30,9 @@ table : (c : tie.Else2) → let a = start (search needs) .args in Table (a .d) (
 table c =
     let l = limits (search needs) in
     let words = start (search needs) .args .table .now in
-    let long = ap (λ k. not (eqb (length words) k)) (sym (c .before .before .table-words .ensures)) ∙ sym (c .before .differ .ensures) ∙ c .if2 .left in
-    record { dimension = l .dimension; cells = l .cells; long = eqb-true _ _ (not-false _ long) }
+    let same = ap (λ k. not (eqb (length words) k)) (sym (c .before .before .table-words .ensures)) in
+    let long = eqb-true _ _ (not-false _ (same ∙ sym (c .before .differ .ensures) ∙ c .if2 .left)) in
+    record { dimension = l .dimension; cells = l .cells; long = long }
 
 returns : tie.Need-returns
 unfolding facesRules
@@ -70,7 +71,8 @@ write-faces-requires c κs =
     let e : tie.Else4 = search needs in
     let f = e .before .before in
     let words = ap₂ _*_ (f .before .count-faces .ensures .0) (f .face-size .ensures) in
-    let fits = ltb-false (length (a .out .now)) (f .before .count-faces .result * f .face-size .result) (sym (e .before .less .ensures) ∙ e .if4 .left) in
+    let n = f .before .count-faces .result * f .face-size .result in
+    let fits = ltb-false (length (a .out .now)) n (sym (e .before .less .ensures) ∙ e .if4 .left) in
     (t, omega (arith, words, fits, words-long (a .d) (a .s) (a .table .now) t))
 
 returns-5 : tie.Need-returns-5

@@ -36,7 +36,9 @@ next : (c : tie.After-next-face2 Inv-loop μ-loop) →
     ≡ faceAt (a .d) (a .table .now) (at .cell) (at .position)
     ∷ facesFrom (a .d) (a .s) (a .table .now) (c .next-face2 .result .cell) (c .next-face2 .result .position)
 next c =
-    face-next (cc) (turnOf c .loop .inv .0) (omega arith) ∙ rw (c .next-face2 .ensures .same)
+    let s : tie.Start Inv-loop μ-loop = search needs in
+    let t : tie.Then1 Inv-loop μ-loop = search needs in
+    face-next (s .pre .long) (turnOf c .loop .inv .0) (t .if1 .taken) ∙ rw (c .next-face2 .ensures .same)
 
 loop-holds : tie.Need-loop-holds Inv-loop μ-loop
 loop-holds c =
