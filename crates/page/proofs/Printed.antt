@@ -8,7 +8,7 @@
 --   text-short, text-fits         key_text's answer and the lent bytes
 -- Assumes nothing.
 use mathlib.Core.Path.{_≡_, refl, sym, ap, _∙_}
-use mathlib.Core.Bool.{_&&_}
+use mathlib.Core.Bool.{not, _&&_}
 use mathlib.Core.List.{List, _++_}
 use Prim.Native.Nat.{ℕ, suc, _+_, _*_, _≤_, _<_}
 use native.Mathlib.Omega.{arith}
@@ -16,12 +16,14 @@ use lib.Dec.{leb}
 use lib.Ieee.{Float}
 use lib.ListN.{length, take, drop, length-append}
 use lib.Seq.{take-at}
-use borrow.Author.Tests.{leb-true, lt-ltb, le-ltb, not-false}
-use Rattle.rules.specs.Limits.{axesOk, maxSource, sizesOk, stepsOk, within}
+use borrow.Author.Tests.{lt-ltb, le-ltb, not-false}
+use Rattle.rules.specs.Limits.{maxSource, maxCells, axesOk, stepsOk, within}
 use Rattle.rules.specs.Shapes.{shapeOk}
 use Rattle.rules.specs.Calls.{Outcome, accepted, refused, after}
 use Rattle.rules.proofs.Accepting.{accepted-by, front-of}
 use Rattle.rules.proofs.Tests.{and-parts}
+use Rattle.rules.proofs.InLimits.{limits-are}
+use Rattle.records.specs.Layout.{listLength}
 use Rattle.read.specs.declared.Header.{Header}
 use Rattle.file.specs.File.{dimensionOf, axesOf, vertexCountOf, cellCountOf, stepsOf, kindOf, filePoints}
 use Rattle.file.specs.Tests.{numbersOk, fileWords}
@@ -34,10 +36,10 @@ use Rattle.page.specs.Key.{inputLimit, byteRoom, wordRoom, floatRoom, re
 use Rattle.page.specs.Inner.Stages.{counted, pageAfter, listKey, movedKey, sweptKey, wingedKey}
 
 pub record FileFacts (b : List ℕ) (x : Header) : Type 0 where
-  pub dimension : x .d ≤ 6
-  pub words : x .s * (x .d + 2) ≡ length (fileWords b)
+  pub dimension : x .d ≤ maxSource
+  pub cells : x .s ≤ maxCells
+  pub words : listLength (x .d) (x .s) ≡ length (fileWords b)
   pub floats : x .v * x .n ≡ length (filePoints b)
-  pub few-words : x .s * (x .d + 2) ≤ wordRoom
   pub few-floats : x .v * x .n ≤ floatRoom
 
 module _ (b : List ℕ) where
@@ -60,26 +62,27 @@ module _ (b : List ℕ) where
     file-facts =
         let by = accepted-by readRules (λ i. headerOf (i .bytes)) (readIn b) x refl e in
         let d = ap (λ (y : Header). y .d) (by .0) in
-        let words = ap (λ (y : Header). y .s * (y .d + 2)) (by .0) in
+        let s = ap (λ (y : Header). y .s) (by .0) in
+        let words = ap (λ (y : Header). listLength (y .d) (y .s)) (by .0) in
         let floats = ap (λ (y : Header). y .v * y .n) (by .0) in
         let numbers = not-false (numbersOk b) (by .1 .1 .0) in
         let shape =
         and-parts (shapeOk maxSource (dimensionOf b) (vertexCountOf b) (cellCountOf b))
         ((axesOk (axesOf b) && leb (suc (dimensionOf b)) (axesOf b)) && (stepsOk (stepsOf b) && within 1 3 (kindOf b))) numbers .0 in
-        let low =
-        leb-true (dimensionOf b) maxSource (and-parts (leb (dimensionOf b) maxSource) (sizesOk (vertexCountOf b) (cellCountOf b)) shape .0) in
+        let l = limits-are maxSource (dimensionOf b) (vertexCountOf b) (cellCountOf b) (ap not shape) in
         let rooms = rooms-parts b wordRoom floatRoom (by .1 .1 .1 .1 .1 .1 .1 .1 .1 .0) in
         record {
-          dimension = omega (arith, d, low);
+          dimension = omega (arith, d, l .dimension);
+          cells = omega (arith, s, l .cells);
           words = words ∙ sym (words-count b (right-length b (by .1 .1 .1 .0)));
           floats = floats ∙ sym (points-length b);
-          few-words = omega (arith, words, rooms .0);
           few-floats = omega (arith, floats, rooms .1);
         }
 
-    pub cells-front : (out w : List ℕ) → w ≡ readCells (readIn b) out → (x .s * (x .d + 2) ≤ length w) × (take (x .s * (x .d + 2)) w ≡ fileWords b)
+    pub cells-front : (out w : List ℕ) → w ≡ readCells (readIn b) out →
+        (listLength (x .d) (x .s) ≤ length w) × (take (listLength (x .d) (x .s)) w ≡ fileWords b)
     unfolding readCells
-    cells-front out w c = front-of (fileWords b) out w (x .s * (x .d + 2)) (c ∙ ap (λ o. after o (fileWords b) out) e) (file-facts .words)
+    cells-front out w c = front-of (fileWords b) out w (listLength (x .d) (x .s)) (c ∙ ap (λ o. after o (fileWords b) out) e) (file-facts .words)
 
     pub points-front : (out w : List Float) → w ≡ readPoints (readIn b) out → (x .v * x .n ≤ length w) × (take (x .v * x .n) w ≡ filePoints b)
     unfolding readPoints

@@ -9,6 +9,7 @@ use motion::move_points;
 use points::step::Step;
 use read::ReadAnswer;
 use read::read;
+use records::sizes::list_words;
 use rules::refusal::Answer;
 use rules::refusal::Refusal;
 use sweep::sweep;
@@ -108,7 +109,7 @@ pub fn page_key(input: &[u8], page: &mut [u8]) -> Answer
             let s = x.s;
             let h = x.h;
             let step = x.step;
-            let words = s * (d + 2);
+            let words = list_words(d, s);
             let floats = v * n;
             winged_key(
                 d,

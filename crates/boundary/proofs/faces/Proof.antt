@@ -1,8 +1,10 @@
 -- The call faces: each return is a rule's, and only an accepted call writes. Assumes nothing.
-use mathlib.Core.Path.{_≡_, ap, _∙_}
-use Prim.Native.Nat.{_*_, _≤_}
+use mathlib.Core.Path.{_≡_, sym, ap, ap₂, _∙_}
+use mathlib.Core.Bool.{not}
+use Prim.Native.Nat.{_*_}
 use native.Mathlib.Nat.{mul-le-mul}
 use native.Mathlib.Omega.{arith}
+use lib.Dec.{eqb}
 use lib.ListN.{length}
 use borrow.Author.Needs.{needs}
 use borrow.Author.Tests.{eqb-true, ltb-false, not-false}
@@ -10,7 +12,7 @@ use Rattle.words.proofs.Placed.{placed-first}
 use Rattle.rules.specs.Limits.{maxDimension}
 use Rattle.rules.proofs.InLimits.{Limits, limits-are}
 use Rattle.records.specs.Inner.Inside.{Table}
-use Rattle.records.specs.Layout.{faceSize, facesWords}
+use Rattle.records.specs.Layout.{facesWords}
 use Rattle.boundary.specs.Faces.{boundaryCells, facesRules}
 use Rattle.boundary.specs.Inner.Walk.{tableFaces}
 use Rattle.boundary.proofs.Order.{refuses, accepts}
@@ -22,10 +24,15 @@ abbrev start : tie.Else1 → tie.Start
 start c = c .before .before .before .before
 
 limits : (c : tie.Else1) → let a = start c .args in Limits maxDimension (a .d) (a .v) (a .s)
-limits c = limits-are _ _ _ _ (cc)
+limits c = limits-are _ _ _ _ (ap not (sym (c .before .within .ensures)) ∙ c .if1 .left)
 
 table : (c : tie.Else2) → let a = start (search needs) .args in Table (a .d) (a .s) (a .table .now)
-table c = let l = limits (search needs) in record { dimension = l .dimension; cells = l .cells; long = eqb-true _ _ (not-false _ (cc)) }
+table c =
+    let l = limits (search needs) in
+    let words = start (search needs) .args .table .now in
+    let same = ap (λ k. not (eqb (length words) k)) (sym (c .before .before .table-words .ensures)) in
+    let long = eqb-true _ _ (not-false _ (same ∙ sym (c .before .differ .ensures) ∙ c .if2 .left)) in
+    record { dimension = l .dimension; cells = l .cells; long = long }
 
 returns : tie.Need-returns
 unfolding facesRules
@@ -61,8 +68,12 @@ write-faces-requires : tie.Need-write-faces-requires
 write-faces-requires c κs =
     let t = table (search needs) in
     let a = start (search needs) .args in
-    let fits : length (tableFaces (a .d) (a .s) (a .table .now)) * faceSize (a .d) ≤ length (a .out .now) = ltb-false _ _ (cc) in
-    (t, omega (arith, words-long (a .d) (a .s) (a .table .now) t))
+    let e : tie.Else4 = search needs in
+    let f = e .before .before in
+    let words = ap₂ _*_ (f .before .count-faces .ensures .0) (f .face-size .ensures) in
+    let n = f .before .count-faces .result * f .face-size .result in
+    let fits = ltb-false (length (a .out .now)) n (sym (e .before .less .ensures) ∙ e .if4 .left) in
+    (t, omega (arith, words, fits, words-long (a .d) (a .s) (a .table .now) t))
 
 returns-5 : tie.Need-returns-5
 unfolding facesRules boundaryCells

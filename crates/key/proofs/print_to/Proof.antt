@@ -9,8 +9,8 @@ use Rattle.key.proofs.print_to.Tie as tie
 
 returns : tie.Need-returns
 returns c =
-    let call = c .before .before .before .before .before in
-    let start = call .before .before .before .before in
+    let call : tie.After-key-text = search needs in
+    let start : tie.Start = search needs in
     let new = call .key-text .last .1 .0 in
     let n = c .before .n .given .0 .0 in
     let w =
@@ -20,8 +20,8 @@ returns c =
 
 returns-2 : tie.Need-returns-2
 returns-2 c =
-    let call = c .before .before .before .before in
-    let start = call .before .before .before .before in
+    let call : tie.After-key-text = search needs in
+    let start : tie.Start = search needs in
     absurd
     (text-taken (start .args .input .now) (start .args .text .now) (start .pre) (numberOf (c .enum-told .given .0 .0))
     (sym (ap outcomeOf (c .enum-told .given .1)) ∙ call .key-text .ensures .0))

@@ -26,7 +26,7 @@ counted c =
     subst (Moved most) (sym (toZ-pos w64 n small)) within
 
 returns-2 : tie.Need-returns-2 Inv-loop μ-loop
-returns-2 c = counted (c .before .before .before .before .before .before .before .before .before .before)
+returns-2 c = counted (search needs)
 
 returns-3 : tie.Need-returns-3 Inv-loop μ-loop
 returns-3 c = counted (c .before)

@@ -1,6 +1,6 @@
 -- The call list: each return is a rule's, and only an accepted call writes. Assumes nothing.
-use mathlib.Core.Path.{_≡_, ap, _∙_}
-use mathlib.Core.Bool.{_&&_}
+use mathlib.Core.Path.{_≡_, sym, ap, _∙_}
+use mathlib.Core.Bool.{not, _&&_}
 use Prim.Native.Nat.{_*_}
 use lib.Dec.{eqb, ltb}
 use lib.ListN.{length}
@@ -20,20 +20,22 @@ use Rattle.list.proofs.list.Statement.{statement}
 use Rattle.list.proofs.list.Tie as tie
 
 abbrev start : tie.Else1 → tie.Start
-start c = c .before .before .before .before .before
+start c = search needs
 
 limits : (c : tie.Else1) → let a = start c .args in ListLimits (a .d) (a .n) (a .v) (a .s)
-limits c = list-limits-are _ _ _ _ (cc)
+limits c = list-limits-are _ _ _ _ (ap not (sym (c .before .numbers-fit .ensures)) ∙ c .if1 .left)
 
 -- what the tests say of the table and the points
 told : (c : tie.Else3) → let a = start (search needs) .args in Table (a .d) (a .s) (a .table .now) × Points (a .n) (a .v) (a .points .now)
 told c =
     let a = start (search needs) .args in
     let l = limits (search needs) in
-    let long =
-    and-parts (eqb (length (a .table .now)) (tableLength (a .d) (a .s))) (eqb (length (a .points .now)) (a .v * a .n)) (not-false _ (cc)) in (
+    let e : tie.Else2 = search needs in
+    let fit = ap not (sym (e .before .lengths-fit .ensures)) ∙ e .if2 .left in
+    let long = and-parts (eqb (length (a .table .now)) (tableLength (a .d) (a .s))) (eqb (length (a .points .now)) (a .v * a .n)) (not-false _ fit) in
+    let ranged = not-false _ (ap not (sym (c .before .all-in-range .ensures)) ∙ c .if3 .left) in (
       record { dimension = l .dimension; cells = l .cells; long = eqb-true _ _ (long .0) },
-      record { axes = l .axes; vertices = l .vertices; long = eqb-true _ _ (long .1); ranged = not-false _ (cc) },
+      record { axes = l .axes; vertices = l .vertices; long = eqb-true _ _ (long .1); ranged = ranged },
     )
 
 returns : tie.Need-returns
@@ -73,7 +75,8 @@ unfolding listText
 put-key-requires c κs =
     let t = told (search needs) in
     let k : tie.After-key-size = search needs in
-    (t .0, t .1, k .key-size .ensures .faces, ltb-false _ _ (cc (compared (search needs))))
+    let e : tie.Else5 = search needs in
+    (t .0, t .1, k .key-size .ensures .faces, ltb-false _ _ (sym (compared (e .before)) ∙ e .if5 .left))
 
 returns-6 : tie.Need-returns-6
 unfolding listRules listText

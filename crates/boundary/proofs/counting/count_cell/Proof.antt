@@ -40,4 +40,6 @@ returns c =
     omega (arith, ap length (from-next (a .d) (a .s) (a .table .now) (s .pre .long) (a .p) (turn .loop .a) (s .pre .number) (omega arith)))
 
 pub count-cell-spec : {M : Type 1} → statement M
-count-cell-spec = tie.close (tie.spec Inv-loop μ-loop loop-holds (λ c κs. search needs) (λ c. search needs) (λ c. search needs) (λ c. search needs) loop-again returns)
+count-cell-spec =
+    tie.close
+    (tie.spec Inv-loop μ-loop loop-holds (λ c κs. search needs) (λ c. search needs) (λ c. search needs) (λ c. search needs) loop-again returns)

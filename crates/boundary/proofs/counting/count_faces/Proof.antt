@@ -36,4 +36,5 @@ returns c =
     (omega arith, omega (arith, few s))
 
 pub count-faces-spec : {M : Type 1} → statement M
-count-faces-spec = tie.close (tie.spec Inv-loop μ-loop loop-holds (λ c κs. search needs) add-n (λ c. search needs) (λ c. search needs) loop-again returns)
+count-faces-spec =
+    tie.close (tie.spec Inv-loop μ-loop loop-holds (λ c κs. search needs) add-n (λ c. search needs) (λ c. search needs) loop-again returns)

@@ -1,5 +1,5 @@
 -- Positions that are not on the boundary are passed. Assumes nothing.
-use mathlib.Core.Path.{_≡_, refl, _∙_}
+use mathlib.Core.Path.{_≡_, refl, sym, _∙_}
 use Prim.Native.Nat.{_+_, _-_}
 use native.Mathlib.Omega.{arith}
 use borrow.Author.Needs.{needs}
@@ -18,14 +18,15 @@ loop-holds : tie.Need-loop-holds Inv-loop μ-loop
 loop-holds c = refl
 
 returns : tie.Need-returns Inv-loop μ-loop
-returns c = record { same = c .before .before .before .loop .inv; found = λ h. cc }
+returns c = record { same = c .before .before .before .loop .inv; found = λ h. sym (c .before .on-boundary .ensures) ∙ c .if1 .taken }
 
 loop-again : tie.Need-loop-again Inv-loop μ-loop
 loop-again c =
     let turn = c .before .before .before in
     let s = turn .before .before in
     let a = s .args in
-    turn .loop .inv ∙ from-skip (a .d) (a .s) (a .table .now) (s .pre .long) (a .p) (turn .loop .position) (s .pre .number) (omega arith) (cc)
+    let none = sym (c .before .on-boundary .ensures) ∙ c .if1 .left in
+    turn .loop .inv ∙ from-skip (a .d) (a .s) (a .table .now) (s .pre .long) (a .p) (turn .loop .position) (s .pre .number) (omega arith) none
 
 returns-2 : tie.Need-returns-2 Inv-loop μ-loop
 returns-2 c = record { same = c .before .loop .inv; found = λ h. absurd (omega arith) }

@@ -1,5 +1,5 @@
 -- `bad_vertex` answers row 7: what is left of the cells decides. Assumes nothing.
-use mathlib.Core.Path.{_≡_, refl}
+use mathlib.Core.Path.{_≡_, refl, _∙_}
 use Prim.Native.Nat.{_≤_, _-_, _+_}
 use native.Mathlib.Omega.{arith}
 use lib.Dec.{leb}
@@ -47,7 +47,7 @@ returns c =
     let l = looked (c .before) in
     let b = start l .args .b .now in
     any-stops (λ x. anyOf (λ y. leb (vertexCountOf b) y) (x .row)) noCell (fileCells b) _ (l .loop .p) (cells-length b) (omega arith) _ refl _
-    (cc (here (c .before))) (l .loop .inv .1)
+    (here (c .before) ∙ c .if1 .taken) (l .loop .inv .1)
 
 loop-again : tie.Need-loop-again Inv-loop μ-loop
 loop-again c =
@@ -55,7 +55,7 @@ loop-again c =
     let b = start l .args .b .now in (
       omega arith,
       any-goes (λ x. anyOf (λ y. leb (vertexCountOf b) y) (x .row)) noCell (fileCells b) _ (l .loop .p) (cells-length b) (omega arith) _ refl _
-          (cc (here (c .before))) (l .loop .inv .1),
+          (here (c .before) ∙ c .if1 .left) (l .loop .inv .1),
     )
 
 returns-2 : tie.Need-returns-2 Inv-loop μ-loop

@@ -1,5 +1,5 @@
 -- `vertex_twice` answers row 8: what is left of the cells decides. Assumes nothing.
-use mathlib.Core.Path.{_≡_, refl}
+use mathlib.Core.Path.{_≡_, refl, _∙_}
 use Prim.Native.Nat.{_≤_, _-_, _+_}
 use native.Mathlib.Omega.{arith}
 use lib.ListN.{getD, drop}
@@ -40,7 +40,7 @@ returns : tie.Need-returns Inv-loop μ-loop
 returns c =
     let l = looked (c .before) in
     let b = start l .args .b .now in
-    any-stops (λ x. repeats (x .row)) noCell (fileCells b) _ (l .loop .p) (cells-length b) (omega arith) _ refl _ (cc (here (c .before)))
+    any-stops (λ x. repeats (x .row)) noCell (fileCells b) _ (l .loop .p) (cells-length b) (omega arith) _ refl _ (here (c .before) ∙ c .if1 .taken)
     (l .loop .inv .1)
 
 loop-again : tie.Need-loop-again Inv-loop μ-loop
@@ -48,7 +48,7 @@ loop-again c =
     let l = looked (c .before) in
     let b = start l .args .b .now in (
       omega arith,
-      any-goes (λ x. repeats (x .row)) noCell (fileCells b) _ (l .loop .p) (cells-length b) (omega arith) _ refl _ (cc (here (c .before)))
+      any-goes (λ x. repeats (x .row)) noCell (fileCells b) _ (l .loop .p) (cells-length b) (omega arith) _ refl _ (here (c .before) ∙ c .if1 .left)
           (l .loop .inv .1),
     )
 

@@ -15,15 +15,19 @@ returns c = rw (lt-ltb _ 40 (c .if1 .taken)) refl
 
 returns-2 : tie.Need-returns-2
 returns-2 c =
-    let b = c .before .before .before .before .before .before .args .b .now in
+    let s : tie.Start = search needs in
+    let e : tie.Else1 = search needs in
+    let b = s .args .b .now in
     let same : sameRow (take 3 b) mark ≡ true = sym (c .before .before .starts-with .ensures) ∙ c .before .if2 .taken in
-    rw (le-ltb (length b) 40 (c .before .before .before .before .if1 .left), same) (ap (λ w. not (eqb w 1)) (c .word16 .ensures))
+    rw (le-ltb (length b) 40 (e .if1 .left), same) (ap (λ w. not (eqb w 1)) (c .word16 .ensures))
 
 returns-3 : tie.Need-returns-3
 returns-3 c =
-    let b = c .before .before .before .before .before .args .b .now in
+    let s : tie.Start = search needs in
+    let e : tie.Else1 = search needs in
+    let b = s .args .b .now in
     let same : sameRow (take 3 b) mark ≡ false = sym (c .before .starts-with .ensures) ∙ c .if2 .left in
-    rw (le-ltb (length b) 40 (c .before .before .before .if1 .left), same) refl
+    rw (le-ltb (length b) 40 (e .if1 .left), same) refl
 
 pub not-ours-spec : {M : Type 1} → statement M
 not-ours-spec =

@@ -6,10 +6,12 @@ use Rattle.file.proofs.numbers.outside_limits.Tie as tie
 
 returns : tie.Need-returns
 returns c =
+    let d : tie.After-dimension = search needs in
+    let n : tie.After-axes = search needs in
     c .numbers-outside .ensures
     ∙ rw (
-      c .before .before .before .before .before .before .dimension .ensures .0,
-      c .before .before .before .before .before .axes .ensures .0,
+      d .dimension .ensures .0,
+      n .axes .ensures .0,
       c .before .before .before .before .vertex-count .ensures .0,
       c .before .before .before .cell-count .ensures .0,
       c .before .before .steps .ensures .0,

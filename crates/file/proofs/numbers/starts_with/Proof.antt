@@ -21,19 +21,18 @@ loop-holds c = (search needs, refl)
 
 returns : tie.Need-returns Inv-loop μ-loop
 returns c =
-    let l = c .before .before .before .before .loop in
-    let a = c .before .before .before .before .before .args in
-    sym (l .inv .1 ∙ same-differs (a .b .now) (a .mark .now) (l .i) (c .before .before .before .loop-test .taken)
-    (c .before .before .before .before .before .pre) (ne-eqb _ _ (c .if1 .taken)))
+    let s : tie.Start Inv-loop μ-loop = search needs in
+    let t : tie.In-loop Inv-loop μ-loop = search needs in
+    let l = t .before .loop in
+    sym (l .inv .1
+    ∙ same-differs (s .args .b .now) (s .args .mark .now) (l .i) (t .loop-test .taken) (s .pre) (ne-eqb _ _ (c .if1 .taken)))
 
 loop-again : tie.Need-loop-again Inv-loop μ-loop
 loop-again c =
-    let l = c .before .before .before .before .loop in
-    let a = c .before .before .before .before .before .args in (
-      omega arith,
-      l .inv .1 ∙ same-next (a .b .now) (a .mark .now) (l .i) (c .before .before .before .loop-test .taken)
-          (c .before .before .before .before .before .pre) (eq-eqb _ _ (c .if1 .left)),
-    )
+    let s : tie.Start Inv-loop μ-loop = search needs in
+    let t : tie.In-loop Inv-loop μ-loop = search needs in
+    let l = t .before .loop in
+    (omega arith, l .inv .1 ∙ same-next (s .args .b .now) (s .args .mark .now) (l .i) (t .loop-test .taken) (s .pre) (eq-eqb _ _ (c .if1 .left)))
 
 returns-2 : tie.Need-returns-2 Inv-loop μ-loop
 returns-2 c =

@@ -25,7 +25,8 @@ add-result-2 c = record {
 
 returns : tie.Need-returns
 returns c =
-    let b = c .before .before .before .before .before .args .b .now in
+    let s : tie.Start = search needs in
+    let b = s .args .b .now in
     let cells : c .before .before .cell-count .result * c .cell-size .result ≡ cellCountOf b * cellBytes (dimensionOf b) =
     ap₂ _*_ (c .before .before .cell-count .ensures .0) (c .cell-size .ensures .0 ∙ ap cellBytes (c .before .dimension .ensures .0)) in
     let all : 40 + c .before .before .before .point-count .result * 8 + c .before .before .cell-count .result * c .cell-size .result ≡ fileLength b =

@@ -23,16 +23,22 @@ abbrev μ-loop : tie.MeasureT-loop
 few : (c : tie.Start Inv-loop μ-loop) → length (tableFaces (c .args .d) (c .args .s) (c .args .table .now)) ≤ 32768
 few c = faces-few (c .args .d) (c .args .s) (c .args .table .now) (c .pre)
 
+-- the loop's turn
+abbrev turnOf : tie.After-next-face2 Inv-loop μ-loop → tie.At-loop Inv-loop μ-loop
+turnOf c = search needs
+
 -- the face that is counted, and those behind it
 next : (c : tie.After-next-face2 Inv-loop μ-loop) →
-    let turn = c .before .before .before .before .before in
+    let turn = turnOf c in
     let a = turn .before .before .before .args in
     let at = turn .loop .at in
     facesFrom (a .d) (a .s) (a .table .now) (at .cell) (at .position)
     ≡ faceAt (a .d) (a .table .now) (at .cell) (at .position)
     ∷ facesFrom (a .d) (a .s) (a .table .now) (c .next-face2 .result .cell) (c .next-face2 .result .position)
 next c =
-    face-next (cc) (c .before .before .before .before .before .loop .inv .0) (omega arith) ∙ rw (c .next-face2 .ensures .same)
+    let s : tie.Start Inv-loop μ-loop = search needs in
+    let t : tie.Then1 Inv-loop μ-loop = search needs in
+    face-next (s .pre .long) (turnOf c .loop .inv .0) (t .if1 .taken) ∙ rw (c .next-face2 .ensures .same)
 
 loop-holds : tie.Need-loop-holds Inv-loop μ-loop
 loop-holds c =
@@ -42,14 +48,14 @@ loop-holds c =
     (n .place, omega arith, omega (arith, ap length all), omega (arith, ap (λ fs. length (faceLines fs)) all))
 
 add-count : tie.Need-add-count Inv-loop μ-loop
-add-count c = omega (arith, few (c .before .before .before .before .before))
+add-count c = omega (arith, few (search needs))
 
 face-len-requires : tie.Need-face-len-requires Inv-loop μ-loop
 face-len-requires c κs =
     (search needs, c .before .before .loop .inv .0 .position (omega arith))
 
 add-bytes : tie.Need-add-bytes Inv-loop μ-loop
-add-bytes c = omega (arith, few (c .before .before .before .before .before .before))
+add-bytes c = omega (arith, few (search needs))
 
 add-next-face : tie.Need-add-next-face Inv-loop μ-loop
 add-next-face c = omega (arith, c .before .before .before .before .loop .inv .0 .position (omega arith))
@@ -59,7 +65,7 @@ loop-less c = omega (arith, ap length (next c))
 
 loop-again : tie.Need-loop-again Inv-loop μ-loop
 loop-again c =
-    let turn = c .before .before .before .before .before in
+    let turn = turnOf c in
     let a = turn .before .before .before .args in
     let later = facesFrom (a .d) (a .s) (a .table .now) (c .next-face2 .result .cell) (c .next-face2 .result .position) in
     let here = faceLine (faceAt (a .d) (a .table .now) (turn .loop .at .cell) (turn .loop .at .position)) in (

@@ -15,7 +15,7 @@ use Rattle.listing.proofs.faces.put_face.Statement.{statement}
 use Rattle.listing.proofs.faces.put_face.Tie as tie
 
 abbrev start : tie.After-fill-row → tie.Start
-start c = c .before .before .before .before .before .before
+start c = search needs
 
 abbrev row : tie.After-fill-row → List ℕ
 row c = take (start c .args .d) (c .fill-row .last .1 .1 .1 .1 .1 .0)
@@ -42,7 +42,7 @@ first-line-requires : tie.Need-first-line-requires
 first-line-requires c κs = let w = c .before .before .before .before in rw (whole w) at (start w .pre .2)
 
 returns : tie.Need-returns
-returns c = let w = c .before .before .before .before .before .before .before in rw (whole w) (c .before .before .first-line .ensures)
+returns c = rw (whole (search needs)) (c .before .before .first-line .ensures)
 
 pub put-face-spec : {M : Type 1} → statement M
 put-face-spec =

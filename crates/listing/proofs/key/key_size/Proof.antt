@@ -1,7 +1,7 @@
 -- `key::key_size` meets its contract: the sum of the three parts. Assumes nothing.
 use mathlib.Core.List.{_++_}
 use mathlib.Core.Path.{ap, _∙_}
-use Prim.Native.Nat.{ℕ, _-_, _+_}
+use Prim.Native.Nat.{ℕ, _+_, _≤_}
 use native.Mathlib.Omega.{arith}
 use lib.ListN.{length-append, length}
 use borrow.Author.Needs.{needs}
@@ -11,36 +11,28 @@ use Rattle.listing.proofs.Bounds.{vertices-length}
 use Rattle.listing.proofs.key.key_size.Statement.{statement}
 use Rattle.listing.proofs.key.key_size.Tie as tie
 
+-- the bytes of the vertex lines
+few : (c : tie.After-vertices-len) → c .vertices-len .result ≤ 1048576
+few c =
+    let s : tie.Start = search needs in
+    omega (arith, c .vertices-len .ensures, vertices-length (s .args .n) (s .args .v) (s .args .points .now) (s .pre .1 .axes), s .pre .1 .vertices)
+
 add-bytes : tie.Need-add-bytes
-add-bytes c =
-    let start = c .before .before .before .before .before in
-    let v = start .args .v in
-    let long = vertices-length (start .args .n) v (start .args .points .now) (start .pre .1 .axes) in
-    omega (arith, c .before .first-len .ensures .1, c .vertices-len .ensures, long, start .pre .1 .vertices)
+add-bytes c = omega (arith, c .before .first-len .ensures .1, few c)
 
 add-bytes-2 : tie.Need-add-bytes-2
 add-bytes-2 c =
-    let start = c .before .before .before .before .before .before in
-    let v = start .args .v in
-    let long = vertices-length (start .args .n) v (start .args .points .now) (start .pre .1 .axes) in
-    omega (
-      arith,
-      c .before .before .first-len .ensures .1,
-      c .before .vertices-len .ensures,
-      c .before .before .before .faces-size .ensures .1 .1,
-      long,
-      start .pre .1 .vertices,
-    )
+    omega (arith, c .before .before .first-len .ensures .1, few (c .before), c .before .before .before .faces-size .ensures .1 .1)
 
 returns : tie.Need-returns
 unfolding keyText
 returns c =
-    let start = c .before .before .before .before .before .before in
-    let d = start .args .d in
-    let n = start .args .n in
-    let v = start .args .v in
-    let ps = start .args .points .now in
-    let fs = tableFaces d (start .args .s) (start .args .table .now) in
+    let s : tie.Start = search needs in
+    let d = s .args .d in
+    let n = s .args .n in
+    let v = s .args .v in
+    let ps = s .args .points .now in
+    let fs = tableFaces d (s .args .s) (s .args .table .now) in
     let size = c .before .before .before .faces-size .ensures .0 in
     let first = c .before .before .first-len .ensures .0 ∙ ap (λ (k : ℕ). length (firstLine d n v k)) (size .faces) in
     record {

@@ -10,38 +10,41 @@ use Rattle.listing.proofs.key.put_key.Tie as tie
 
 cast-t16 : tie.Need-cast-t16
 cast-t16 c =
-    let start = c .before .before .before in
-    omega (arith, start .pre .2, faces-few (start .args .d) (start .args .s) (start .args .table .now) (start .pre .0))
+    let s : tie.Start = search needs in
+    omega (arith, s .pre .2, faces-few (s .args .d) (s .args .s) (s .args .table .now) (s .pre .0))
 
 first-line-requires : tie.Need-first-line-requires
 first-line-requires c κs =
-    let start = c .before .before .before .before .before .before in
-    first-fits (start .args .d) (start .args .n) (start .args .v) (start .args .points .now) _ (start .args .faces) (start .pre .2)
-    (start .args .buf .now) (start .pre .3)
+    let s : tie.Start = search needs in
+    let a = s .args in
+    first-fits (a .d) (a .n) (a .v) (a .points .now) _ (a .faces) (s .pre .2) (a .buf .now) (s .pre .3)
 
 put-vertices-requires : tie.Need-put-vertices-requires
 put-vertices-requires c κs =
-    let start = c .before .before .before .before .before .before .before .before .before .before in
-    let left = vertices-left (start .args .d) (start .args .n) (start .args .v) (start .args .points .now) _ (start .args .faces) (start .pre .2)
-    (start .args .buf .now) (start .pre .3) (c .before .before .before .first-line .ensures) in
-    (start .pre .1, left-fits (vertexLines (start .args .n) (start .args .v) (start .args .points .now)) _ left)
+    let s : tie.Start = search needs in
+    let a = s .args in
+    let f : tie.After-first-line = search needs in
+    let left = vertices-left (a .d) (a .n) (a .v) (a .points .now) _ (a .faces) (s .pre .2) (a .buf .now) (s .pre .3) (f .first-line .ensures) in
+    (s .pre .1, left-fits (vertexLines (a .n) (a .v) (a .points .now)) _ left)
 
 put-faces-requires : tie.Need-put-faces-requires
 put-faces-requires c κs =
-    let start = c .before .before .before .before .before .before .before .before .before .before .before .before .before .before in
-    let left = faces-left (start .args .d) (start .args .n) (start .args .v) (start .args .points .now) _ (start .args .faces) (start .pre .2)
-    (start .args .buf .now) (start .pre .3) (c .before .before .before .before .before .before .before .first-line .ensures)
-    (c .before .before .before .put-vertices .ensures) in
-    (start .pre .0, left .room)
+    let s : tie.Start = search needs in
+    let a = s .args in
+    let f : tie.After-first-line = search needs in
+    let v : tie.After-put-vertices = search needs in
+    let left = faces-left (a .d) (a .n) (a .v) (a .points .now) _ (a .faces) (s .pre .2) (a .buf .now) (s .pre .3)
+    (f .first-line .ensures) (v .put-vertices .ensures) in
+    (s .pre .0, left .room)
 
 returns : tie.Need-returns
 returns c =
-    let last = c .before .before .before .before .before .before .before .before .before in
-    let start = last .before .before .before .before .before .before .before .before in
-    key-put (start .args .d) (start .args .n) (start .args .v) (start .args .points .now) _ (start .args .faces) (start .pre .2)
-    (start .args .buf .now) (start .pre .3)
-    (c .before .before .before .before .before .before .before .before .before .before .first-line .ensures)
-    (c .before .before .before .before .before .before .put-vertices .ensures) (c .before .before .put-faces .ensures)
+    let s : tie.Start = search needs in
+    let a = s .args in
+    let f : tie.After-first-line = search needs in
+    let v : tie.After-put-vertices = search needs in
+    key-put (a .d) (a .n) (a .v) (a .points .now) _ (a .faces) (s .pre .2) (a .buf .now) (s .pre .3)
+    (f .first-line .ensures) (v .put-vertices .ensures) (c .before .before .put-faces .ensures)
 
 pub put-key-spec : {M : Type 1} → statement M
 put-key-spec =

@@ -7,14 +7,14 @@ use Rattle.listing.proofs.vertices.put_vertex.Tie as tie
 
 vertex-line-requires : tie.Need-vertex-line-requires
 vertex-line-requires c κs =
-    let start = c .before .before .before .before .before .before in (
+    let start : tie.Start = search needs in (
       point-ranged (start .args .n) (start .args .p) (start .args .points .now) (start .pre .0 .within) (start .pre .0 .ranged),
       rw (vertex-line (start .args .n) (start .args .p) (start .args .points .now)) at (start .pre .1),
     )
 
 returns : tie.Need-returns
 returns c =
-    let start = c .before .before .before .before .before .before .before .before .before in
+    let start : tie.Start = search needs in
     rw (vertex-line (start .args .n) (start .args .p) (start .args .points .now)) (c .before .before .vertex-line .ensures)
 
 pub put-vertex-spec : {M : Type 1} → statement M

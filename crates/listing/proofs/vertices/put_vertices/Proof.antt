@@ -27,7 +27,7 @@ loop-holds c =
 
 put-vertex-requires : tie.Need-put-vertex-requires Inv-loop μ-loop
 put-vertex-requires c κs =
-    let start = c .before .before .before .before .before in
+    let start : tie.Start Inv-loop μ-loop = search needs in
     let turn = c .before .before in
     let v = start .args .v in
     let p = turn .loop .p in
@@ -43,8 +43,8 @@ put-vertex-requires c κs =
 
 loop-again : tie.Need-loop-again Inv-loop μ-loop
 loop-again c =
-    let start = c .before .before .before .before .before .before .before .before in
-    let turn = c .before .before .before .before .before in
+    let start : tie.Start Inv-loop μ-loop = search needs in
+    let turn : tie.At-loop Inv-loop μ-loop = search needs in
     let v = start .args .v in
     let p = turn .loop .p in
     let f = vertexLine (start .args .n) (start .args .points .now) in (

@@ -41,12 +41,12 @@ loop-holds c =
 
 coordinate-len-requires : tie.Need-coordinate-len-requires Inv-loop μ-loop
 coordinate-len-requires c κs =
-    let start = c .before .before .before .before .before in
+    let start : tie.Start Inv-loop μ-loop = search needs in
     all-at inRange nan (start .args .points .now) _ (start .pre .ranged) (omega (arith, start .pre .within))
 
 add-k-2 : tie.Need-add-k-2 Inv-loop μ-loop
 add-k-2 c =
-    let start = c .before .before .before .before .before .before in
+    let start : tie.Start Inv-loop μ-loop = search needs in
     omega (
       arith,
       c .coordinate-len .ensures,
@@ -55,7 +55,7 @@ add-k-2 c =
 
 add-k-3 : tie.Need-add-k-3 Inv-loop μ-loop
 add-k-3 c =
-    let start = c .before .before .before .before .before .before in
+    let start : tie.Start Inv-loop μ-loop = search needs in
     let turn = c .before .before .before in
     let ps = start .args .points .now in
     let n = start .args .n in
@@ -73,7 +73,7 @@ add-k-3 c =
 
 loop-again : tie.Need-loop-again Inv-loop μ-loop
 loop-again c =
-    let start = c .before .before .before .before .before .before in
+    let start : tie.Start Inv-loop μ-loop = search needs in
     let turn = c .before .before .before in
     let ps = start .args .points .now in
     let n = start .args .n in

@@ -22,7 +22,7 @@ use Rattle.page.proofs.stages.moved_key.Statement.{statement}
 use Rattle.page.proofs.stages.moved_key.Tie as tie
 
 abbrev start : tie.After-move-points → tie.Start
-start c = c .before .before .before .before .before
+start c = search needs
 
 abbrev told : tie.After-move-points → MoveInput
 told c = let a = start c .args in moveInput (a .n) (a .v) (a .h) (a .step) (a .points .now) floatRoom
@@ -59,7 +59,7 @@ slice-aggregate-list c = sym (length-take-le _ (buffer (c .before .before)) (fro
 
 returns : tie.Need-returns
 returns c =
-    let m = c .before .before .before .before .before .before in
+    let m : tie.After-m = search needs in
     let a = start (call m) .args in
     let page = a .page .now in
     let list = c .before .before .list .ensures in

@@ -1,7 +1,7 @@
 -- `stages::page_key` meets its contract: the first stage is lent the front of the buffers, which is what read wrote. Assumes nothing.
 use mathlib.Core.Path.{_≡_, sym, ap, ap₂, _∙_}
 use mathlib.Core.List.{List}
-use Prim.Native.Nat.{ℕ, _+_, _*_, _≤_}
+use Prim.Native.Nat.{ℕ, _*_, _≤_}
 use native.Mathlib.Omega.{arith}
 use borrow.Author.Needs.{needs}
 use lib.Ieee.{Float}
@@ -20,13 +20,13 @@ use Rattle.page.proofs.stages.page_key.Statement.{statement}
 use Rattle.page.proofs.stages.page_key.Tie as tie
 
 abbrev start : tie.After-read → tie.Start
-start c = c .before .before .before .before .before .before
+start c = search needs
 
 abbrev bytes : tie.After-read → List ℕ
 bytes c = start c .args .input .now
 
 abbrev call : tie.After-x → tie.After-read
-call c = c .before .before .before .before
+call c = search needs
 
 abbrev header : tie.After-x → Header
 header c = c .x .given .0 .0
@@ -37,9 +37,6 @@ ok c = sym (call c .read .ensures .0) ∙ ap headerOutcome (c .x .given .1)
 facts : (c : tie.After-x) → FileFacts (bytes (call c)) (header c)
 facts c = file-facts (bytes (call c)) (header c) (ok c)
 
-abbrev words : tie.After-x → ℕ
-words c = header c .s * (header c .d + 2)
-
 abbrev floats : tie.After-x → ℕ
 floats c = header c .v * header c .n
 
@@ -49,8 +46,11 @@ cells c = call c .read .last .1 .0
 abbrev points : tie.After-x → List Float
 points c = call c .read .last .1 .1 .0
 
-front : (c : tie.After-x) → (words c ≤ length (cells c)) × (take (words c) (cells c) ≡ fileWords (bytes (call c)))
-front c = cells-front (bytes (call c)) (header c) (ok c) _ (cells c) (call c .read .ensures .1 .0)
+front : (c : tie.After-list-words) → let x : tie.After-x = search needs in
+    let words = c .list-words .result in (words ≤ length (cells x)) × (take words (cells x) ≡ fileWords (bytes (call x)))
+front c =
+    let x : tie.After-x = search needs in
+    rw (c .list-words .ensures) (cells-front (bytes (call x)) (header x) (ok x) _ (cells x) (call x .read .ensures .1 .0))
 
 front-points : (c : tie.After-x) → (floats c ≤ length (points c)) × (take (floats c) (points c) ≡ filePoints (bytes (call c)))
 front-points c = points-front (bytes (call c)) (header c) (ok c) _ (points c) (call c .read .ensures .1 .1)
@@ -61,44 +61,42 @@ returns c =
     let long = sym (key-long (a .input .now) (c .if1 .taken)) in
     (ap counted long, ap (λ o. pageAfter o (a .page .now)) long)
 
-add-words : tie.Need-add-words
-add-words c = omega (arith, facts (c .before) .dimension)
-
-mul-words : tie.Need-mul-words
-mul-words c = omega (arith, facts (c .before) .few-words)
+list-words-requires : tie.Need-list-words-requires
+list-words-requires c κs = let f = facts (search needs) in (omega (arith, f .dimension), f .cells)
 
 mul-floats : tie.Need-mul-floats
-mul-floats c = omega (arith, facts (c .before) .few-floats)
+mul-floats c = omega (arith, facts (search needs) .few-floats)
 
 array-share-prefix-cells : tie.Need-array-share-prefix-cells
-array-share-prefix-cells c = front (c .before) .0
+array-share-prefix-cells c = front (search needs) .0
 
 slice-aggregate-winged-key : tie.Need-slice-aggregate-winged-key
-slice-aggregate-winged-key c = sym (length-take-le _ (cells (c .before .before)) (front (c .before .before) .0))
+slice-aggregate-winged-key c = sym (length-take-le _ (cells (search needs)) (front (search needs) .0))
 
 array-share-prefix-points : tie.Need-array-share-prefix-points
-array-share-prefix-points c = front-points (c .before .before) .0
+array-share-prefix-points c = front-points (search needs) .0
 
 slice-aggregate-winged-key-2 : tie.Need-slice-aggregate-winged-key-2
-slice-aggregate-winged-key-2 c = sym (length-take-le _ (points (c .before .before .before)) (front-points (c .before .before .before) .0))
+slice-aggregate-winged-key-2 c = sym (length-take-le _ (points (search needs)) (front-points (search needs) .0))
 
 returns-2 : tie.Need-returns-2
 returns-2 c =
-    let x = c .before .before .before .before .before .before .before in
+    let x : tie.After-x = search needs in
     let s = start (call x) in
     let b = bytes (call x) in
     let h = header x in
     let page = s .args .page .now in
     let next = c .before .before .winged-key .ensures in
     let stage =
-    ap₂ {C = Outcome (List ℕ)} (λ ws ps. wingedKey (h .d) (h .n) (h .v) (h .s) (h .h) (h .step) ws ps (length page)) (front x .1) (front-points x .1)
+    ap₂ {C = Outcome (List ℕ)} (λ ws ps. wingedKey (h .d) (h .n) (h .v) (h .s) (h .h) (h .step) ws ps (length page))
+    (front (search needs) .1) (front-points x .1)
     ∙ ap (λ room. wingedKey (h .d) (h .n) (h .v) (h .s) (h .h) (h .step) (fileWords b) (filePoints b) room) (s .pre)
     ∙ sym (key-read b h (ok x) (call x .before .before .before .if1 .left)) in
     (next .0 ∙ ap counted stage, next .1 ∙ ap (λ o. pageAfter o page) stage)
 
 returns-3 : tie.Need-returns-3
 returns-3 c =
-    let call = c .before .before .before .before .before in
+    let call : tie.After-read = search needs in
     let page = start call .args .page .now in
     let stage =
     sym (key-refused (bytes call) (call .before .before .before .if1 .left) (numberOf (c .before .r .given .0 .0))
@@ -114,8 +112,7 @@ page-key-spec =
     (λ c. search needs)
     (λ c κs. search needs)
     (λ c. search needs)
-    add-words
-    mul-words
+    list-words-requires
     mul-floats
     array-share-prefix-cells
     slice-aggregate-winged-key

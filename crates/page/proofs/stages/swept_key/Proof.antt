@@ -19,7 +19,7 @@ use Rattle.page.proofs.stages.swept_key.Statement.{statement}
 use Rattle.page.proofs.stages.swept_key.Tie as tie
 
 abbrev start : tie.After-sweep → tie.Start
-start c = c .before .before .before .before .before
+start c = search needs
 
 abbrev told : tie.After-sweep → SweepInput
 told c = let a = start c .args in sweepInput (a .d) (a .v) (a .s) (a .h) (a .table .now) wordRoom
@@ -69,7 +69,7 @@ slice-aggregate-moved-key c = sym (length-take-le _ (buffer (c .before .before))
 
 returns : tie.Need-returns
 returns c =
-    let m = c .before .before .before .before .before .before in
+    let m : tie.After-m = search needs in
     let a = start (call m) .args in
     let page = a .page .now in
     let next = c .before .before .moved-key .ensures in

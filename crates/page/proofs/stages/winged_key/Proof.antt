@@ -16,7 +16,7 @@ use Rattle.page.proofs.stages.winged_key.Statement.{statement}
 use Rattle.page.proofs.stages.winged_key.Tie as tie
 
 abbrev start : tie.After-wing → tie.Start
-start c = c .before .before .before .before .before
+start c = search needs
 
 abbrev told : tie.After-wing → WingInput
 told c = let a = start c .args in wingInput (a .d) (a .v) (a .s) (a .cells .now) wordRoom
@@ -41,7 +41,7 @@ slice-aggregate-swept-key c = sym (length-take-le _ (buffer (c .before .before))
 
 returns : tie.Need-returns
 returns c =
-    let m = c .before .before .before .before .before .before in
+    let m : tie.After-m = search needs in
     let a = start (call m) .args in
     let page = a .page .now in
     let next = c .before .before .swept-key .ensures in
