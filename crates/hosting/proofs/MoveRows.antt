@@ -132,7 +132,7 @@ module _ (m : MoveInput) (out w : List Float) (k : ℕ) (e : accepted k ≡ move
 
   pub sent-ranged : allOf inRange (take k w) ≡ true
   unfolding moveOutcome moveRules
-  sent-ranged = ap (allOf inRange) (sent-front .1) ∙ not-false _ (accepted-by moveRules movedLength m k refl (sym e) .1 .1 .1 .1 .1 .1 .0)
+  sent-ranged = ap (allOf inRange) (sent-front .1) ∙ not-false _ (accepted-by moveRules movedLength m k refl (sym e) .1 13)
 
   pub sent-short : (room : ℕ) → room < k → refused 15 ≡ inRoom room (moveOutcome m)
   sent-short room h = rw (sym e, lt-ltb room k h) refl

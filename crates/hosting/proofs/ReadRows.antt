@@ -23,7 +23,7 @@ use Rattle.words.proofs.Placed.{placed-first, placed-then}
 use Rattle.rules.specs.Calls.{Outcome, accepted, refused, outcome, after, written, firstRefusal}
 use Rattle.rules.specs.Limits.{maxSource, maxAxes, axesOk, stepsOk, within}
 use Rattle.rules.specs.Shapes.{shapeOk}
-use Rattle.rules.proofs.Accepting.{none-applies, front-of}
+use Rattle.rules.proofs.Accepting.{passes, front-of}
 use Rattle.rules.proofs.Answers.{orElse, firstRefusal-append}
 use Rattle.rules.proofs.InLimits.{limits-are}
 use Rattle.rules.proofs.Tests.{and-parts}
@@ -33,14 +33,14 @@ use Rattle.file.specs.File.{headerSize, dimensionOf, axesOf, vertexCountOf, cel
 use Rattle.file.specs.Tests.{numbersOk, cellsLength, fileWords}
 use Rattle.file.proofs.Stores.{words-count}
 use Rattle.read.specs.declared.Header.{Header}
-use Rattle.read.specs.Read.{readInput, readRules, readOutcome, readCells, headerOf}
-use Rattle.read.proofs.Outcomes.{ours-long, right-length}
+use Rattle.read.specs.Read.{readInput, readTests, readRules, readOutcome, readCells, headerOf}
+use Rattle.read.proofs.Order.{ours-long, right-length}
 use Rattle.hosting.specs.Inner.Rooms.{wordRoom, floatRoom}
 use Rattle.hosting.specs.Reads.{headerBytes, headerWords, pointBytes, wordCount, withHeader, hostReadOutcome, hostReadHeader, hostReadCells}
 use Rattle.hosting.specs.Reads.{hostReadPoints}
 
 unfoldable pub tests : List ℕ → ℕ
-tests b = firstRefusal (take 8 readRules) (readInput b 0 0)
+tests b = firstRefusal readTests (readInput b 0 0)
 
 pub record Passed (b : List ℕ) : Type 0 where
   pub none : tests b ≡ 0
@@ -53,22 +53,22 @@ module _ (b : List ℕ) where
   split : (c p : ℕ) →
       readOutcome (readInput b c p) ≡ outcome (orElse (tests b) (cond (ltb c (cellsLength b) || ltb p (pointCount b)) 15 0)) (headerOf b)
   unfolding readOutcome readRules tests
-  split c p = ap (λ k. outcome k (headerOf b)) (firstRefusal-append (take 8 readRules) (drop 8 readRules) (readInput b c p) refl)
+  split c p = ap (λ k. outcome k (headerOf b)) (firstRefusal-append readTests _ (readInput b c p) refl)
 
   facts : tests b ≡ 0 → Passed b
   unfolding readRules tests
   facts e =
-      let by = none-applies (take 8 readRules) (readInput b 0 0) refl e in
+      let by = passes readTests (readInput b 0 0) refl (sym e) in
       let rest = (axesOk (axesOf b) && leb (suc (dimensionOf b)) (axesOf b)) && (stepsOk (stepsOf b) && within 1 3 (kindOf b)) in
-      let numbers = and-parts (shapeOk maxSource (dimensionOf b) (vertexCountOf b) (cellCountOf b)) rest (not-false (numbersOk b) (by .1 .0)) in
+      let numbers = and-parts (shapeOk maxSource (dimensionOf b) (vertexCountOf b) (cellCountOf b)) rest (not-false (numbersOk b) (by 2)) in
       let l = limits-are maxSource (dimensionOf b) (vertexCountOf b) (cellCountOf b) (ap not (numbers .0)) in
       let both = and-parts (axesOk (axesOf b) && leb (suc (dimensionOf b)) (axesOf b)) (stepsOk (stepsOf b) && within 1 3 (kindOf b)) (numbers .1) in
       let axes =
       and-parts (leb 1 (axesOf b)) (leb (axesOf b) maxAxes) (and-parts (axesOk (axesOf b)) (leb (suc (dimensionOf b)) (axesOf b)) (both .0) .0) in
       record {
         none = e;
-        header = ours-long b (by .0);
-        whole = right-length b (by .1 .1 .0);
+        header = ours-long b (by 1);
+        whole = right-length b (by 3);
         words = mul-le-mul {m₁ = listSize (dimensionOf b)} {m₂ = listSize maxSource} (l .cells) (omega (arith, l .dimension));
         floats = mul-le-mul (l .vertices) (leb-true (axesOf b) maxAxes (axes .1));
       }

@@ -19,7 +19,7 @@ moved-long : (i : MoveInput) (k : ℕ) → moveOutcome i ≡ accepted k → k �
 unfolding moveOutcome moveRules movedLevels
 moved-long i k e =
     let by = accepted-by moveRules movedLength i k refl e in
-    let points = eqb-true (length (i .points)) (i .v * i .n) (not-false (eqb (length (i .points)) (i .v * i .n)) (by .1 .1 .0)) in
+    let points = eqb-true (length (i .points)) (i .v * i .n) (not-false (eqb (length (i .points)) (i .v * i .n)) (by .1 3)) in
     by .0 ∙ mul-assoc (suc (i .h)) (i .v) (i .n) ∙ sym (length-levels (i .step) (i .n) (i .v) (i .h) (i .points) points)
 
 pub moved-front : (i : MoveInput) (out w : List Float) (k : ℕ) → w ≡ moveBuffer i out →

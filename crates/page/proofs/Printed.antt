@@ -28,7 +28,7 @@ use Rattle.read.specs.declared.Header.{Header}
 use Rattle.file.specs.File.{dimensionOf, axesOf, vertexCountOf, cellCountOf, stepsOf, kindOf, filePoints}
 use Rattle.file.specs.Tests.{numbersOk, fileWords}
 use Rattle.read.specs.Read.{headerOf, readOutcome, readCells, readPoints, readRules}
-use Rattle.read.proofs.Outcomes.{right-length, rooms-parts}
+use Rattle.read.proofs.Order.{passed-each}
 use Rattle.file.proofs.Parts.{points-length}
 use Rattle.file.proofs.Stores.{words-count}
 use Rattle.words.specs.Inner.Placed.{placed, Put}
@@ -65,18 +65,18 @@ module _ (b : List ℕ) where
         let s = ap (λ (y : Header). y .s) (by .0) in
         let words = ap (λ (y : Header). listLength (y .d) (y .s)) (by .0) in
         let floats = ap (λ (y : Header). y .v * y .n) (by .0) in
-        let numbers = not-false (numbersOk b) (by .1 .1 .0) in
+        let numbers = not-false (numbersOk b) (by .1 2) in
         let shape =
         and-parts (shapeOk maxSource (dimensionOf b) (vertexCountOf b) (cellCountOf b))
         ((axesOk (axesOf b) && leb (suc (dimensionOf b)) (axesOf b)) && (stepsOk (stepsOf b) && within 1 3 (kindOf b))) numbers .0 in
         let l = limits-are maxSource (dimensionOf b) (vertexCountOf b) (cellCountOf b) (ap not shape) in
-        let rooms = rooms-parts b wordRoom floatRoom (by .1 .1 .1 .1 .1 .1 .1 .1 .1 .0) in
+        let fine = passed-each (readIn b) (by .1) in
         record {
           dimension = omega (arith, d, l .dimension);
           cells = omega (arith, s, l .cells);
-          words = words ∙ sym (words-count b (right-length b (by .1 .1 .1 .0)));
+          words = words ∙ sym (words-count b (fine .whole));
           floats = floats ∙ sym (points-length b);
-          few-floats = omega (arith, floats, rooms .1);
+          few-floats = omega (arith, floats, fine .points);
         }
 
     pub cells-front : (out w : List ℕ) → w ≡ readCells (readIn b) out →

@@ -32,14 +32,14 @@ pub moved-limits : (i : MoveInput) (k : ℕ) → moveOutcome i ≡ accepted k �
 unfolding moveOutcome moveRules
 moved-limits i k e =
     let by = accepted-by moveRules movedLength i k refl e in
-    let l = move-limits-are (i .n) (i .v) (i .h) (by .1 .0) in
+    let l = move-limits-are (i .n) (i .v) (i .h) (by .1 2) in
     (l .axes, l .vertices, l .steps)
 
 module _ (d v s h : ℕ) (ws : List ℕ) (x k : ℕ) (a : sweepOutcome (sweepInput d v s h ws x) ≡ accepted k) where
   pub swept-limits : SweepLimits d v s h
   unfolding sweepOutcome sweepRules
   swept-limits =
-      sweep-limits-are d v s h (accepted-by sweepRules sweptLength (sweepInput d v s h ws x) k refl a .1 .0)
+      sweep-limits-are d v s h (accepted-by sweepRules sweptLength (sweepInput d v s h ws x) k refl a .1 2)
 
   pub swept-front : (out w : List ℕ) → w ≡ sweepBuffer (sweepInput d v s h ws x) out →
       (k ≤ length w) × (take k w ≡ sweptWords (sweepInput d v s h ws x))
@@ -59,7 +59,7 @@ pub list-long : (i : ListInput) (k : ℕ) → listOutcome i ≡ accepted k → (
 unfolding listOutcome listRules
 list-long i k e =
     let by = accepted-by listRules (λ i. length (listText i)) i k refl e in
-    (by .0, ltb-false (i .room) (length (listText i)) (by .1 .1 .1 .1 .1 .0))
+    (by .0, ltb-false (i .room) (length (listText i)) (by .1 15))
 
 pub list-counted : (i : ListInput) → listOutcome i ≡ counted (listKey i)
 unfolding listKey

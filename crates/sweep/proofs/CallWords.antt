@@ -26,5 +26,5 @@ pub swept-long : (d v s h : ℕ) (ws : List ℕ) (x k : ℕ) →
 unfolding sweepOutcome sweepRules
 swept-long d v s h ws x k e =
     let by = accepted-by sweepRules sweptLength (sweepInput d v s h ws x) k refl e in
-    let words = eqb-true (length ws) (tableLength d s) (not-false (eqb (length ws) (tableLength d s)) (by .1 .1 .0)) in
+    let words = eqb-true (length ws) (tableLength d s) (not-false (eqb (length ws) (tableLength d s)) (by .1 3)) in
     by .0 ∙ sym (call-long d v s h ws words x) ∙ ap length (sym (call-words d v s h ws x))

@@ -20,19 +20,10 @@ pub accepted-long : (l : Listed) (x k : ℕ) → wingOutcome (record { list = l;
 unfolding wingOutcome wingRules solidRules tableOfList
 accepted-long l x k e =
     let by = accepted-by wingRules wingLength (record { list = l; room = x }) k refl e in
-    let none = by .1 .1 in
-    let six = none .1 in
-    let words = eqb-true (length (l .words)) (l .s * listSize (l .d)) (not-false (eqb (length (l .words)) (l .s * listSize (l .d))) (none .0)) in
+    let none = by .1 in
+    let words = eqb-true (length (l .words)) (l .s * listSize (l .d)) (not-false (eqb (length (l .words)) (l .s * listSize (l .d))) (none 3)) in
     let ok =
-    passes l
-    (record {
-      sign = six .0;
-      vertex = six .1 .0;
-      twice = six .1 .1 .0;
-      cell = six .1 .1 .1 .0;
-      crowded = six .1 .1 .1 .1 .0;
-      equal = six .1 .1 .1 .1 .1 .0;
-    }) in
+    passes l (record { sign = none 6; vertex = none 7; twice = none 8; cell = none 9; crowded = none 10; equal = none 11 }) in
     let solid = accepted-solid l words ok in
     let count : length (solidOf l) ≡ l .s =
     length-map (listedCells l) ascending ∙ tabulate-length (l .s) (λ p. cellOf (part (listSize (l .d)) p (l .words))) in

@@ -19,7 +19,7 @@ use Rattle.motion.specs.Move.{movedLength}
 use Rattle.file.specs.Tests.{cellsLength}
 use Rattle.read.specs.declared.Header.{Header}
 use Rattle.read.specs.Read.{ReadInput, readInput, readRules, readOutcome, headerOf}
-use Rattle.read.proofs.Outcomes.{rooms-parts}
+use Rattle.read.proofs.Order.{passed-each}
 use Rattle.list.specs.List.{ListInput, listOutcome}
 use Rattle.hosting.specs.Lists.{byBytes, hostListInput, hostListOutcome}
 use Rattle.hosting.specs.Moves.{MoveTold, toldMove, hostMoveRules, hostMoveOutcome}
@@ -52,7 +52,7 @@ move-within i = go (hostMoveOutcome i) refl
     go : (o : Outcome ℕ) → hostMoveOutcome i ≡ o → countOf o ≤ i .room
     go (accepted k) e =
         let by = accepted-by hostMoveRules (λ i. movedLength (toldMove i)) i k refl e in
-        omega (arith, by .0, ltb-false (i .room) (movedLength (toldMove i)) (by .1 .1 .1 .1 .1 .1 .1 .0))
+        omega (arith, by .0, ltb-false (i .room) (movedLength (toldMove i)) (by .1 15))
     go (refused k) e = omega arith
 
 pub read-within : (b header cells points : List ℕ) → countOf (hostReadOutcome b header cells points) ≤ length cells / 2
@@ -69,7 +69,7 @@ read-within b header cells points = go (readOutcome i) refl
     go : (o : Outcome Header) → readOutcome i ≡ o → countOf (withHeader (length header) (wordCount b o)) ≤ length cells / 2
     go (accepted x) e =
         let by = accepted-by readRules (λ i. headerOf (i .bytes)) i x refl e in
-        pick (ltb (length header) 40) (rooms-parts b (length cells / 2) (length points / 8) (by .1 .1 .1 .1 .1 .1 .1 .1 .1 .0) .0)
+        pick (ltb (length header) 40) (passed-each i (by .1) .cells)
     go (refused k) e = omega arith
 
 pub read-small : (o : Outcome ℕ) (b header cells points : List ℕ) → o ≡ hostReadOutcome b header cells points → length cells < 18446744073709551616 →
