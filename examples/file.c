@@ -1,4 +1,5 @@
-/* From a file's bytes to its key, call by call: read, wing, sweep, move and list. usage: file FILE */
+/* From a file's bytes to its key, call by call: read, wing, sweep, move and list. usage: file FILE
+ * winged_key does the same in one call, for files of up to 65,536 bytes. */
 #include <inttypes.h>
 #include <stdio.h>
 #include <stdlib.h>

@@ -18,8 +18,8 @@
  * than needed.
  *
  * The inputs and the outputs of a call must not overlap. A call uses no heap and no global state, so calls on
- * different buffers may run in several threads at once; winged_list uses up to 1 MB of stack, the others up to
- * 512 KB.
+ * different buffers may run in several threads at once; winged_list and winged_key use up to 1 MB of stack, the
+ * others up to 512 KB.
  */
 #ifndef WINGED_H
 #define WINGED_H
@@ -38,6 +38,7 @@ extern "C" {
 #define WINGED_MAX_CELLS 4096
 #define WINGED_MAX_STEPS 64
 #define WINGED_MAX_AXES 8
+#define WINGED_MAX_FILE 65536 /* bytes of a file that winged_key takes */
 #define WINGED_EMPTY 65535 /* a wing without a neighbour */
 
 /* Sizes in words. */
@@ -107,6 +108,10 @@ int64_t winged_faces(uint32_t d, uint32_t v, uint32_t s, const uint8_t *table, s
 /* The key's text of a table of dimension d (0 to 7) and v points of n axes. Returns the count of bytes. */
 int64_t winged_list(uint32_t d, uint32_t n, uint32_t v, uint32_t s, const uint8_t *table, size_t table_len,
                     const uint8_t *points, size_t points_len, uint8_t *text, size_t text_len);
+
+/* What the program key prints for a file: its key, or the line 'refused' with a number. Returns the count of bytes;
+ * the only refusal is that of a text_len that is too small. 65,536 bytes are always enough. */
+int64_t winged_key(const uint8_t *file, size_t file_len, uint8_t *text, size_t text_len);
 
 #ifdef __cplusplus
 }

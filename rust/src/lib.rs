@@ -1,5 +1,5 @@
-//! Safe functions over the proved library of winged solids: [`read`], [`wing`], [`sweep`], [`move_points`], [`faces`]
-//! and [`list`].
+//! Safe functions over the proved library of winged solids: [`read`], [`wing`], [`sweep`], [`move_points`], [`faces`],
+//! [`list`] and [`key`].
 //!
 //! Words are 16 bits. A list of cells holds a sign word (0 plus, 1 minus) and d + 1 vertices a cell; a table
 //! holds a sign word, d + 1 ascending vertices and d + 1 wings a cell, 65535 for none; a face is a sign word
@@ -32,6 +32,7 @@ mod ffi {
             d: u32, n: u32, v: u32, s: u32, table: *const u8, table_len: usize, points: *const u8, points_len: usize, text: *mut u8,
             text_len: usize,
         ) -> i64;
+        pub fn winged_key(file: *const u8, file_len: usize, text: *mut u8, text_len: usize) -> i64;
         pub fn winged_faces(d: u32, v: u32, s: u32, table: *const u8, table_len: usize, faces: *mut u8, faces_len: usize) -> i64;
     }
 }
@@ -231,4 +232,13 @@ pub fn list(d: u32, n: u32, v: u32, s: u32, table: &[u16], points: &[f64]) -> Re
     })?;
     text.truncate(count);
     Ok(String::from_utf8(text).expect("a key is ASCII"))
+}
+
+/// What the program `key` prints for a file's bytes: its key, or the line `refused` with a number.
+pub fn key(file: &[u8]) -> String {
+    let mut text = vec![0u8; 65536];
+    // SAFETY: as for read.
+    let count = unsafe { ffi::winged_key(file.as_ptr(), file.len(), text.as_mut_ptr(), text.len()) };
+    text.truncate(usize::try_from(count).expect("65,536 bytes are enough"));
+    String::from_utf8(text).expect("a key is ASCII")
 }

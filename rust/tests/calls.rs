@@ -1,6 +1,6 @@
 //! The marked keys and the refusals through the safe functions.
 
-use winged::{faces, list as listed, move_points, read, sweep, wing, Refusal, Step, EMPTY};
+use winged::{faces, key, list as listed, move_points, read, sweep, wing, Refusal, Step, EMPTY};
 
 /// Words from a sign and vertices for each cell.
 fn list(cells: &[(char, &[u16])]) -> Vec<u16> {
@@ -70,7 +70,9 @@ fn a_file_to_its_key() -> Result<(), Refusal> {
         let swept = sweep(f.d, f.v, f.s, f.h, &wing(f.d, f.v, f.s, &f.cells)?)?;
         let levels = move_points(f.n, f.v, f.h, f.step, &f.points)?;
         assert_eq!(listed(f.d + 1, f.n, (f.h + 1) * f.v, f.h * f.s * (f.d + 1), &swept, &levels)?, text);
+        assert_eq!(key(&bytes), text);
     }
+    assert_eq!(key(b"WNG"), "refused 1\n");
     Ok(())
 }
 

@@ -1,5 +1,5 @@
 /* Calls the library at its largest: read, wing, sweep, move and faces, to be run with a stack of 512 KB, and with an
- * argument list, with 1 MB. */
+ * argument list and key, with 1 MB. */
 #include <stdint.h>
 #include <stdio.h>
 
@@ -11,6 +11,8 @@ static uint8_t list[WINGED_LIST_BYTES(7, S)];
 static uint8_t table[WINGED_TABLE_BYTES(7, WINGED_MAX_CELLS)];
 static uint8_t file[40 + 8 * 8 * 4096 + 3 * 4096], points[WINGED_POINTS_BYTES(8, 4096)], levels[WINGED_POINTS_BYTES(8, 4096)];
 static uint8_t header[WINGED_HEADER_BYTES], text[1 << 21];
+/* a point slid once on its axis */
+static const uint8_t small[51] = {'W', 'N', 'G', 1, 0, 0, 1, 1, 0, 1, 0, 1, 0, 1, [48] = '+'};
 static uint8_t out[WINGED_FACES_BYTES(7, WINGED_MAX_CELLS)];
 
 /* A strip of s cells of dimension d: cell p is on p, p + 1, .. , p + d. Its bytes. */
@@ -54,9 +56,12 @@ static size_t file_of_points(void)
 
 static int long_calls(void)
 {
+    size_t n = file_of_points();
     int64_t words = winged_wing(7, V, S, list, strip(7, S), table, sizeof table);
 
-    return refused("wing", words) || refused("list", winged_list(7, 8, V, S, table, 2 * (size_t)words, points, sizeof points, text, sizeof text));
+    if (refused("wing", words) || refused("list", winged_list(7, 8, V, S, table, 2 * (size_t)words, points, sizeof points, text, sizeof text)))
+        return 1;
+    return refused("key", winged_key(file, n, text, sizeof text)) || refused("key", winged_key(small, sizeof small, text, sizeof text));
 }
 
 int main(int count, char **names)

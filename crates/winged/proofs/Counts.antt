@@ -1,5 +1,5 @@
 -- The count of an accepted call is at most the room that it was lent.
---   list-within, move-within, read-within    of list, move and read on bytes
+--   text-within, list-within, move-within, read-within    of key_text, and of list, move and read on bytes
 --   read-small                so read's is no large number
 -- Assumes nothing.
 use mathlib.Core.Path.{_≡_, refl, ap}
@@ -24,8 +24,17 @@ use Rattle.list.specs.List.{ListInput, listOutcome}
 use Rattle.hosting.specs.Lists.{byBytes, hostListInput, hostListOutcome}
 use Rattle.hosting.specs.Moves.{MoveTold, toldMove, hostMoveRules, hostMoveOutcome}
 use Rattle.hosting.specs.Reads.{wordCount, withHeader, hostReadOutcome}
+use Rattle.page.specs.Key.{printed, textOutcome}
 use Rattle.page.proofs.Staged.{list-long}
 use Rattle.winged.specs.Inner.Sent.{countOf}
+
+pub text-within : (b : List ℕ) (room : ℕ) → countOf (textOutcome b room) ≤ room
+unfolding textOutcome
+text-within b room = go (ltb room (length (printed b))) refl
+  where
+    go : (t : Bool) → ltb room (length (printed b)) ≡ t → countOf (cond t (refused 15) (accepted (length (printed b)))) ≤ room
+    go true e = omega arith
+    go false e = ltb-false room (length (printed b)) e
 
 listed : (i : ListInput) → countOf (listOutcome i) ≤ i .room
 listed i = go (listOutcome i) refl

@@ -6,6 +6,7 @@ ghost use lib.ListN.{length};
 ghost use Rattle.hosting.specs.Lists.{hostListOutcome, hostListBuffer};
 ghost use Rattle.hosting.specs.Moves.{moveTold, hostMoveOutcome, hostMoveBuffer};
 ghost use Rattle.hosting.specs.Reads.{hostReadOutcome, hostReadHeader, hostReadCells, hostReadPoints};
+ghost use Rattle.page.specs.Key.{textOutcome, textBuffer};
 use crate::faces::faces_bytes;
 use crate::host::sweep_bytes;
 use crate::host::wing_bytes;
@@ -14,6 +15,7 @@ use hosting::lists::list_bytes;
 use hosting::moving::move_bytes;
 use hosting::reading::read_bytes;
 use hosting::step_bits::StepBits;
+use page::key::key_text;
 use records::sizes::TABLE_ROOM;
 
 mod faces;
@@ -133,4 +135,12 @@ pub extern "C" fn winged_list(
         points,
         text,
     ))
+}
+
+#[no_mangle]
+pub extern "C" fn winged_key(file: &[u8], text: &mut [u8]) -> i64
+    ensures answer { λ r. ⌜ r ≡ hostAnswer (textOutcome (now (file .entry)) (length (now (text .entry)))) ⌝ }
+    ensures buffer { λ _. ⌜ now (text .exit) ≡ textBuffer (now (file .entry)) (now (text .entry)) ⌝ }
+{
+    answered(key_text(file, text))
 }
