@@ -1,6 +1,5 @@
 -- What move answers on bytes, computed.
 use mathlib.Core.Path.{_≡_, refl}
-use mathlib.Core.List.{List}
 use Prim.Native.Nat.{ℕ}
 use lib.ListN.{replicate}
 use Rattle.rules.specs.Calls.{Outcome, refused}

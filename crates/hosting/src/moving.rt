@@ -2,11 +2,10 @@
 ghost use mathlib.Core.Path.{_≡_};
 ghost use mathlib.Core.Bool.{true, _&&_};
 ghost use Prim.Native.Nat.{_*_, _/_, _≤_};
-ghost use lib.Dec.{eqb, ltb};
 ghost use lib.ListN.{length};
 ghost use Rattle.words.specs.Records.{allOf};
 ghost use Rattle.rules.specs.Calls.{after};
-ghost use Rattle.rules.specs.Limits.{axesOk, verticesOk, stepsOk, maxAxes, maxVertices, maxSteps, sweptVertices, within};
+ghost use Rattle.rules.specs.Limits.{axesOk, verticesOk, stepsOk, within};
 ghost use Rattle.rules.specs.Numbers.{outcomeOf};
 ghost use Rattle.points.specs.Step.{inRange, stepFloats};
 ghost use Rattle.motion.specs.Move.{moveInput, movedLevels, moveOutcome, moveBuffer};

@@ -3,7 +3,7 @@
 --   host-outside, host-wrong, host-right      from the table's bytes
 -- Assumes nothing.
 use mathlib.Core.Path.{_≡_, refl, sym, ap, _∙_}
-use mathlib.Core.Bool.{Bool, true, false}
+use mathlib.Core.Bool.{true, false}
 use mathlib.Core.List.{List, [], _++_}
 use Prim.Native.Nat.{ℕ, _*_}
 use lib.IntN.{pos, negℤ}
@@ -16,7 +16,7 @@ use Rattle.rules.specs.Calls.{Outcome, accepted, refused, after}
 use Rattle.records.specs.Layout.{faceSize, facesWords, tableLength}
 use Rattle.boundary.specs.Faces.{boundaryCells, facesRules, facesOutcome}
 use Rattle.boundary.proofs.Order.{refuses}
-use Rattle.winged.specs.Host.{hosted, hostAnswer, inWords, hostFacesInput, hostFacesOutcome, hostFaces, hostFacesBuffer}
+use Rattle.winged.specs.Host.{hostAnswer, inWords, hostFacesInput, hostFacesOutcome, hostFaces, hostFacesBuffer}
 use Rattle.winged.specs.Inner.Sent.{facesIn, facesAnswer, facesAfter}
 use Rattle.winged.proofs.Hosting.{hosted-right, hosted-wrong}
 

@@ -32,7 +32,7 @@ use Rattle.wing.proofs.Order as wing
 use Rattle.prism.specs.Swept.{sweptCells}
 use Rattle.sweep.specs.Sweep.{SweepInput, sweepOutcome, sweepBuffer, sweepRules, sweptWords, sweepInput}
 use Rattle.sweep.proofs.Order as sweep
-use Rattle.winged.specs.Host.{hosted, hostAnswer, wordsIn, hostList, hostWing, hostWingOutcome, hostWingBuffer, hostSweepInput, hostSweep}
+use Rattle.winged.specs.Host.{hostAnswer, wordsIn, hostList, hostWing, hostWingOutcome, hostWingBuffer, hostSweepInput, hostSweep}
 use Rattle.winged.specs.Host.{hostSweepOutcome, hostSweepBuffer}
 use Rattle.winged.specs.Inner.Sent.{lesser, tableRoom, wingRead, sweepRead}
 use Rattle.winged.proofs.Hosting.{hosted-accepted, hosted-right, hosted-wrong}

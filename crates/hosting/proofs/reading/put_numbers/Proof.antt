@@ -1,5 +1,5 @@
 -- `put_numbers` writes eight words. Assumes nothing.
-use mathlib.Core.Path.{_≡_, _∙_}
+use mathlib.Core.Path.{_∙_}
 use native.Mathlib.Omega.{arith}
 use lib.ListN.{drop}
 use Rattle.hosting.proofs.ReadRows.{numbers-put}

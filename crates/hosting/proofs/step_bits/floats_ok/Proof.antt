@@ -1,5 +1,5 @@
 -- `floats_ok` tests three floats. Assumes nothing.
-use mathlib.Core.Path.{_≡_, refl, sym, _∙_}
+use mathlib.Core.Path.{refl, sym, _∙_}
 use borrow.Author.Tests.{not-true, not-false}
 use Rattle.points.proofs.AllOf.{and-one}
 use borrow.Author.Needs.{needs}

@@ -1,19 +1,17 @@
 -- Faces of a table of the right length: rows 14 and 15, and then all faces are written. Assumes nothing.
 use mathlib.Core.Path.{_≡_, refl, sym, ap, ap₂, _∙_}
 use mathlib.Core.Bool.{true, not}
-use mathlib.Core.List.{List, [], _++_, map}
-use Prim.Native.Nat.{ℕ, _*_, _≤_}
+use mathlib.Core.List.{[]}
+use Prim.Native.Nat.{_*_, _≤_}
 use native.Mathlib.Nat.{mul-le-mul}
 use native.Mathlib.Omega.{arith}
 use borrow.Author.Needs.{needs}
 use borrow.Author.Tests.{not-true, not-false, eq-eqb, lt-ltb, le-ltb}
 use lib.Dec.{eqb}
 use lib.IntN.{pos}
-use lib.ListN.{length, drop}
+use lib.ListN.{length}
 use mir.Syntax.{w64}
 use mir.ValLaws.{toZ-pos, toZ-ofZ}
-use Rattle.words.specs.Bytes.{bytesOf}
-use Rattle.words.specs.Records.{concat}
 use Rattle.words.proofs.Bytes.{bytes-length}
 use Rattle.records.specs.Layout.{tableLength, faceSize, facesWords}
 use Rattle.records.specs.Inner.Inside.{Table}
