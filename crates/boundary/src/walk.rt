@@ -38,7 +38,7 @@ fn next_position(d: usize, s: usize, table: &[u16], p: usize, a: usize) -> usize
     position
 }
 
-// The first place on the boundary at position a of cell p or behind it; cell s if there is none.
+// The first place on the boundary at position a of cell p or behind it; position 0 of cell s if there is none.
 pub fn next_face(d: usize, s: usize, table: &[u16], p: usize, a: usize) -> Place
     requires { ⌜ Table d s (now table) × (p ≤ s) ⌝ }
     ensures { λ r. ⌜ NextFace d s (now (table .entry)) p a (r .cell) (r .position) ⌝ }
@@ -53,5 +53,5 @@ pub fn next_face(d: usize, s: usize, table: &[u16], p: usize, a: usize) -> Place
         position = 0;
         cell += 1;
     }
-    Place { cell, position }
+    Place { cell, position: 0 }
 }

@@ -3,7 +3,7 @@
 --   faceAt d ws p a           face a of cell p
 --   onBoundary d ws p a       there is a face a of cell p, and its wing is empty
 --   facesFrom d s ws p a      the boundary faces from position a of cell p on
---   AtFace d s ws p a         the place is on the boundary, or behind the last cell
+--   AtFace d s ws p a         the place is on the boundary, or position 0 behind the last cell
 --   NextPosition d s ws p a b     b is the first position of cell p on the boundary, from a on, or behind the last
 --   NextFace d s ws p a q b   (q, b) is the first such place at (p, a) or behind it
 use mathlib.Core.Path.{_≡_}
@@ -42,6 +42,7 @@ pub record AtFace (d s : ℕ) (ws : List ℕ) (p a : ℕ) : Type 0 where
   pub cell : p ≤ s
   pub position : p < s → a ≤ d
   pub found : p < s → onBoundary d ws p a ≡ true
+  pub ended : s ≤ p → a ≡ 0
 
 pub record NextPosition (d s : ℕ) (ws : List ℕ) (p a b : ℕ) : Type 0 where
   pub same : facesFrom d s ws p a ≡ facesFrom d s ws p b

@@ -1,10 +1,10 @@
 -- Cells with no face on the boundary from the position on are passed. Assumes nothing.
-use mathlib.Core.Path.{_≡_, refl, _∙_}
+use mathlib.Core.Path.{_≡_, refl, sym, _∙_}
 use Prim.Native.Nat.{_-_, _≤_}
 use native.Mathlib.Omega.{arith}
 use borrow.Author.Needs.{needs}
 use Rattle.boundary.specs.Inner.Walk.{facesFrom}
-use Rattle.boundary.proofs.Walking.{from-next}
+use Rattle.boundary.proofs.Walking.{from-next, from-end}
 use Rattle.boundary.proofs.walk.next_face.Statement.{statement}
 use Rattle.boundary.proofs.walk.next_face.Tie as tie
 
@@ -21,7 +21,8 @@ returns : tie.Need-returns Inv-loop μ-loop
 returns c =
     let next = c .before .next-position .ensures in
     record {
-      place = record { cell = omega arith; position = λ h. omega arith; found = λ h. next .found (omega arith) };
+      place =
+        record { cell = omega arith; position = λ h. omega arith; found = λ h. next .found (omega arith); ended = λ h. absurd (omega arith) };
       same = c .before .before .before .loop .inv .1 ∙ next .same;
     }
 
@@ -38,9 +39,12 @@ loop-again c =
 
 returns-2 : tie.Need-returns-2 Inv-loop μ-loop
 returns-2 c =
+    let turn = c .before in
+    let a = turn .before .before .args in
+    let end = from-end (a .d) (a .s) (a .table .now) (turn .loop .cell) in
     record {
-      place = record { cell = omega arith; position = λ h. absurd (omega arith); found = λ h. absurd (omega arith) };
-      same = c .before .loop .inv .1;
+      place = record { cell = omega arith; position = λ h. absurd (omega arith); found = λ h. absurd (omega arith); ended = λ h. refl };
+      same = turn .loop .inv .1 ∙ end (turn .loop .position) (omega arith) ∙ sym (end 0 (omega arith));
     }
 
 pub next-face-spec : {M : Type 1} → statement M
