@@ -20,6 +20,10 @@ page c = c .print-page .last .1 .0
 cut : (c : tie.After-print-page) → length (take (c .print-page .result) (page c)) ≡ c .print-page .result
 cut c = length-take-le (c .print-page .result) (page c) (c .print-page .ensures .1 .0)
 
+-- by itself, so that a page of another length is refused here whatever print_page's own proof says
+print-page-requires : tie.Need-print-page-requires
+print-page-requires c κs = search needs
+
 returns : tie.Need-returns
 returns c =
     let p = c .before .before in
@@ -47,7 +51,7 @@ key-text-spec =
     tie.close
     (tie.spec
     (λ c. search needs)
-    (λ c κs. search needs)
+    print-page-requires
     returns
     (λ c. search needs)
     slice-aggregate-put-text
