@@ -53,7 +53,7 @@ module _ (b : List ℕ) where
   split : (c p : ℕ) →
       readOutcome (readInput b c p) ≡ outcome (orElse (tests b) (cond (ltb c (cellsLength b) || ltb p (pointCount b)) 15 0)) (headerOf b)
   unfolding readOutcome readRules tests
-  split c p = ap (λ k. outcome k (headerOf b)) (firstRefusal-append readTests _ (readInput b c p) refl)
+  split c p = ap (λ k. outcome k (headerOf b)) (firstRefusal-append readTests (drop (length readTests) readRules) (readInput b c p) refl)
 
   facts : tests b ≡ 0 → Passed b
   unfolding readRules tests

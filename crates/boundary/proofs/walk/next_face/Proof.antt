@@ -22,7 +22,7 @@ returns c =
     let next = c .before .next-position .ensures in
     record {
       place =
-        record { cell = omega arith; position = λ h. omega arith; found = λ h. next .found (omega arith); ended = λ h. absurd (omega arith) };
+          record { cell = omega arith; position = λ h. omega arith; found = λ h. next .found (omega arith); ended = λ h. absurd (omega arith) };
       same = c .before .before .before .loop .inv .1 ∙ next .same;
     }
 
