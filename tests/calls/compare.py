@@ -1,4 +1,4 @@
-"""Compares the calls read, move and list, called from C, with the unrelated reference.
+"""Compares the calls read, move, list and key, called from C, with the unrelated reference.
 
 usage: compare.py DRIVER [SEED]
 
@@ -17,6 +17,7 @@ import tempfile
 TESTS = os.path.dirname(os.path.dirname(os.path.abspath(__file__)))
 sys.path[:0] = [TESTS, os.path.join(TESTS, "reference")]
 import byte_cases  # noqa: E402
+import key_cases  # noqa: E402
 import list_cases  # noqa: E402
 import move_cases  # noqa: E402
 import read_cases  # noqa: E402
@@ -69,7 +70,8 @@ def main():
     for name, cases, more, last, wanted in (
             ("read", read_cases.cases, byte_cases.reads, "behind", {0, 1, 2, 3, 4, 5, 6, 7, 8, 15}),
             ("move", move_cases.cases, byte_cases.moves, "buffer", {0, 2, 3, 4, 5, 12, 13, 15}),
-            ("list", list_cases.cases, byte_cases.lists, "buffer", {0, 2, 3, 4, 14, 15})):
+            ("list", list_cases.cases, byte_cases.lists, "buffer", {0, 2, 3, 4, 14, 15}),
+            ("key", key_cases.cases, tuple, "buffer", {0, 15})):
         compare(name, program, [*cases(random.Random(seed)), *more()], last, wanted, tally)
     return tally.finish()
 

@@ -1,4 +1,4 @@
-/* Shows what read, move and list answer and write, case by case, for a comparison with the reference.
+/* Shows what read, move, list and key answer and write, case by case, for a comparison with the reference.
  *
  * A case on standard input begins with a number that says what it is. All numbers have 64 bits, low byte first; one that
  * a call cannot take, since it has 32 bits, becomes the largest that it can.
@@ -7,6 +7,7 @@
  *   4         a file to read: its bytes, the words and the floats lent; then the file
  *   5         a table to list: d, n, v, s, its words, the points' floats, the bytes lent; then words and points
  *   6, 7, 8   move, read and list by bytes: the call's numbers, the lengths of all buffers in bytes, then the inputs
+ *   9         a file to its key: its bytes, the bytes lent; then the file
  * Every output holds marks before the call. Around all buffers stand guard bytes; a call that touches one, or an input,
  * ends the program with status 1. */
 #include <inttypes.h>
@@ -257,6 +258,19 @@ static void read_bytes(void)
     done(points, 0);
 }
 
+static void key_case(void)
+{
+    uint64_t k[2];
+
+    get_all(k, 2);
+    Buffer file = input(k[0]), text = output(k[1]);
+    print_answer("printed", winged_key(file.bytes, file.n, text.bytes, text.n));
+    printf("buffer ");
+    print_bytes(text);
+    done(file, 1);
+    done(text, 0);
+}
+
 int main(void)
 {
     uint64_t kind;
@@ -272,6 +286,8 @@ int main(void)
             read_bytes();
         else if (kind == 8)
             list_bytes(1);
+        else if (kind == 9)
+            key_case();
         else
             move_case(kind);
     }

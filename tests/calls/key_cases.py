@@ -1,0 +1,35 @@
+"""Cases for the key from C: files, good and damaged and at the limit of their length, with text enough and too little."""
+
+import struct
+
+import solids
+import winged_reference as reference
+from byte_cases import said
+from read_cases import Case
+
+KEY = 9
+LIMIT = 65536  # bytes of the longest file, and of the longest text
+
+
+def case(name, data, room):
+    text = reference.key(data)
+    row = 15 if room < len(text) else 0
+    sent = struct.pack("<3Q", KEY, len(data), room) + data
+    return Case(name, sent, said("printed", row or len(text), None if row else text, room, "buffer "), row)
+
+
+def files(rng):
+    good = solids.random_file(rng, 2)
+    yield from (("no bytes", b""), ("a good file", good))
+    for length in (39, 40, LIMIT - 1, LIMIT, LIMIT + 1, 3 * LIMIT):
+        yield f"{length} bytes", good[:length] + b"\0" * (length - len(good))
+    for number in range(400):
+        data = solids.random_file(rng)
+        yield f"random {number}", solids.damaged(data, rng) if rng.random() < 0.5 else data
+
+
+def cases(rng):
+    for name, data in files(rng):
+        count = len(reference.key(data))
+        for room in {0, count - 1, count, count + 3} | ({LIMIT} if name == "a good file" else set()):
+            yield case(f"{name}, {room} bytes lent", data, room)
