@@ -1,5 +1,5 @@
 -- `winged_key` answers what `key_text` does, as a number. Assumes nothing.
-use mathlib.Core.Path.{_≡_, ap, _∙_}
+use mathlib.Core.Path.{ap, _∙_}
 use native.Mathlib.Omega.{arith}
 use borrow.Author.Needs.{needs}
 use lib.ListN.{length}
@@ -11,16 +11,10 @@ use Rattle.winged.proofs.Counts.{text-within}
 use Rattle.winged.proofs.winged_key.Statement.{statement}
 use Rattle.winged.proofs.winged_key.Tie as tie
 
-key-text-requires : tie.Need-key-text-requires
-key-text-requires c κs = search needs
-
 answered-requires : tie.Need-answered-requires
 answered-requires c κs =
-    let a = c .before .before .before .before .before .before .args in
-    omega (arith, ap countOf (c .before .before .key-text .ensures .0), text-within (a .file .now) (length (a .text .now)))
-
-same-length : tie.Need-same-length
-same-length c = search needs
+    let s : tie.Start = search needs in
+    omega (arith, ap countOf (c .before .before .key-text .ensures .0), text-within (s .args .file .now) (length (s .args .text .now)))
 
 returns : tie.Need-returns
 returns c =
@@ -28,4 +22,4 @@ returns c =
     (toZ-ofZ w64 _ (search needs) ∙ c .answered .ensures ∙ ap hostAnswer (call .ensures .0), call .ensures .1)
 
 pub winged-key-spec : {M : Type 1} → statement M
-winged-key-spec = tie.close (tie.spec key-text-requires answered-requires same-length returns)
+winged-key-spec = tie.close (tie.spec (λ c κs. search needs) answered-requires (λ c. search needs) returns)
