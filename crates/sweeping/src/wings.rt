@@ -98,30 +98,8 @@ fn face_first(
     wide(cell_number(d, s, h, i, wide(w), 0))
 }
 
-// Where the side cells start, for each face of cell p.
-pub fn face_rows(
-    d: usize,
-    v: usize,
-    s: usize,
-    h: usize,
-    table: &[u16],
-    p: usize,
-    rows: &mut [usize; 8],
-)
-    requires ready { ⌜ Ready d v s h (now table) ⌝ }
-    requires at { ⌜ p < s ⌝ }
-    requires long { ⌜ length (now rows) ≡ 8 ⌝ }
-    ensures { λ _. ⌜ Holds (suc d) (faceRow d (solidWing d s (now (table .entry))) p) (now (rows .exit)) ⌝ }
-{
-    let mut a: usize = 0;
-    while a <= d {
-        rows[a] = face_row(d, v, s, h, table, p, a);
-        a += 1;
-    }
-}
-
-// The first cell over the cell across each face of cell p.
-pub fn face_firsts(
+// What is across each face of cell p at level i: the first cell over it, and where its side cells start.
+pub fn face_sides(
     d: usize,
     v: usize,
     s: usize,
@@ -130,15 +108,18 @@ pub fn face_firsts(
     i: usize,
     p: usize,
     firsts: &mut [usize; 8],
+    rows: &mut [usize; 8],
 )
     requires ready { ⌜ Ready d v s h (now table) ⌝ }
     requires at { ⌜ (i < h) × (p < s) ⌝ }
-    requires long { ⌜ length (now firsts) ≡ 8 ⌝ }
-    ensures { λ _. ⌜ Holds (suc d) (faceFirst d s (solidWing d s (now (table .entry))) i p) (now (firsts .exit)) ⌝ }
+    requires long { ⌜ (length (now firsts) ≡ 8) × (length (now rows) ≡ 8) ⌝ }
+    ensures firsts { λ _. ⌜ Holds (suc d) (faceFirst d s (solidWing d s (now (table .entry))) i p) (now (firsts .exit)) ⌝ }
+    ensures rows { λ _. ⌜ Holds (suc d) (faceRow d (solidWing d s (now (table .entry))) p) (now (rows .exit)) ⌝ }
 {
     let mut a: usize = 0;
     while a <= d {
         firsts[a] = face_first(d, v, s, h, table, i, p, a);
+        rows[a] = face_row(d, v, s, h, table, p, a);
         a += 1;
     }
 }

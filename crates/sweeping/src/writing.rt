@@ -6,8 +6,7 @@ ghost use Rattle.words.specs.Inner.Placed.{placed};
 ghost use Rattle.sweeping.specs.Inner.Across.{Holds, sideCell};
 ghost use Rattle.sweeping.specs.Inner.Written.{prismWords, levelWords, allWords, Ready};
 use crate::record::write_record;
-use crate::wings::face_firsts;
-use crate::wings::face_rows;
+use crate::wings::face_sides;
 use crate::wings::side_cells;
 
 // The records over cell p at level i.
@@ -32,8 +31,7 @@ fn write_prism(
 {
     let mut firsts = [0usize; 8];
     let mut rows = [0usize; 8];
-    face_firsts(d, v, s, h, table, i, p, &mut firsts);
-    face_rows(d, v, s, h, table, p, &mut rows);
+    face_sides(d, v, s, h, table, i, p, &mut firsts, &mut rows);
     let mut next = at;
     let mut k: usize = 0;
     while k <= d {

@@ -35,8 +35,7 @@ loop-holds c = (omega arith, omega arith, omega arith, sym (placed-none _ _))
 write-record-requires : tie.Need-write-record-requires Inv-loop μ-loop
 write-record-requires c κs =
     let start : tie.Start Inv-loop μ-loop = search needs in
-    let firsts : tie.After-face-firsts Inv-loop μ-loop = search needs in
-    let rows : tie.After-face-rows Inv-loop μ-loop = search needs in
+    let sides : tie.After-face-sides Inv-loop μ-loop = search needs in
     let at : tie.At-loop Inv-loop μ-loop = search needs in
     let turn : tie.In-loop Inv-loop μ-loop = search needs in
     let a = start .args in (
@@ -44,7 +43,7 @@ write-record-requires c κs =
       (
         (start .pre .1 .1 .0 .0, start .pre .1 .1 .0 .1, turn .loop-test .taken),
         (
-          record { first = firsts .face-firsts .ensures; row = rows .face-rows .ensures; cell = start .pre .1 .0 },
+          record { first = sides .face-sides .ensures .0; row = sides .face-sides .ensures .1; cell = start .pre .1 .0 },
           omega (
             arith,
             room start,
@@ -85,7 +84,6 @@ write-prism-spec =
     (tie.spec
     Inv-loop
     μ-loop
-    (λ c κs. search needs)
     (λ c κs. search needs)
     loop-holds
     write-record-requires
