@@ -29,7 +29,7 @@ fn lift(v: usize, h: usize, i: usize, x: usize) -> u16
     (x + i * v) as u16
 }
 
-// Vertices of cell p at level i, n of them from a on.
+// Vertices of cell p at level i, n of them from a on. The loop's bound is a number, so that the compiler writes it out.
 fn write_vertices(
     d: usize,
     v: usize,
@@ -49,7 +49,10 @@ fn write_vertices(
     ensures { λ _. ⌜ now (out .exit) ≡ placed at (tabulate n (liftedFrom d v s (now (table .entry)) i p a)) (now (out .entry)) ⌝ }
 {
     let mut j: usize = 0;
-    while j < n {
+    while j < 8 {
+        if n <= j {
+            return;
+        }
         out[at + j] = lift(v, h, i, wide(vertex(d, s, table, p, a + j)));
         j += 1;
     }
@@ -88,7 +91,7 @@ fn side_word(a: usize, l: usize, firsts: &[usize; 8], rows: &[usize; 8], cells: 
     (firsts[a] + cells[row + l]) as u16
 }
 
-// Sides at place l, over count faces from a on.
+// Sides at place l, over count faces from a on; written out as vertices are.
 fn write_sides(
     d: usize,
     a: usize,
@@ -107,7 +110,10 @@ fn write_sides(
         ≡ placed at (tabulate count (λ j. sideWord (now (firsts .entry)) (now (rows .entry)) (now (cells .entry)) (a + j) l)) (now (out .entry)) ⌝ }
 {
     let mut j: usize = 0;
-    while j < count {
+    while j < 8 {
+        if count <= j {
+            return;
+        }
         out[at + j] = side_word(a + j, l, firsts, rows, cells);
         j += 1;
     }
