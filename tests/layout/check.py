@@ -1,6 +1,5 @@
 """Checks that every file of Rattle and antt is in the formatter's layout, and that neither it nor a line of it is too long.
 
-One file is not: the table of side pairs, which is written a dimension to a paragraph.
 Last line: 'N passed, M failed'.
 """
 
@@ -13,7 +12,6 @@ ROOT = pathlib.Path(__file__).resolve().parents[2]
 sys.path.insert(0, str(ROOT / "tests"))
 from tally import Tally  # noqa: E402
 
-BY_HAND = {"crates/sweeping/src/sides.rt"}
 MOST_LINES = 300
 LONGEST_LINE = 150
 
@@ -24,10 +22,9 @@ def main():
     said = subprocess.run(["rt", "fmt", "--check"], cwd=ROOT, text=True, stdout=subprocess.PIPE, stderr=subprocess.STDOUT, check=False)
     tally.check(f"rt fmt --check: exit status {said.returncode}", said.returncode in (0, 1))
     unlaid = {str(pathlib.Path(p).relative_to(ROOT)) for p in re.findall(r"^(\S+) is not in the layout$", said.stdout, re.M)}
-    tally.check("the files laid out by hand are those named here", BY_HAND <= unlaid)
     for file in files:
         name = str(file.relative_to(ROOT))
-        tally.check(f"{name}: not in the layout of rt fmt", name not in unlaid - BY_HAND)
+        tally.check(f"{name}: not in the layout of rt fmt", name not in unlaid)
         lines = file.read_text().splitlines()
         tally.check(f"{name}: over {MOST_LINES} lines", len(lines) <= MOST_LINES)
         tally.check(f"{name}: a line of over {LONGEST_LINE} characters", all(len(line) <= LONGEST_LINE for line in lines))

@@ -301,7 +301,7 @@ def check_printing(rng):
         check(f"print {x!r}", ref.coordinate(x), "0.000" if wanted == "-0.000" else wanted)
 
 def check_side_pairs():
-    """112 pairs, in bounds, none twice in a dimension."""
+    """112 pairs, in bounds, none twice in a dimension; those of the closed rule, which the library follows."""
     total = 0
     for d in range(1, 7):
         pairs = [pair for a in range(d + 1) for pair in ref.side_pairs(d, a)]
@@ -309,6 +309,10 @@ def check_side_pairs():
         places = {(k, j) for k in range(d + 1) for j in range(1, d + 1)}
         check(f"side pairs {d}", set(pairs), places)
     check("side pairs in all", total, 112)
+    for d in range(1, 31):
+        for a in range(d + 1):
+            closed = [(l, a - l) if l < a else (l + 1, d + a - l) for l in range(d)]
+            check(f"the closed rule {d} {a}", closed, ref.side_pairs(d, a))
 
 # Random solids: wings by definition, and the third term.
 def third_term_lists(cells, v, h):

@@ -6,15 +6,28 @@ use Prim.Native.Nat.{ℕ}
 use lib.ListN.{getD}
 use Rattle.simplex.specs.Cell.{cell}
 use Rattle.prism.specs.Cells.{prism}
-use Rattle.prism.specs.Sides.{side, sidePair}
+use Rattle.prism.specs.Sides.{firstSide, nextSide, side, sidePair}
 use Rattle.prism.specs.Wings.{sweptWing}
 
--- a triangle's first side over face 0, and its second over face 1
+-- a triangle's first side over face 0, its first and second over face 1
 pub first-over-face-0 : sidePair 2 0 0 ≡ side 1 2
 first-over-face-0 = refl
 
+pub first-over-face-1 : sidePair 2 1 0 ≡ side 0 1
+first-over-face-1 = refl
+
 pub second-over-face-1 : sidePair 2 1 1 ≡ side 2 2
 second-over-face-1 = refl
+
+-- the same three by the step rule
+pub starts-over-face-0 : firstSide 2 0 ≡ side 1 2
+starts-over-face-0 = refl
+
+pub starts-over-face-1 : firstSide 2 1 ≡ side 0 1
+starts-over-face-1 = refl
+
+pub steps-over-face-1 : nextSide 2 (side 0 1) ≡ side 2 2
+steps-over-face-1 = refl
 
 -- the two triangles over a segment
 pub over-a-segment : prism 2 0 (cell true (0 ∷ 1 ∷ [])) ≡ cell true (0 ∷ 1 ∷ 2 ∷ []) ∷ cell false (1 ∷ 2 ∷ 3 ∷ []) ∷ []

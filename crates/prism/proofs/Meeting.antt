@@ -21,6 +21,7 @@ use Rattle.solids.proofs.Neighbours.{faceIn-total, has-face, neighbour-empty, n
 use Rattle.solids.proofs.Neighbours.{total-faceIn}
 use Rattle.solids.proofs.Solid.{Solid, all-at, rowAt}
 use Rattle.prism.specs.Cells.{sweepOf}
+use Rattle.prism.specs.Sides.{sideCell, sidePosition}
 use Rattle.prism.proofs.Decode.{highs-cell, level-of, levelIn, lowers, lows-cell, uppers}
 use Rattle.prism.proofs.FaceBounds.{baseIn, lowerIn, upperIn}
 use Rattle.prism.proofs.FaceKinds.{Kind, flatCount, innerCount, isFlat, isInner, isSide, kindOf, on-any, on-bottom, on-top, sideCount}
@@ -28,8 +29,7 @@ use Rattle.prism.proofs.FaceKinds.{swept-meet}
 use Rattle.prism.proofs.Level.{raised}
 use Rattle.prism.proofs.PrismCounts.{doubled, rest}
 use Rattle.prism.proofs.SweptRows.{below-drop, below-face, below-take, between, drop-non, first-face, last-face, len-cell}
-use Rattle.prism.proofs.SweptRows.{len-sweep, mid-bottom, mid-top, num-lt, numberOf, pair-face, pair-lt, prismRow, row-num, sideCell}
-use Rattle.prism.proofs.SweptRows.{sidePosition}
+use Rattle.prism.proofs.SweptRows.{len-sweep, mid-bottom, mid-top, num-lt, numberOf, pair-face, pair-lt, prismRow, row-num}
 
 -- the row of a cell tells itself
 cell-lev : (nv i : ℕ) (l u : Row) → Below nv l → Filled l → levelIn nv (raised (i * nv) l ++ raised (suc i * nv) u) ≡ i

@@ -19,6 +19,7 @@ use Rattle.simplex.proofs.Without.{drop-face, drop-face-ge, take-face-ge, take-
 use Rattle.solids.proofs.Solid.{rowAt}
 use Rattle.solids.proofs.Tables.{cellAt}
 use Rattle.prism.specs.Cells.{level, prism, prismCell, sweepOf}
+use Rattle.prism.specs.Sides.{sideCell, sidePosition}
 use Rattle.prism.proofs.Level.{raised}
 
 -- cell k over a row
@@ -32,7 +33,7 @@ side-low lo hi k j v p h =
     ∙ ap₂ {C = Row} (λ l r. l ++ r) (without-map (λ n. n + lo) j (drop k v) ∙ ap (raised lo) (drop-face k j v))
     (ap (raised hi) (sym (take-face-lt (k + j) (suc k) v (omega arith))))
 
--- an upper vertex dropped: position d - k + a of cell k + 1 is cell k over face a
+-- an upper vertex dropped: position d + a - k of cell k + 1 is cell k over face a
 pub side-high : (lo hi k a j : ℕ) (v : Row) → a ≤ k → suc k < length v → j + suc k ≡ length v + a →
     without j (prismRow lo hi (suc k) v) ≡ prismRow lo hi k (without a v)
 side-high lo hi k a j v h l e =
@@ -86,27 +87,21 @@ drop-non k [] h = absurd (not-suc-le-zero h)
 drop-non zero (x ∷ v) h = tt
 drop-non (suc k) (x ∷ v) h = drop-non k v (le-of-suc-le-suc h)
 
--- the l-th side pair of face a, l from 0: cell and position
-abbrev pub sideCell : ℕ → ℕ → ℕ
-sideCell a l = cond (ltb l a) l (suc l)
-
-abbrev pub sidePosition : ℕ → ℕ → ℕ → ℕ
-sidePosition d a l = cond (ltb l a) (a - l) (d - l + a)
-
+-- the side at place l over face a is the swept face at place l
 pub pair-face : (lo hi d a l : ℕ) (v : Row) → length v ≡ suc d → a ≤ d → l < d →
     without (sidePosition d a l) (prismRow lo hi (sideCell a l) v) ≡ prismRow lo hi l (without a v)
 pair-face lo hi d a l v e ha hl = go (ltb l a) refl
   where
-    go : (t : Bool) → ltb l a ≡ t → without (cond t (a - l) (d - l + a)) (prismRow lo hi (cond t l (suc l)) v) ≡ prismRow lo hi l (without a v)
+    go : (t : Bool) → ltb l a ≡ t → without (cond t (a - l) (d + a - l)) (prismRow lo hi (cond t l (suc l)) v) ≡ prismRow lo hi l (without a v)
     go true z =
         let y : l < a = ltb-true l a z in
         side-low lo hi l (a - l) v (omega arith) (omega arith) ∙ ap (λ b. prismRow lo hi l (without b v)) (omega arith)
-    go false z = let y : a ≤ l = ltb-false l a z in side-high lo hi l a (d - l + a) v y (omega arith) (omega arith)
+    go false z = let y : a ≤ l = ltb-false l a z in side-high lo hi l a (d + a - l) v y (omega arith) (omega arith)
 
 pub pair-lt : (d a l : ℕ) → a ≤ d → l < d → (sideCell a l < suc d) × (sidePosition d a l < suc (suc d))
 pair-lt d a l ha hl = go (ltb l a) refl
   where
-    go : (t : Bool) → ltb l a ≡ t → (cond t l (suc l) < suc d) × (cond t (a - l) (d - l + a) < suc (suc d))
+    go : (t : Bool) → ltb l a ≡ t → (cond t l (suc l) < suc d) × (cond t (a - l) (d + a - l) < suc (suc d))
     go true z = omega arith
     go false z = omega (arith, ltb-false l a z)
 

@@ -17,11 +17,9 @@ use Rattle.solids.specs.Wings.{neighbour, neighbourFrom}
 use Rattle.solids.proofs.Solid.{Solid, rowAt}
 use Rattle.solids.proofs.Symmetric.{wings-symmetric}
 use Rattle.prism.specs.Cells.{sweepOf}
-use Rattle.prism.specs.Sides.{Side, sideFace, sidePair, sidePlace}
+use Rattle.prism.specs.Sides.{sideCell, sideFace, sidePlace, sidePosition}
 use Rattle.prism.specs.Wings.{backFrom, backTo, cellNumber, sweptWing, wingAside}
 use Rattle.prism.proofs.Meeting.{bottom-none, inner-next, inner-prev, level-next, level-prev, side-meet, side-none, top-none}
-use Rattle.prism.proofs.SweptRows.{sideCell, sidePosition}
-use Rattle.prism.proofs.SideLaws.{side-closed}
 
 pub back-is : (W : ℕ → ℕ → ℕ) (p q n b c : ℕ) → W q c ≡ p → b ≤ c → c < b + n → ((m : ℕ) → m < c → W q m ≡ p → ⊥) → backFrom W p q b n ≡ c
 back-is W p q zero b c e l h u = absurd (omega arith)
@@ -52,13 +50,13 @@ module _ (nv d h : ℕ) (cs : List Cell) (s : Solid nv cs) (ln : All (Long (suc 
   side-is i p a l hi hp ha hl = go (eqb (W p a) 65535) refl
     where
       go : (t : Bool) → eqb (W p a) 65535 ≡ t →
-          tw i p (sideCell a l) (sidePosition d a l) ≡ cond t 65535 (nu i (W p a) (sidePair d (backTo W p (W p a) d) l .cell))
+          tw i p (sideCell a l) (sidePosition d a l) ≡ cond t 65535 (nu i (W p a) (sideCell (backTo W p (W p a) d) l))
       go true e = side-none nv d h cs s ln i p a l hi hp ha hl small (eqb-true (W p a) 65535 e)
       go false e =
           let r = wings-symmetric nv d cs s ln small p a hp ha (eqb-false (W p a) 65535 e) in
           let b : backTo W p (W p a) d ≡ r .0 = back-is W p (W p a) (suc d) 0 (r .0) (r .5) (omega arith) (omega (arith, r .3)) (r .6) in
           side-meet nv d h cs s ln i p (W p a) a (r .0) l hi hp (r .1) (r .2) ha (r .3) hl (r .4)
-          ∙ ap (nu i (W p a)) (sym (ap (λ b. sidePair d b l .cell) b ∙ ap (λ (x : Side). x .cell) (side-closed d (r .0) l (r .3) hl)))
+          ∙ ap (nu i (W p a)) (ap (λ b. sideCell b l) (sym b))
 
   pub wings-are : (i p k j : ℕ) → i < h → p < S → k ≤ d → j ≤ suc d → tw i p k j ≡ sweptWing d S h W i p k j
   wings-are i p k j hi hp hk hj = go0 (eqb j 0) refl

@@ -3,7 +3,6 @@ pub mod AcrossLaws
 pub mod Bounds
 pub mod Pieces
 pub mod RecordLaws
-pub mod SideTable
 pub mod SoundTable
 pub mod SweptWords
 pub mod TableWords

@@ -1,15 +1,12 @@
--- Steps of the search for the position back, and the cell of a side pair.
---   back-here, back-next, back-end    the search at position b: found there, or go on, or past the last
---   pair-cell                         the cell of a side pair that is in the table
+-- Steps of the search for the position back.
+--   back-start                        it starts at position 0
+--   back-here, back-next, back-end    at position b: found there, or go on, or past the last
 -- Assumes nothing.
 use mathlib.Core.Path.{_≡_, refl, sym, ap, ap₂, _∙_}
 use Prim.Native.Nat.{ℕ, suc, _+_, _-_, _≤_, _<_}
 use native.Mathlib.Numerals.{add-one}
 use native.Mathlib.Omega.{arith}
-use borrow.Author.Tests.{eq-eqb, ne-eqb, le-leb, lt-ltb}
-use Rattle.rules.specs.Limits.{maxSource}
-use Rattle.prism.specs.Sides.{sidePair}
-use Rattle.sweeping.specs.SideTable.{sidePairOf}
+use borrow.Author.Tests.{eq-eqb, ne-eqb}
 use Rattle.prism.specs.Wings.{backFrom, backTo}
 
 module _ (wing : ℕ → ℕ → ℕ) (p q d b : ℕ) where
@@ -29,7 +26,3 @@ module _ (wing : ℕ → ℕ → ℕ) (p q d b : ℕ) where
 
 pub back-start : (wing : ℕ → ℕ → ℕ) (p q d : ℕ) → backTo wing p q d ≡ backFrom wing p q 0 (d + 1 - 0)
 back-start wing p q d = let all : suc d ≡ d + 1 - 0 = omega arith in ap (backFrom wing p q 0) all
-
-pub pair-cell : (d b l : ℕ) → d ≤ maxSource → b ≤ d → l < d → sidePairOf d b l .cell ≡ sidePair d b l .cell
-unfolding sidePairOf
-pair-cell d b l hd hb hl = rw (le-leb d maxSource hd, le-leb b d hb, lt-ltb l d hl) refl

@@ -1,3 +1,3 @@
--- The words of a swept table, and the constant table of side pairs.
+-- The words of a swept table, and the answer of side_pair.
 pub mod Inner
-pub mod SideTable
+pub mod SidePairs

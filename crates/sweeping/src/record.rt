@@ -1,8 +1,8 @@
 // The record of cell k over cell p at level i, written from place `at` of the lent buffer on.
 ghost use mathlib.Core.Path.{_≡_};
 ghost use Prim.Native.Nat.{suc, _+_, _-_, _<_, _≤_};
-ghost use lib.ListN.{length, take, getD};
-ghost use Rattle.rules.specs.Limits.{maxCells, maxVertices, sweptVertices};
+ghost use lib.ListN.{length, take};
+ghost use Rattle.rules.specs.Limits.{maxCells, maxSource, maxVertices, sweptVertices};
 ghost use Rattle.words.specs.Records.{tabulate};
 ghost use Rattle.words.specs.Inner.Placed.{placed};
 ghost use Rattle.records.specs.Layout.{listSize, recordSize};
@@ -14,8 +14,10 @@ ghost use Rattle.sweeping.specs.Inner.Written.{recordWords, Ready};
 use crate::reading::sign;
 use crate::reading::vertex;
 use crate::reading::wide;
+use crate::sides::pair_at;
 use crate::wings::wing_above;
 use crate::wings::wing_below;
+use records::sizes::EMPTY;
 use records::sizes::VERTICES;
 use records::sizes::first_wing;
 use records::sizes::record_size;
@@ -82,13 +84,16 @@ fn write_cell(
     write_vertices(d, v, s, h, table, i + 1, p, 0, k + 1, upper, out);
 }
 
-// The side at place l over face a.
-fn side_word(a: usize, l: usize, firsts: &[usize; 8], rows: &[usize; 8], cells: &[usize; 64]) -> u16
-    requires { ⌜ (a < 8) × (getD (now rows) a 0 + l < 64) × (sideWord (now firsts) (now rows) (now cells) a l ≤ 65535) ⌝ }
-    ensures { λ r. ⌜ r ≡ sideWord (now (firsts .entry)) (now (rows .entry)) (now (cells .entry)) a l ⌝ }
+// The side at place l over face a; none where nothing is across.
+fn side_word(d: usize, a: usize, l: usize, firsts: &[u16; 8], backs: &[usize; 8]) -> u16
+    requires { ⌜ (d ≤ maxSource) × (a ≤ d) × (l < d) × SidesFit d (now firsts) (now backs) ⌝ }
+    ensures { λ r. ⌜ r ≡ sideWord (now (firsts .entry)) (now (backs .entry)) a l ⌝ }
 {
-    let row = rows[a];
-    (firsts[a] + cells[row + l]) as u16
+    let first = firsts[a];
+    if first == EMPTY {
+        return EMPTY;
+    }
+    (wide(first) + pair_at(d, backs[a], l).cell) as u16
 }
 
 // Sides at place l, over count faces from a on; written out as vertices are.
@@ -97,24 +102,23 @@ fn write_sides(
     a: usize,
     count: usize,
     l: usize,
-    firsts: &[usize; 8],
-    rows: &[usize; 8],
-    cells: &[usize; 64],
+    firsts: &[u16; 8],
+    backs: &[usize; 8],
     at: usize,
     out: &mut [u16],
 )
-    requires fit { ⌜ SidesFit d (now firsts) (now rows) (now cells) ⌝ }
+    requires fit { ⌜ SidesFit d (now firsts) (now backs) ⌝ }
     requires over { ⌜ (d ≤ 6) × (a + count ≤ d + 1) × (0 < count → l < d) ⌝ }
     requires room { ⌜ at + count ≤ length (now out) ⌝ }
     ensures { λ _. ⌜ now (out .exit)
-        ≡ placed at (tabulate count (λ j. sideWord (now (firsts .entry)) (now (rows .entry)) (now (cells .entry)) (a + j) l)) (now (out .entry)) ⌝ }
+        ≡ placed at (tabulate count (λ j. sideWord (now (firsts .entry)) (now (backs .entry)) (a + j) l)) (now (out .entry)) ⌝ }
 {
     let mut j: usize = 0;
     while j < 8 {
         if count <= j {
             return;
         }
-        out[at + j] = side_word(a + j, l, firsts, rows, cells);
+        out[at + j] = side_word(d, a + j, l, firsts, backs);
         j += 1;
     }
 }
@@ -137,31 +141,20 @@ fn write_wings(
     i: usize,
     p: usize,
     k: usize,
-    firsts: &[usize; 8],
-    rows: &[usize; 8],
-    cells: &[usize; 64],
+    firsts: &[u16; 8],
+    backs: &[usize; 8],
     at: usize,
     out: &mut [u16],
 )
-    requires fit { ⌜ SidesFit d (now firsts) (now rows) (now cells) ⌝ }
+    requires fit { ⌜ SidesFit d (now firsts) (now backs) ⌝ }
     requires at { ⌜ (d ≤ 6) × (sweptCells d s h ≤ maxCells) × (i < h) × (p < s) × (k ≤ d) ⌝ }
     requires room { ⌜ at + (d + 2) ≤ length (now out) ⌝ }
     ensures { λ _. ⌜ now (out .exit)
-        ≡ placed at (tabulate (d + 2) (wingWord d s h (now (firsts .entry)) (now (rows .entry)) (now (cells .entry)) i p k)) (now (out .entry)) ⌝ }
+        ≡ placed at (tabulate (d + 2) (wingWord d s h (now (firsts .entry)) (now (backs .entry)) i p k)) (now (out .entry)) ⌝ }
 {
     out[at] = wing_above(d, s, h, i, p, k);
-    write_sides(d, k + 1, d - k, k, firsts, rows, cells, at + 1, out);
-    write_sides(
-        d,
-        0,
-        k,
-        less_one(k),
-        firsts,
-        rows,
-        cells,
-        at + d + 1 - k,
-        out,
-    );
+    write_sides(d, k + 1, d - k, k, firsts, backs, at + 1, out);
+    write_sides(d, 0, k, less_one(k), firsts, backs, at + d + 1 - k, out);
     out[at + d + 1] = wing_below(d, s, h, i, p, k);
 }
 
@@ -175,21 +168,20 @@ pub fn write_record(
     i: usize,
     p: usize,
     k: usize,
-    firsts: &[usize; 8],
-    rows: &[usize; 8],
-    cells: &[usize; 64],
+    firsts: &[u16; 8],
+    backs: &[usize; 8],
     at: usize,
     out: &mut [u16],
 ) -> usize
     requires ready { ⌜ Ready d v s h (now table) ⌝ }
     requires at { ⌜ (i < h) × (p < s) × (k ≤ d) ⌝ }
-    requires across { ⌜ Across d s (now table) i p (now firsts) (now rows) (now cells) ⌝ }
+    requires across { ⌜ Across d s (now table) i p (now firsts) (now backs) ⌝ }
     requires room { ⌜ at + length (recordWords d v s h (now table) i p k) ≤ length (now out) ⌝ }
     ensures place { λ r. ⌜ r ≡ at + length (recordWords d v s h (now (table .entry)) i p k) ⌝ }
     ensures words { λ r. ⌜ now (out .exit) ≡ placed at (recordWords d v s h (now (table .entry)) i p k) (now (out .entry)) ⌝ }
 {
     write_cell(d, v, s, h, table, i, p, k, at, out);
     let wings = at + first_wing(d + 1);
-    write_wings(d, s, h, i, p, k, firsts, rows, cells, wings, out);
+    write_wings(d, s, h, i, p, k, firsts, backs, wings, out);
     at + record_size(d + 1)
 }

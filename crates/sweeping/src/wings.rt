@@ -5,12 +5,11 @@ ghost use lib.ListN.{length};
 ghost use Rattle.records.specs.Inner.Inside.{Inside};
 ghost use Rattle.rules.specs.Limits.{maxCells};
 ghost use Rattle.prism.specs.Swept.{sweptCells};
-ghost use Rattle.sweeping.specs.Inner.Across.{Holds, faceRow, faceFirst, sideCell};
+ghost use Rattle.sweeping.specs.Inner.Across.{Holds, faceFirst, faceBack};
 ghost use Rattle.prism.specs.Wings.{cellNumber, backTo, wingAbove, wingBelow};
 ghost use Rattle.sweeping.specs.Inner.Written.{solidWing, Ready};
 use crate::reading::wide;
 use crate::reading::wing;
-use crate::sides::side_pair;
 use records::sizes::EMPTY;
 
 fn cell_number(d: usize, s: usize, h: usize, i: usize, p: usize, k: usize) -> u16
@@ -63,21 +62,14 @@ fn back(d: usize, s: usize, table: &[u16], p: usize, q: usize) -> usize
     b
 }
 
-// Where the side cells of the face across face a start; 56 if the wing is empty.
-fn face_row(d: usize, v: usize, s: usize, h: usize, table: &[u16], p: usize, a: usize) -> usize
-    requires ready { ⌜ Ready d v s h (now table) ⌝ }
-    requires at { ⌜ (p < s) × (a ≤ d) ⌝ }
-    ensures { λ r. ⌜ r ≡ faceRow d (solidWing d s (now (table .entry))) p a ⌝ }
-{
-    let w = wing(d, s, table, p, a);
-    if w == EMPTY {
-        return 56;
-    }
-    back(d, s, table, p, wide(w)) * 8
+// What is across a face of a cell: the first cell over it at some level, and its position at the face. Nothing: EMPTY, and 0.
+pub struct Beyond {
+    pub first: u16,
+    pub back: usize,
 }
 
-// The first cell at level i over the cell across face a; 0 if the wing is empty.
-fn face_first(
+// What is across face a of cell p, at level i.
+fn across_face(
     d: usize,
     v: usize,
     s: usize,
@@ -86,19 +78,26 @@ fn face_first(
     i: usize,
     p: usize,
     a: usize,
-) -> usize
+) -> Beyond
     requires ready { ⌜ Ready d v s h (now table) ⌝ }
     requires at { ⌜ (i < h) × (p < s) × (a ≤ d) ⌝ }
-    ensures { λ r. ⌜ r ≡ faceFirst d s (solidWing d s (now (table .entry))) i p a ⌝ }
+    ensures first { λ r. ⌜ r .first ≡ faceFirst d s (solidWing d s (now (table .entry))) i p a ⌝ }
+    ensures back { λ r. ⌜ r .back ≡ faceBack d (solidWing d s (now (table .entry))) p a ⌝ }
 {
     let w = wing(d, s, table, p, a);
     if w == EMPTY {
-        return 0;
+        return Beyond {
+            first: EMPTY,
+            back: 0,
+        };
     }
-    wide(cell_number(d, s, h, i, wide(w), 0))
+    let q = wide(w);
+    let first = cell_number(d, s, h, i, q, 0);
+    let back = back(d, s, table, p, q);
+    Beyond { first, back }
 }
 
-// What is across each face of cell p at level i: the first cell over it, and where its side cells start.
+// The same of each face of cell p.
 pub fn face_sides(
     d: usize,
     v: usize,
@@ -107,42 +106,20 @@ pub fn face_sides(
     table: &[u16],
     i: usize,
     p: usize,
-    firsts: &mut [usize; 8],
-    rows: &mut [usize; 8],
+    firsts: &mut [u16; 8],
+    backs: &mut [usize; 8],
 )
     requires ready { ⌜ Ready d v s h (now table) ⌝ }
     requires at { ⌜ (i < h) × (p < s) ⌝ }
-    requires long { ⌜ (length (now firsts) ≡ 8) × (length (now rows) ≡ 8) ⌝ }
+    requires long { ⌜ (length (now firsts) ≡ 8) × (length (now backs) ≡ 8) ⌝ }
     ensures firsts { λ _. ⌜ Holds (suc d) (faceFirst d s (solidWing d s (now (table .entry))) i p) (now (firsts .exit)) ⌝ }
-    ensures rows { λ _. ⌜ Holds (suc d) (faceRow d (solidWing d s (now (table .entry))) p) (now (rows .exit)) ⌝ }
+    ensures backs { λ _. ⌜ Holds (suc d) (faceBack d (solidWing d s (now (table .entry))) p) (now (backs .exit)) ⌝ }
 {
     let mut a: usize = 0;
     while a <= d {
-        firsts[a] = face_first(d, v, s, h, table, i, p, a);
-        rows[a] = face_row(d, v, s, h, table, p, a);
+        let x = across_face(d, v, s, h, table, i, p, a);
+        firsts[a] = x.first;
+        backs[a] = x.back;
         a += 1;
     }
-}
-
-// Side cell n: the cell of the pair at place n % 8 over face n / 8; from 56 on, none.
-fn side_cell(d: usize, n: usize) -> usize
-    ensures { λ r. ⌜ r ≡ sideCell d n ⌝ }
-{
-    if 56 <= n {
-        return wide(EMPTY);
-    }
-    side_pair(d, n / 8, n % 8).cell
-}
-
-// The 64 side cells.
-pub fn side_cells(d: usize) -> [usize; 64]
-    ensures { λ r. ⌜ Holds 64 (sideCell d) r ⌝ }
-{
-    let mut cells = [0usize; 64];
-    let mut n: usize = 0;
-    while n < 64 {
-        cells[n] = side_cell(d, n);
-        n += 1;
-    }
-    cells
 }

@@ -3,7 +3,6 @@ use lib.Count.{trailingZeros}
 use lib.Ieee.{eq}
 use Rattle.solids.proofs.Computing.{computing as solids-computing}
 use Rattle.wing.specs.Wing.{wingRules, wingOutcome, wingBuffer}
-use Rattle.prism.specs.Sides.{allSides}
 use Rattle.sweep.specs.Sweep.{sweepRules, sweptWords, sweepOutcome, sweepBuffer}
 use Rattle.boundary.specs.Faces.{boundaryCells, facesRules, facesOutcome, facesBuffer}
 use Rattle.points.proofs.Computing.{computing as points-computing}
@@ -19,7 +18,7 @@ use Rattle.winged.specs.Host.{hostFacesBuffer}
 use Rattle.page.specs.Key.{keyOutcome, printed}
 
 unfoldable pub computing : Unit {0}
-unfolding eq solids-computing points-computing wingRules wingOutcome wingBuffer allSides sweepRules sweptWords sweepOutcome sweepBuffer boundaryCells
+unfolding eq solids-computing points-computing wingRules wingOutcome wingBuffer sweepRules sweptWords sweepOutcome sweepBuffer boundaryCells
     facesRules facesOutcome facesBuffer movedLevels moveRules moveOutcome moveBuffer filePoints fileCells readRules headerOf fileWords readOutcome
     readCells readPoints digits thousandths coordinate firstLine vertexLine faceLine keyText listText listRules listOutcome listBuffer keyOutcome
     printed hostWingOutcome hostWing hostWingBuffer hostSweepOutcome hostSweep hostSweepBuffer hostFacesOutcome hostFaces hostFacesBuffer

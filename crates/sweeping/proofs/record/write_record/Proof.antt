@@ -5,14 +5,13 @@ use Prim.Native.Nat.{ℕ, suc, _+_}
 use native.Mathlib.Omega.{arith}
 use borrow.Author.Needs.{needs}
 use lib.ListN.{length, take, length-take}
-use lib.Seq.{take-length}
 use Rattle.words.specs.Records.{tabulate}
 use Rattle.words.specs.Inner.Placed.{placed}
 use Rattle.words.proofs.Placed.{placed-length}
 use Rattle.records.specs.Layout.{listSize, recordSize, wingPlace}
 use Rattle.sweeping.specs.Inner.Written.{recordWords}
 use Rattle.sweeping.specs.Inner.Across.{wingWord}
-use Rattle.sweeping.proofs.Pieces.{placed-piece}
+use Rattle.sweeping.proofs.Pieces.{placed-piece, placed-whole}
 use Rattle.sweeping.proofs.RecordLaws.{record-long, word-wing}
 use Rattle.sweeping.proofs.AcrossLaws.{sides-fit, wing-word}
 use Rattle.sweeping.proofs.record.write_record.Statement.{statement}
@@ -34,17 +33,16 @@ kept c n E e =
 whole : (c : tie.Start) (w : ℕ) (old E : List ℕ) → let a = c .args in
     w ≡ wingPlace (a .d + 1) 0 → old ≡ placed (a .at) (take (listSize (suc (a .d))) (words c)) (a .out .now) →
     E ≡ placed (a .at + w)
-    (tabulate (a .d + 2) (wingWord (a .d) (a .s) (a .h) (a .firsts .now) (a .rows .now) (a .cells .now) (a .i) (a .p) (a .k))) old →
+    (tabulate (a .d + 2) (wingWord (a .d) (a .s) (a .h) (a .firsts .now) (a .backs .now) (a .i) (a .p) (a .k))) old →
     E ≡ placed (a .at) (words c) (a .out .now)
 whole c w old E ew eo e =
     let a = c .args in
     let all : listSize (suc (a .d)) + (a .d + 2) ≡ length (words c) = omega (arith, long c) in
-    placed-piece _ (listSize (suc (a .d))) (a .d + 2) (a .at + w)
-    (wingWord (a .d) (a .s) (a .h) (a .firsts .now) (a .rows .now) (a .cells .now) (a .i) (a .p) (a .k)) (words c) _ _ _
-    (omega (arith, long c)) (c .pre .1 .1 .1) (λ j l. wing-word _ _ _ _ _ (c .pre .0) _ _ (c .pre .1 .0 .0) (c .pre .1 .0 .1) _ _ _ (c .pre .1 .1 .0)
+    placed-whole _ _ (words c) _ _ all (placed-piece _ (listSize (suc (a .d))) (a .d + 2) (a .at + w)
+    (wingWord (a .d) (a .s) (a .h) (a .firsts .now) (a .backs .now) (a .i) (a .p) (a .k)) (words c) _ _ _
+    (omega (arith, long c)) (c .pre .1 .1 .1) (λ j l. wing-word _ _ _ _ _ (c .pre .0) _ _ (c .pre .1 .0 .0) (c .pre .1 .0 .1) _ _ (c .pre .1 .1 .0)
     _ j (c .pre .1 .0 .2) (omega arith)
-    ∙ sym (word-wing _ _ _ _ _ _ _ _ (c .pre .0 .long) (c .pre .1 .0 .1) (c .pre .1 .0 .2) j (omega arith))) (omega arith) eo e
-    ∙ ap (λ (l : List ℕ). placed (a .at) l (a .out .now)) (ap (λ (n : ℕ). take n (words c)) all ∙ take-length (words c))
+    ∙ sym (word-wing _ _ _ _ _ _ _ _ (c .pre .0 .long) (c .pre .1 .0 .1) (c .pre .1 .0 .2) j (omega arith))) (omega arith) eo e)
 
 write-cell-requires : tie.Need-write-cell-requires
 write-cell-requires c κs =
@@ -57,7 +55,7 @@ write-wings-requires c κs =
     let cell : tie.After-write-cell = search needs in
     let place : tie.After-first-wing = search needs in
     let here = s .pre .1 .0 in (
-      sides-fit _ _ _ _ _ (s .pre .0) _ _ (here .0) (here .1) _ _ _ (s .pre .1 .1 .0),
+      sides-fit _ _ _ _ _ (s .pre .0) _ _ (here .0) (here .1) _ _ (s .pre .1 .1 .0),
       (
         (s .pre .0 .dimension, s .pre .0 .cells, here .0, here .1, here .2),
         omega (

@@ -5,23 +5,22 @@ use Prim.Native.Nat.{ℕ, _+_, _-_, _*_, _≤_, _<_}
 use native.Mathlib.Omega.{arith}
 use borrow.Author.Needs.{needs}
 use lib.ListN.{length, take, set, length-set, length-take}
-use lib.Seq.{take-length}
 use Rattle.words.specs.Records.{tabulate}
 use Rattle.words.specs.Inner.Placed.{placed}
 use Rattle.words.proofs.Records.{tabulate-at, tabulate-length}
 use Rattle.words.proofs.Placed.{placed-length, placed-word}
 use Rattle.prism.specs.Wings.{wingBelow}
 use Rattle.sweeping.specs.Inner.Across.{sideWord, wingWord}
-use Rattle.sweeping.proofs.Pieces.{placed-start, placed-piece}
+use Rattle.sweeping.proofs.Pieces.{placed-start, placed-piece, placed-whole}
 use Rattle.sweeping.proofs.AcrossLaws.{wing-low, wing-high, wing-last}
 use Rattle.sweeping.proofs.record.write_wings.Statement.{statement}
 use Rattle.sweeping.proofs.record.write_wings.Tie as tie
 
 abbrev wingOf : tie.Start → ℕ → ℕ
-wingOf c = let a = c .args in wingWord (a .d) (a .s) (a .h) (a .firsts .now) (a .rows .now) (a .cells .now) (a .i) (a .p) (a .k)
+wingOf c = let a = c .args in wingWord (a .d) (a .s) (a .h) (a .firsts .now) (a .backs .now) (a .i) (a .p) (a .k)
 
 abbrev sideOf : tie.Start → ℕ → ℕ → ℕ
-sideOf c = let a = c .args in sideWord (a .firsts .now) (a .rows .now) (a .cells .now)
+sideOf c = let a = c .args in sideWord (a .firsts .now) (a .backs .now)
 
 abbrev words : tie.Start → List ℕ
 words c = tabulate (c .args .d + 2) (wingOf c)
@@ -51,7 +50,7 @@ lowered c old E eo e =
     let a = c .args in
     placed-piece _ 1 (a .d - a .k) (a .at + 1) (λ j. sideOf c (a .k + 1 + j) _) (words c) _ _ _ (omega (arith, long c)) (room c)
     (λ j l. sym (tabulate-at (a .d + 2) (wingOf c) (1 + j) 0 (omega arith)
-    ∙ wing-low _ _ _ (a .firsts .now) (a .rows .now) (a .cells .now) _ _ _ (1 + j) (a .k + 1 + j) (omega arith) (omega arith) (omega arith)))
+    ∙ wing-low _ _ _ (a .firsts .now) (a .backs .now) _ _ _ (1 + j) (a .k + 1 + j) (omega arith) (omega arith) (omega arith)))
     (omega arith) eo e
 
 -- over the faces from 0,
@@ -65,7 +64,7 @@ raised c l old E el eo e =
     placed-piece _ (1 + (a .d - a .k)) _ (a .at + a .d + 1 - a .k) (λ j. sideOf c (0 + j) _) (words c) _ _ _
     (omega (arith, long c)) (room c) (λ j l. ap (λ (n : ℕ). sideOf c (0 + j) n) el
     ∙ sym (tabulate-at (a .d + 2) (wingOf c) (1 + (a .d - a .k) + j) 0 (omega arith)
-    ∙ wing-high _ _ _ (a .firsts .now) (a .rows .now) (a .cells .now) _ _
+    ∙ wing-high _ _ _ (a .firsts .now) (a .backs .now) _ _
     _ (1 + (a .d - a .k) + j) (0 + j) (omega arith) (omega arith) (omega arith) (omega arith))) (omega arith) eo e
     ∙ ap (λ (n : ℕ). placed (a .at) (take n (words c)) (a .out .now)) all
 
@@ -78,10 +77,9 @@ last c w E ew e =
     let place : a .at + a .d + 1 ≡ a .at + (a .d + 1) = omega arith in
     let all : a .d + 1 + 1 ≡ length (words c) = omega (arith, long c) in
     ap (λ (n : ℕ). set E n w) place
-    ∙ placed-word _ (a .d + 1) _ (words c) _ E (omega (arith, long c)) (room c) e (ew
+    ∙ placed-whole _ _ (words c) _ _ all (placed-word _ (a .d + 1) _ (words c) _ E (omega (arith, long c)) (room c) e (ew
     ∙ sym (tabulate-at (a .d + 2) (wingOf c) (a .d + 1) 0 (omega arith)
-    ∙ wing-last _ _ _ (a .firsts .now) (a .rows .now) (a .cells .now) _ _ (a .k) (a .d + 1) (omega arith)))
-    ∙ ap (λ (l : List ℕ). placed (a .at) l (a .out .now)) (ap (λ (n : ℕ). take n (words c)) all ∙ take-length (words c))
+    ∙ wing-last _ _ _ (a .firsts .now) (a .backs .now) _ _ (a .k) (a .d + 1) (omega arith))))
 
 write-sides-requires : tie.Need-write-sides-requires
 write-sides-requires c κs =

@@ -5,19 +5,19 @@ use native.Mathlib.Omega.{arith}
 use native.Mathlib.Nat.{not-suc-le-zero}
 use lib.ListN.{length, length-set}
 use borrow.Author.Needs.{needs}
-use Rattle.sweeping.specs.Inner.Across.{Holds, faceFirst, faceRow}
+use Rattle.sweeping.specs.Inner.Across.{Holds, faceFirst, faceBack}
 use Rattle.sweeping.specs.Inner.Written.{solidWing}
 use Rattle.sweeping.proofs.Pieces.{holds-more}
 use Rattle.sweeping.proofs.wings.face_sides.Statement.{statement}
 use Rattle.sweeping.proofs.wings.face_sides.Tie as tie
 
 abbrev Inv-loop : tie.InvT-loop
-Inv-loop d v s h table i p firsts₀ rows₀ a₀ firsts rows a =
-    (a ≤ d + 1) × (length firsts ≡ 8) × Holds a (faceFirst d s (solidWing d s table) i p) firsts × (length rows ≡ 8)
-    × Holds a (faceRow d (solidWing d s table) p) rows
+Inv-loop d v s h table i p firsts₀ backs₀ a₀ firsts backs a =
+    (a ≤ d + 1) × (length firsts ≡ 8) × Holds a (faceFirst d s (solidWing d s table) i p) firsts × (length backs ≡ 8)
+    × Holds a (faceBack d (solidWing d s table) p) backs
 
 abbrev μ-loop : tie.MeasureT-loop
-μ-loop d v s h table i p firsts₀ rows₀ a₀ firsts rows a = d + 1 - a
+μ-loop d v s h table i p firsts₀ backs₀ a₀ firsts backs a = d + 1 - a
 
 loop-holds : tie.Need-loop-holds Inv-loop μ-loop
 loop-holds c =
@@ -28,13 +28,13 @@ loop-again : tie.Need-loop-again Inv-loop μ-loop
 loop-again c =
     let s : tie.Start Inv-loop μ-loop = search needs in
     let l : tie.At-loop Inv-loop μ-loop = search needs in
-    let first : tie.After-face-first Inv-loop μ-loop = search needs in
-    let inv = l .loop .inv in (
+    let inv = l .loop .inv in
+    let found = c .across-face .ensures in (
       omega arith,
       length-set (l .loop .firsts) _ _ ∙ inv .1,
-      holds-more _ _ (faceFirst _ _ (solidWing _ _ _) _ _) (l .loop .firsts) (omega arith) (inv .2) (first .face-first .ensures),
-      length-set (l .loop .rows) _ _ ∙ inv .3,
-      holds-more _ _ (faceRow (s .args .d) (solidWing _ _ _) _) (l .loop .rows) (omega arith) (inv .4) (c .face-row .ensures),
+      holds-more _ _ (faceFirst _ _ (solidWing _ _ _) _ _) (l .loop .firsts) (omega arith) (inv .2) (found .0),
+      length-set (l .loop .backs) _ _ ∙ inv .3,
+      holds-more _ _ (faceBack (s .args .d) (solidWing _ _ _) _) (l .loop .backs) (omega arith) (inv .4) (found .1),
     )
 
 returns : tie.Need-returns Inv-loop μ-loop
@@ -50,7 +50,6 @@ face-sides-spec =
     (λ c κs. search needs)
     (λ c. search needs)
     (λ c. search needs)
-    (λ c κs. search needs)
     (λ c. search needs)
     (λ c. search needs)
     (λ c. search needs)

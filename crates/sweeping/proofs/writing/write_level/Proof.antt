@@ -14,12 +14,12 @@ use Rattle.sweeping.proofs.writing.write_level.Statement.{statement}
 use Rattle.sweeping.proofs.writing.write_level.Tie as tie
 
 abbrev Inv-loop : tie.InvT-loop
-Inv-loop d v s h table i cells at out₀ next₀ p₀ out next p =
+Inv-loop d v s h table i at out₀ next₀ p₀ out next p =
     (p ≤ s) × (next ≡ at + length (concat (tabulate p (prismWords d v s h table i)))) × (length out ≡ length out₀)
     × (out ≡ placed at (concat (tabulate p (prismWords d v s h table i))) out₀)
 
 abbrev μ-loop : tie.MeasureT-loop
-μ-loop d v s h table i cells at out₀ next₀ p₀ out next p = s - p
+μ-loop d v s h table i at out₀ next₀ p₀ out next p = s - p
 
 room : (c : tie.Start Inv-loop μ-loop) →
     c .args .at
@@ -27,7 +27,7 @@ room : (c : tie.Start Inv-loop μ-loop) →
     ≤ length (c .args .out .now)
 room c =
     let a = c .args in
-    omega (arith, c .pre .1 .1 .1, ap length (level-is (a .d) (a .v) (a .s) (a .h) (a .table .now) (a .i)))
+    omega (arith, c .pre .1 .1, ap length (level-is (a .d) (a .v) (a .s) (a .h) (a .table .now) (a .i)))
 
 loop-holds : tie.Need-loop-holds Inv-loop μ-loop
 loop-holds c = (omega arith, omega arith, omega arith, sym (placed-none _ _))
@@ -39,16 +39,13 @@ write-prism-requires c κs =
     let a = start .args in (
       start .pre .0,
       (
-        start .pre .1 .0,
-        (
-          (start .pre .1 .1 .0, c .before .loop-test .taken),
-          omega (
-            arith,
-            room start,
-            at .loop .inv .1,
-            at .loop .inv .2,
-            concat-fits _ _ (prismWords (a .d) (a .v) (a .s) (a .h) (a .table .now) (a .i)) (c .before .loop-test .taken),
-          ),
+        (start .pre .1 .0, c .before .loop-test .taken),
+        omega (
+          arith,
+          room start,
+          at .loop .inv .1,
+          at .loop .inv .2,
+          concat-fits _ _ (prismWords (a .d) (a .v) (a .s) (a .h) (a .table .now) (a .i)) (c .before .loop-test .taken),
         ),
       ),
     )

@@ -14,12 +14,12 @@ use Rattle.sweeping.proofs.writing.write_prism.Statement.{statement}
 use Rattle.sweeping.proofs.writing.write_prism.Tie as tie
 
 abbrev Inv-loop : tie.InvT-loop
-Inv-loop d v s h table i p cells at out₀ firsts rows next₀ k₀ out next k =
+Inv-loop d v s h table i p at out₀ firsts backs next₀ k₀ out next k =
     (k ≤ d + 1) × (next ≡ at + length (concat (tabulate k (recordWords d v s h table i p)))) × (length out ≡ length out₀)
     × (out ≡ placed at (concat (tabulate k (recordWords d v s h table i p))) out₀)
 
 abbrev μ-loop : tie.MeasureT-loop
-μ-loop d v s h table i p cells at out₀ firsts rows next₀ k₀ out next k = d + 1 - k
+μ-loop d v s h table i p at out₀ firsts backs next₀ k₀ out next k = d + 1 - k
 
 room : (c : tie.Start Inv-loop μ-loop) →
     c .args .at + length (concat
@@ -27,7 +27,7 @@ room : (c : tie.Start Inv-loop μ-loop) →
     ≤ length (c .args .out .now)
 room c =
     let a = c .args in
-    omega (arith, c .pre .1 .1 .1, ap length (prism-is (a .d) (a .v) (a .s) (a .h) (a .table .now) (a .i) (a .p)))
+    omega (arith, c .pre .1 .1, ap length (prism-is (a .d) (a .v) (a .s) (a .h) (a .table .now) (a .i) (a .p)))
 
 loop-holds : tie.Need-loop-holds Inv-loop μ-loop
 loop-holds c = (omega arith, omega arith, omega arith, sym (placed-none _ _))
@@ -41,9 +41,9 @@ write-record-requires c κs =
     let a = start .args in (
       start .pre .0,
       (
-        (start .pre .1 .1 .0 .0, start .pre .1 .1 .0 .1, turn .loop-test .taken),
+        (start .pre .1 .0 .0, start .pre .1 .0 .1, turn .loop-test .taken),
         (
-          record { first = sides .face-sides .ensures .0; row = sides .face-sides .ensures .1; cell = start .pre .1 .0 },
+          record { first = sides .face-sides .ensures .0; back = sides .face-sides .ensures .1 },
           omega (
             arith,
             room start,

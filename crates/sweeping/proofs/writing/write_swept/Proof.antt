@@ -14,12 +14,12 @@ use Rattle.sweeping.proofs.writing.write_swept.Statement.{statement}
 use Rattle.sweeping.proofs.writing.write_swept.Tie as tie
 
 abbrev Inv-loop : tie.InvT-loop
-Inv-loop d v s h table out₀ cells next₀ i₀ out next i =
+Inv-loop d v s h table out₀ next₀ i₀ out next i =
     (i ≤ h) × (next ≡ 0 + length (concat (tabulate i (levelWords d v s h table)))) × (length out ≡ length out₀)
     × (out ≡ placed 0 (concat (tabulate i (levelWords d v s h table))) out₀)
 
 abbrev μ-loop : tie.MeasureT-loop
-μ-loop d v s h table out₀ cells next₀ i₀ out next i = h - i
+μ-loop d v s h table out₀ next₀ i₀ out next i = h - i
 
 room : (c : tie.Start Inv-loop μ-loop) →
     0 + length (concat (tabulate (c .args .h) (levelWords (c .args .d) (c .args .v) (c .args .s) (c .args .h) (c .args .table .now))))
@@ -38,16 +38,13 @@ write-level-requires c κs =
     let a = start .args in (
       start .pre .0,
       (
-        at .before .side-cells .ensures,
-        (
-          c .before .before .loop-test .taken,
-          omega (
-            arith,
-            room start,
-            at .loop .inv .1,
-            at .loop .inv .2,
-            concat-fits _ _ (levelWords (a .d) (a .v) (a .s) (a .h) (a .table .now)) (c .before .before .loop-test .taken),
-          ),
+        c .before .loop-test .taken,
+        omega (
+          arith,
+          room start,
+          at .loop .inv .1,
+          at .loop .inv .2,
+          concat-fits _ _ (levelWords (a .d) (a .v) (a .s) (a .h) (a .table .now)) (c .before .loop-test .taken),
         ),
       ),
     )
@@ -79,7 +76,6 @@ write-swept-spec =
     (tie.spec
     Inv-loop
     μ-loop
-    (λ c κs. search needs)
     loop-holds
     write-level-requires
     (λ c. search needs)
