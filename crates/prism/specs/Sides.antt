@@ -1,6 +1,7 @@
 -- Side pairs. A cell p of dimension d has, over its face a, d sides among its swept cells: pairs (cell k, position j). Paper, section 4.
 -- Places count from 0 here: the paper's l-th pair is at place l - 1.
 --   sidePair d a l        the pair at place l over face a: (l, a - l) while l is below a, (l + 1, d + a - l) afterwards
+--   sideCell, sidePosition    its two parts
 --   sideFace d k j        the face over which position j of cell k stands: that vertex it lacks
 --   sidePlace d k j       its place among the sides over that face
 -- The step rule tells each pair from the one before; that the pairs obey it is a law (proofs/SideLaws).

@@ -62,13 +62,13 @@ fn back(d: usize, s: usize, table: &[u16], p: usize, q: usize) -> usize
     b
 }
 
-// What is across a face of a cell: the first cell over it at some level, and its position at the face. Nothing: EMPTY, and 0.
+// The cell across a face: its first swept cell at some level, and its own position at the face. EMPTY and 0 where none is across.
 pub struct Beyond {
     pub first: u16,
     pub back: usize,
 }
 
-// What is across face a of cell p, at level i.
+// The cell across face a of p, at level i.
 fn across_face(
     d: usize,
     v: usize,
