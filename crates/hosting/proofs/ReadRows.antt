@@ -164,11 +164,13 @@ module _ (b : List ℕ) where
   read-refuses k e = rw (sym e) refl
 
   -- with the room told by the array's length
-  pub read-roomy : (words : List ℕ) → length words ≡ wordRoom → (o : Outcome Header) → o ≡ readOutcome (readInput b (length words) floatRoom) →
+  pub read-roomy : (words : List ℕ) → length words ≡ wordRoom → (o : Outcome Header) →
+      o ≡ readOutcome (readInput b (length words) floatRoom) →
       o ≡ readOutcome (readInput b wordRoom floatRoom)
   read-roomy words l o e = e ∙ ap (λ n. readOutcome (readInput b n floatRoom)) l
 
-  pub words-roomy : (words : List ℕ) → length words ≡ wordRoom → (w : List ℕ) → w ≡ readCells (readInput b (length words) floatRoom) words →
+  pub words-roomy : (words : List ℕ) → length words ≡ wordRoom → (w : List ℕ) →
+      w ≡ readCells (readInput b (length words) floatRoom) words →
       w ≡ readCells (readInput b wordRoom floatRoom) words
   words-roomy words l w e = e ∙ ap (λ n. readCells (readInput b n floatRoom) words) l
 
@@ -185,7 +187,8 @@ module _ (b : List ℕ) where
       front-of (fileWords b) old w n (e ∙ ap (λ (o : Outcome Header). after o (fileWords b) old) (whole-read (f .0 .none)))
       (f .1 ∙ sym (words-count b (f .0 .whole)))
 
-  pub numbers-put : (d n v s h : ℕ) (rest : List ℕ) → d ≡ dimensionOf b → n ≡ axesOf b → v ≡ vertexCountOf b → s ≡ cellCountOf b → h ≡ stepsOf b →
+  pub numbers-put : (d n v s h : ℕ) (rest : List ℕ) → d ≡ dimensionOf b → n ≡ axesOf b → v ≡ vertexCountOf b →
+      s ≡ cellCountOf b → h ≡ stepsOf b →
       bytesOf (d ∷ n ∷ v ∷ s ∷ h ∷ kindOf b ∷ axisOf b 0 ∷ axisOf b 1 ∷ []) ++ rest ≡ bytesOf (headerWords b) ++ rest
   numbers-put d n v s h rest e1 e2 e3 e4 e5 = rw (e1, e2, e3, e4, e5) refl
 
@@ -207,7 +210,8 @@ module _ (b : List ℕ) where
 
   -- an accepted file, as the code wrote its parts
   module _ (header cells points : List ℕ) where
-    pub read-done : Passed b → short header cells points ≡ false → (n : ℕ) → n ≡ cellsLength b → (ws : List ℕ) → ws ≡ fileWords b → (h c p : List ℕ) →
+    pub read-done : Passed b → short header cells points ≡ false → (n : ℕ) → n ≡ cellsLength b →
+        (ws : List ℕ) → ws ≡ fileWords b → (h c p : List ℕ) →
         h ≡ written (headerBytes b) header → c ≡ bytesOf ws ++ drop (length ws * 2) cells → p ≡ written (pointBytes b) points →
         Told header cells points (accepted n) h c p
     read-done f s n en ws ew h c p eh ec ep =

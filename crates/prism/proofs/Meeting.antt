@@ -107,7 +107,8 @@ module _ (nv d h : ℕ) (cs : List Cell) (s : Solid nv cs) (ln : All (Long (suc 
       ap (without j′) (row-at i′ p′ k′ j′ n′) ∙ sym e ∙ sym (ap (without j) (row-at i p k j n)) in
       neighbour-one (nu i p k) 0 (nu i′ p′ k′) w T
       (omega (arith, swept-meet nv cs s h w, others (nu i p k) w (lt-T i p k j n) (has i p k j n)))
-      (lt-T i′ p′ k′ j′ n′) (λ e. apart (omega arith)) (subst (λ w. hasFace w (rowAt T (nu i′ p′ k′)) ≡ true) f (has i′ p′ k′ j′ n′))
+      (lt-T i′ p′ k′ j′ n′) (λ e. apart (omega arith))
+      (subst (λ w. hasFace w (rowAt T (nu i′ p′ k′)) ≡ true) f (has i′ p′ k′ j′ n′))
       ∙ zero-add (nu i′ p′ k′)
 
   -- a face alone
@@ -164,7 +165,8 @@ module _ (nv d h : ℕ) (cs : List Cell) (s : Solid nv cs) (ln : All (Long (suc 
   within-side : (i p a l : ℕ) → i < h → p < S → a ≤ d → l < d → In i p (sideCell a l) (sidePosition d a l)
   within-side i p a l hi hp ha hl = let r = pair-lt d a l ha hl in within hi hp (r .0) (r .1)
 
-  pub side-meet : (i p q a b l : ℕ) → i < h → p < S → q < S → (p ≡ q → ⊥) → a ≤ d → b ≤ d → l < d → without a (rowAt cs p) ≡ without b (rowAt cs q) →
+  pub side-meet : (i p q a b l : ℕ) → i < h → p < S → q < S → (p ≡ q → ⊥) → a ≤ d → b ≤ d → l < d →
+      without a (rowAt cs p) ≡ without b (rowAt cs q) →
       wing i p (sideCell a l) (sidePosition d a l) ≡ nu i q (sideCell b l)
   side-meet i p q a b l hi hp hq filled ha hb hl e =
       meet i p (sideCell a l) (sidePosition d a l) i q (sideCell b l) (sidePosition d b l) m n (go (decLt p q))
@@ -220,7 +222,8 @@ module _ (nv d h : ℕ) (cs : List Cell) (s : Solid nv cs) (ln : All (Long (suc 
   top-none i p hi hp =
       none i p d 0 _ (within (omega arith) hp (omega arith) (omega arith)) (top-face i p hp) (copy-few (suc i) p hp (inr hi))
 
-  side-few : (i l : ℕ) (u : Row) → Below nv u → l < length u → total u (facets cs) ≤ 1 → total (prismRow (i * nv) (suc i * nv) l u) (allFaces T) ≤ 1
+  side-few : (i l : ℕ) (u : Row) → Below nv u → l < length u → total u (facets cs) ≤ 1 →
+      total (prismRow (i * nv) (suc i * nv) l u) (allFaces T) ≤ 1
   side-few i l u bu hl few = go (kindOf nv cs s (lowerIn nv w) (upperIn nv w))
     where
       w : Row
@@ -257,7 +260,8 @@ module _ (nv d h : ℕ) (cs : List Cell) (s : Solid nv cs) (ln : All (Long (suc 
         one-le (hasFace u (rowAt cs p)),
       )
 
-  pub side-none : (i p a l : ℕ) → i < h → p < S → a ≤ d → l < d → S ≤ 65535 → neighbourFrom p 0 (without a (rowAt cs p)) cs ≡ 65535 →
+  pub side-none : (i p a l : ℕ) → i < h → p < S → a ≤ d → l < d → S ≤ 65535 →
+      neighbourFrom p 0 (without a (rowAt cs p)) cs ≡ 65535 →
       wing i p (sideCell a l) (sidePosition d a l) ≡ 65535
   side-none i p a l hi hp ha hl small e =
       none i p (sideCell a l) (sidePosition d a l) _ (within-side i p a l hi hp ha hl)

@@ -1,4 +1,5 @@
 -- The sides of a swept cell from the lists of the cells across.
+--   holds-more                        one number more of f 0, f 1, .. in a list
 --   side-is, sides-fit                a side over face a at place l is what the definition says, and a word
 --   wing-word                         with it a wing is what the definition says
 --   wing-low, wing-high, wing-last    the wings by place: over faces k + 1 to d, over faces 0 to k - 1, below
@@ -7,17 +8,28 @@ use mathlib.Core.Path.{_≡_, refl, sym, ap, ap₂, _∙_}
 use mathlib.Core.Bool.{Bool, true, false, cond}
 use mathlib.Core.List.{List}
 use Prim.Native.Nat.{ℕ, suc, _+_, _-_, _≤_, _<_}
+use native.Mathlib.Decide.{decLt}
 use native.Mathlib.Omega.{arith}
 use lib.Dec.{eqb}
-use lib.ListN.{getD}
+use lib.ListN.{length, getD, set}
+use lib.Seq.{getD-set-same, getD-set-other}
 use borrow.Author.Tests.{eq-eqb, ne-eqb, le-leb, lt-leb, eqb-true, eqb-false}
 use Rattle.records.specs.Layout.{empty}
 use Rattle.prism.specs.Sides.{sideCell, sideFace, sidePlace}
 use Rattle.prism.specs.Wings.{cellNumber, backTo, wingAside, wingAbove, wingBelow, sweptWing}
 use Rattle.sweeping.specs.Inner.Written.{solidWing, Ready}
-use Rattle.sweeping.specs.Inner.Across.{SidesFit, Across, sideWord, wingWord}
+use Rattle.sweeping.specs.Inner.Across.{Holds, SidesFit, Across, sideWord, wingWord}
 use Rattle.sweeping.proofs.Bounds.{number-inside}
 use Rattle.prism.proofs.SideLaws.{side-of-position, side-bounds}
+
+pub holds-more : (m x : ℕ) (f : ℕ → ℕ) (xs : List ℕ) → m < length xs → Holds m f xs → x ≡ f m → Holds (m + 1) f (set xs m x)
+holds-more m x f xs hm h e j hj = go (decLt j m)
+  where
+    go : Dec (j < m) → getD (set xs m x) j 0 ≡ f j
+    go (yes l) = getD-set-other xs m j x 0 (λ q. omega arith) ∙ h j l
+    go (no l) =
+        let here : j ≡ m = omega arith in
+        ap (λ (n : ℕ). getD (set xs m x) n 0) here ∙ getD-set-same xs m x 0 hm ∙ e ∙ ap f (sym here)
 
 module _ (d v s h : ℕ) (ws : List ℕ) (ready : Ready d v s h ws) (i p : ℕ) (hi : i < h)
     (hp : p < s) (firsts backs : List ℕ) (ac : Across d s ws i p firsts backs) where

@@ -1,7 +1,6 @@
 -- Laws of the words of a swept table.
 pub mod AcrossLaws
 pub mod Bounds
-pub mod Pieces
 pub mod RecordLaws
 pub mod SoundTable
 pub mod SweptWords

@@ -13,7 +13,6 @@ use lib.ListN.{length, getD, take, length-map}
 use lib.Seq.{length-take-le}
 use borrow.Author.Tests.{eqb-true, leb-true}
 use Rattle.words.specs.Records.{part}
-use Rattle.words.proofs.Records.{tabulate-length}
 use Rattle.rules.specs.Limits.{maxSource, maxVertices, maxCells, maxDimension, within, sizesOk, verticesOk, sweptVertices}
 use Rattle.rules.specs.Shapes.{shapeOk}
 use Rattle.rules.proofs.Tests.{and-parts}
@@ -32,7 +31,7 @@ use Rattle.solids.proofs.Tables.{table-at, table-wing}
 use Rattle.prism.specs.Swept.{sweptCells}
 use Rattle.prism.specs.Wings.{backTo}
 use Rattle.sweeping.specs.Inner.Written.{solidEntries, solidVertex, solidWing, Ready}
-use Rattle.words.proofs.Placed.{concat-tabulate-length}
+use Rattle.words.proofs.Records.{length-tabulated, tabulate-length}
 use Rattle.prism.proofs.SweptWings.{back-is}
 use Rattle.records.proofs.Parts.{part-long}
 
@@ -50,7 +49,7 @@ cellsIn d v s ws = solidOf (ownListed d v s ws)
 
 own-long : (d s : ℕ) (ws : List ℕ) → length ws ≡ tableLength d s → length (ownList d s ws) ≡ s * listSize d
 own-long d s ws e =
-    concat-tabulate-length (listSize d) s (λ p. take (listSize d) (part (recordSize d) p ws))
+    length-tabulated (listSize d) s (λ p. take (listSize d) (part (recordSize d) p ws))
     (λ p l. length-take-le (listSize d) (part (recordSize d) p ws) (omega (arith, part-long (recordSize d) p s ws l e)))
 
 count-is : (d v s : ℕ) (ws : List ℕ) → length (cellsIn d v s ws) ≡ s

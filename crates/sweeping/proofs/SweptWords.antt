@@ -11,11 +11,11 @@ use native.Mathlib.Numerals.{add-one}
 use native.Mathlib.Omega.{arith}
 use lib.ListN.{length}
 use Rattle.words.specs.Records.{tabulate, concat}
-use Rattle.words.proofs.Records.{tabulate-ext, tabulate-map}
+use Rattle.words.proofs.Records.{length-tabulated, tabulate-ext, tabulate-map}
 use Rattle.records.specs.Layout.{entriesOf, entryWords, tableWords, tableLength, recordSize}
 use Rattle.prism.specs.Swept.{sweptEntry, sweptTable, sweptCells}
 use Rattle.sweeping.specs.Inner.Written.{solidEntries, recordWords, prismWords, levelWords, allWords}
-use Rattle.words.proofs.Placed.{concat-tabulate-length, words-concat}
+use Rattle.words.proofs.Placed.{words-concat}
 use Rattle.sweeping.proofs.RecordLaws.{record-long}
 
 module _ (d v s h : ℕ) (ws : List ℕ) where
@@ -57,15 +57,15 @@ module _ (d v s h : ℕ) (ws : List ℕ) where
     prism-long : (i p : ℕ) → p < s → length (prismWords d v s h ws i p) ≡ (d + 1) * recordSize (suc d)
     prism-long i p hp =
         ap length (prism-is i p)
-        ∙ concat-tabulate-length (recordSize (suc d)) (d + 1) (recordWords d v s h ws i p)
+        ∙ length-tabulated (recordSize (suc d)) (d + 1) (recordWords d v s h ws i p)
         (λ k l. record-long d v s h ws i p k long hp (omega arith))
 
     level-long : (i : ℕ) → length (levelWords d v s h ws i) ≡ s * ((d + 1) * recordSize (suc d))
     level-long i =
-        ap length (level-is i) ∙ concat-tabulate-length ((d + 1) * recordSize (suc d)) s (prismWords d v s h ws i) (λ p l. prism-long i p l)
+        ap length (level-is i) ∙ length-tabulated ((d + 1) * recordSize (suc d)) s (prismWords d v s h ws i) (λ p l. prism-long i p l)
 
     pub all-long : length (allWords d v s h ws) ≡ tableLength (suc d) (sweptCells d s h)
     all-long =
-        ap length all-is ∙ concat-tabulate-length (s * ((d + 1) * recordSize (suc d))) h (levelWords d v s h ws) (λ i l. level-long i)
+        ap length all-is ∙ length-tabulated (s * ((d + 1) * recordSize (suc d))) h (levelWords d v s h ws) (λ i l. level-long i)
         ∙ ap (λ n. h * (s * (n * recordSize (suc d)))) (add-one d)
         ∙ ap (λ n. h * n) (sym (mul-assoc s (suc d) (recordSize (suc d)))) ∙ sym (mul-assoc h (s * suc d) (recordSize (suc d)))

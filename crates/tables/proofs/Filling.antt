@@ -7,14 +7,14 @@ use mathlib.Core.Bool.{Bool, true, false, _&&_, true≢false}
 use mathlib.Core.List.{List, [], _∷_, _++_}
 use Prim.Native.Nat.{ℕ, zero, suc, _+_, _*_, _≤_, _<_}
 use native.Mathlib.Omega.{arith}
-use native.Mathlib.Nat.{add-comm, add-mul, add-zero, mul-le-mul-right, one-mul, suc-mul, zero-mul}
+use native.Mathlib.Nat.{add-comm, add-zero, suc-mul, zero-mul}
 use lib.Dec.{eqb}
 use lib.ListN.{length, set, drop, take, getD, length-append, length-drop, take-append-drop}
 use lib.Seq.{drop-drop, ext-getD, getD-drop, getD-take, take-all, take-take}
 use Rattle.words.specs.Inner.Placed.{placed}
 use Rattle.words.specs.Records.{concat, part, tabulate}
-use Rattle.words.proofs.Placed.{concat-tabulate-length, placed-length, placed-none, placed-then, placed-word}
-use Rattle.words.proofs.Records.{EachLong, part-concat, tabulate-at, tabulate-ext, tabulate-length}
+use Rattle.words.proofs.Placed.{placed-length, placed-one, placed-then, placed-word}
+use Rattle.words.proofs.Records.{length-tabulated, part-tabulated, tabulate-at, tabulate-ext, tabulate-length}
 use Rattle.simplex.specs.Cell.{Sign, sameRow}
 use Rattle.tables.specs.Inner.Held.{heldWords, recordHeld, run}
 use Rattle.simplex.specs.SignWords.{signWord}
@@ -120,9 +120,7 @@ module _ (d : ℕ) (rows : List ℕ) (signs : List Sign) (wings : List ℕ) (p :
   module _ (at x : ℕ) (buf one : List ℕ) (room : at + recordSize d ≤ length buf) (ex : x ≡ signWord (getD signs p false))
       (e : one ≡ placed (at + vertexPlace 0) vertices (set buf at x)) where
     first : set buf at x ≡ placed at (x ∷ []) buf
-    first =
-        ap (λ n. set buf n x) (sym (add-zero at))
-        ∙ placed-word at 0 x (x ∷ []) buf buf (omega arith) (omega arith) (sym (placed-none at buf)) refl
+    first = placed-one at x buf (omega arith)
 
     first-two : one ≡ placed at (x ∷ vertices) buf
     first-two = e ∙ ap (placed (at + vertexPlace 0) vertices) first ∙ placed-then at (x ∷ []) vertices buf (omega arith)
@@ -153,17 +151,6 @@ module _ (d : ℕ) (rows : List ℕ) (signs : List Sign) (wings : List ℕ) (p :
       (same-append (run (d + 1) (at + vertexPlace 0) ws) vertices (run (d + 1) (at + wingPlace d 0) ws) neighbours
       (tabulate-length (d + 1) (λ j. getD ws (at + vertexPlace 0 + j) 0) ∙ sym (tabulate-length (d + 1) (λ j. getD rows (p * 8 + j) 0))))
 
--- record p of s ends within them; the next one begins there
-pub record-fits : (n p s : ℕ) → p < s → p * n + n ≤ s * n
-record-fits n p s h = omega (arith, suc-mul p n, mul-le-mul-right {m = suc p} {n = s} n h)
-
-pub record-next : (n p : ℕ) → (p + 1) * n ≡ p * n + n
-record-next n p = omega (arith, add-mul p 1 n, one-mul n)
-
-each-long : (n s : ℕ) (f : ℕ → List ℕ) → ((p : ℕ) → length (f p) ≡ n) → EachLong n (tabulate s f)
-each-long n zero f h = tt
-each-long n (suc s) f h = (h 0, each-long n s (λ p. f (suc p)) (λ p. h (suc p)))
-
 -- record p of a list, as a run
 part-run : (n p s : ℕ) (ws : List ℕ) → p < s → s * n ≤ length ws → part n p ws ≡ run n (p * n) ws
 part-run n p s ws h e =
@@ -176,7 +163,7 @@ module _ (d : ℕ) (rows : List ℕ) (signs : List Sign) (wings : List ℕ) (s :
   records = recordHeld d rows signs wings
 
   pub records-length : length (concat (tabulate s (recordHeld d rows signs wings))) ≡ s * recordSize d
-  records-length = concat-tabulate-length (recordSize d) s records (λ p l. record-long d rows signs wings p)
+  records-length = length-tabulated (recordSize d) s records (λ p l. record-long d rows signs wings p)
 
   module _ (ws : List ℕ) (long : length ws ≡ tableLength d s) where
     pub table-same : ((p : ℕ) → p < s → run (recordSize d) (p * recordSize d) ws ≡ recordHeld d rows signs wings p) →
@@ -198,5 +185,4 @@ module _ (d : ℕ) (rows : List ℕ) (signs : List Sign) (wings : List ℕ) (s :
         (λ e. true≢false
         (sym (same-rows (run n (p * n) ws) (records p)
         (sym (part-run n p s ws l (omega arith)) ∙ ap (part n p) e
-        ∙ part-concat n p (tabulate s records) (each-long n s records (record-long d rows signs wings)) (omega (arith, tabulate-length s records))
-        ∙ tabulate-at s records p [] l)) ∙ k))
+        ∙ part-tabulated n s p records (λ q m. record-long d rows signs wings q) l)) ∙ k))

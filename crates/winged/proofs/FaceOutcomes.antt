@@ -26,7 +26,8 @@ wordsFor d v s ws out = facesWords (boundaryCells (facesIn d v s ws out))
 
 module _ (d v s : ℕ) (ws out : List ℕ) where
   told : (o : Outcome ℕ) → facesOutcome (facesIn d v s ws out) ≡ o →
-      (hostAnswer (inWords d v s ws out o) ≡ facesAnswer d v s ws out) × (after o (bytesOf (wordsFor d v s ws out)) out ≡ facesAfter d v s ws out)
+      (hostAnswer (inWords d v s ws out o) ≡ facesAnswer d v s ws out)
+      × (after o (bytesOf (wordsFor d v s ws out)) out ≡ facesAfter d v s ws out)
   unfolding facesAnswer facesAfter
   told o e = (ap (λ q. hostAnswer (inWords d v s ws out q)) (sym e), ap (λ q. after q (bytesOf (wordsFor d v s ws out)) out) (sym e))
 
@@ -65,7 +66,8 @@ module _ (d v s : ℕ) (table out : List ℕ) where
   unfolding hostFacesOutcome
   right e = hosted-right (shapeOk maxDimension d v s) table (tableLength d s) (facesOutcome (hostFacesInput d v s table out)) e
 
-  pub host-outside : shapeOk maxDimension d v s ≡ false → (negℤ (pos 2) ≡ hostFaces d v s table out) × (out ≡ hostFacesBuffer d v s table out)
+  pub host-outside : shapeOk maxDimension d v s ≡ false →
+      (negℤ (pos 2) ≡ hostFaces d v s table out) × (out ≡ hostFacesBuffer d v s table out)
   host-outside e = host-refused 2 (outside e)
 
   pub host-wrong : shapeOk maxDimension d v s ≡ true → (length table ≡ tableLength d s * 2 → ⊥) →
@@ -78,7 +80,8 @@ module _ (d v s : ℕ) (table out : List ℕ) where
   in-words (refused n) = refl
 
   pub host-right : length table ≡ tableLength d s * 2 →
-      (facesAnswer d v s (words16 table) out ≡ hostFaces d v s table out) × (facesAfter d v s (words16 table) out ≡ hostFacesBuffer d v s table out)
+      (facesAnswer d v s (words16 table) out ≡ hostFaces d v s table out)
+      × (facesAfter d v s (words16 table) out ≡ hostFacesBuffer d v s table out)
   unfolding facesAnswer facesAfter
   host-right e =
       let o = facesOutcome (facesIn d v s (words16 table) out) in

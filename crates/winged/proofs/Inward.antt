@@ -40,12 +40,14 @@ use Rattle.wing.proofs.Lengths.{accepted-long}
 use Rattle.sweep.proofs.CallWords.{swept-long}
 use Rattle.winged.proofs.Outward.{room-cut}
 
-pub decoded-front : (cells w rest : List ℕ) (n : ℕ) → w ≡ words16 cells ++ rest → length cells ≡ n * 2 → (n ≤ length w) × (take n w ≡ words16 cells)
+pub decoded-front : (cells w rest : List ℕ) (n : ℕ) → w ≡ words16 cells ++ rest → length cells ≡ n * 2 →
+    (n ≤ length w) × (take n w ≡ words16 cells)
 decoded-front cells w rest n e h =
     let count : length (words16 cells) ≡ n = omega (arith, words-count cells) in
     (omega (arith, ap length e, length-append (words16 cells) rest), ap (take n) e ∙ take-at (words16 cells) rest n count)
 
-pub wing-after : (o : Outcome ℕ) (i : WingInput) (out : List ℕ) → o ≡ wingOutcome i → wingBuffer i out ≡ after o (tableOfList (i .list)) out
+pub wing-after : (o : Outcome ℕ) (i : WingInput) (out : List ℕ) → o ≡ wingOutcome i →
+    wingBuffer i out ≡ after o (tableOfList (i .list)) out
 unfolding wingBuffer
 wing-after o i out e = ap (λ q. after q (tableOfList (i .list)) out) (sym e)
 
@@ -79,7 +81,8 @@ wing-same : (d v s : ℕ) (ws : List ℕ) (x : ℕ) → wingOutcome (wingInput d
 unfolding wingOutcome wingRules solidRules
 wing-same d v s ws x = go (shapeOk maxDimension d v s) refl
   where
-    go : (t : Bool) → shapeOk maxDimension d v s ≡ t → wingOutcome (wingInput d v s ws (lesser x tableRoom)) ≡ wingOutcome (wingInput d v s ws x)
+    go : (t : Bool) → shapeOk maxDimension d v s ≡ t →
+        wingOutcome (wingInput d v s ws (lesser x tableRoom)) ≡ wingOutcome (wingInput d v s ws x)
     go true e = let l = limits-are maxDimension d v s (ap not e) in
         rw (room-cut x tableRoom (tableLength d s) (table-fits d s (l .dimension) (l .cells))) refl
     go false e = rw e refl
@@ -89,7 +92,8 @@ unfolding wingRead
 wing-room d v s cells x = rw (wing-same d v s (words16 cells) x) refl
 
 -- with so many words of room as are lent
-pub wing-host : (d v s : ℕ) (cells out : List ℕ) (x : ℕ) (o : Outcome ℕ) → x ≡ lesser (wordsIn out) tableRoom → o ≡ wingRead d v s cells x →
+pub wing-host : (d v s : ℕ) (cells out : List ℕ) (x : ℕ) (o : Outcome ℕ) → x ≡ lesser (wordsIn out) tableRoom →
+    o ≡ wingRead d v s cells x →
     (hostAnswer o ≡ hostWing d v s cells out) × (after o (bytesOf (tableOfList (hostList d v s cells out))) out ≡ hostWingBuffer d v s cells out)
 unfolding wingRead hostWing hostWingOutcome hostWingBuffer
 wing-host d v s cells out x o room e =
@@ -125,7 +129,8 @@ module _ (d v s h : ℕ) (table : List ℕ) (x : ℕ) where
   unfolding sweepRead sweepRules
   sweep-outside e = rw e (sweep.refuses (sweepInput d v s h (words16 table) x) [] 2 (rw e) .0)
 
-  pub sweep-wrong : (shapeOk maxSource d v s && stepsOk h) ≡ true → (length table ≡ tableLength d s * 2 → ⊥) → refused 3 ≡ sweepRead d v s h table x
+  pub sweep-wrong : (shapeOk maxSource d v s && stepsOk h) ≡ true → (length table ≡ tableLength d s * 2 → ⊥) →
+      refused 3 ≡ sweepRead d v s h table x
   unfolding sweepRead sweepRules
   sweep-wrong ok n =
       sym (hosted-wrong (shapeOk maxSource d v s && stepsOk h) table (tableLength d s) (sweepOutcome (sweepInput d v s h (words16 table) x)) ok n
@@ -144,7 +149,8 @@ module _ (d v s h : ℕ) (table : List ℕ) (x : ℕ) where
       let large = or-right (ltb maxVertices (sweptVertices v h)) (lt-ltb maxCells (sweptCells d s h) (many-cells d s h (steps-some d v s h ok) n)) in
       sweep.refuses (sweepInput d v s h (words16 table) x) [] 12 (rw (ok, right, large)) .0 ∙ sweep-right e
 
-sweep-same : (d v s h : ℕ) (ws : List ℕ) (x : ℕ) → sweepOutcome (sweepInput d v s h ws (lesser x tableRoom)) ≡ sweepOutcome (sweepInput d v s h ws x)
+sweep-same : (d v s h : ℕ) (ws : List ℕ) (x : ℕ) → sweepOutcome (sweepInput d v s h ws (lesser x tableRoom))
+    ≡ sweepOutcome (sweepInput d v s h ws x)
 unfolding sweepOutcome sweepRules
 sweep-same d v s h ws x =
     go (shapeOk maxSource d v s && stepsOk h) refl ((ltb maxVertices (sweptVertices v h) || ltb maxCells (sweptCells d s h))) refl
@@ -171,7 +177,8 @@ sweep-long d v s h table x k e =
     swept-long d v s h (words16 table) x k
     (hosted-accepted (shapeOk maxSource d v s && stepsOk h) table (sweepOutcome (sweepInput d v s h (words16 table) x)) k e)
 
-pub sweep-host : (d v s h : ℕ) (table out : List ℕ) (x : ℕ) (o : Outcome ℕ) → x ≡ lesser (wordsIn out) tableRoom → o ≡ sweepRead d v s h table x →
+pub sweep-host : (d v s h : ℕ) (table out : List ℕ) (x : ℕ) (o : Outcome ℕ) → x ≡ lesser (wordsIn out) tableRoom →
+    o ≡ sweepRead d v s h table x →
     (hostAnswer o ≡ hostSweep d v s h table out)
     × (after o (bytesOf (sweptWords (sweepInput d v s h (words16 table) x))) out ≡ hostSweepBuffer d v s h table out)
 unfolding sweepRead hostSweep hostSweepOutcome hostSweepBuffer sweptWords

@@ -1,4 +1,4 @@
--- Words written one after the other, and records written one after the other.
+-- Words written one after the other.
 --   placed-first          from the start of the buffer
 --   placed-none, placed-length    nothing written; the buffer keeps its length
 --   placed-then           a second list behind the first
@@ -8,15 +8,12 @@
 --   placed-one            one element
 --   placed-cons, placed-last      the first before the others; the last before the others
 --   placed-word           one word more of a list
---   concat-more           n + 1 lists one after the other are n and the last
---   concat-fits           record k of n ends within all n
---   placed-record         one record more of n
 --   words-concat          the words of lists, one list after the other
 -- Assumes nothing.
 use mathlib.Core.Path.{_≡_, refl, sym, ap, ap₂, _∙_}
-use mathlib.Core.List.{List, [], _∷_, _++_, map, append-assoc, append-nil}
-use Prim.Native.Nat.{ℕ, zero, suc, _+_, _-_, _*_, _≤_, _<_}
-use native.Mathlib.Nat.{zero-add, add-zero, zero-mul, suc-mul, not-suc-le-zero, le-of-suc-le-suc}
+use mathlib.Core.List.{List, [], _∷_, _++_, map, append-assoc}
+use Prim.Native.Nat.{ℕ, zero, suc, _+_, _-_, _≤_, _<_}
+use native.Mathlib.Nat.{zero-add, add-zero}
 use native.Mathlib.Numerals.{add-one}
 use native.Mathlib.Omega.{arith}
 use lib.ListN.{length, take, drop, getD, set, length-append, length-drop, take-append-drop, List·getD-append}
@@ -144,29 +141,6 @@ placed-word at j x xs buf out hj room e ex =
     ∙ placed-then at (take j xs) (getD xs j 0 ∷ []) buf (omega arith)
     ∙ ap (λ l. placed at l buf) (sym (take-suc xs j 0 hj) ∙ ap (λ n. take n xs) (sym (add-one j)))
 
-module _ {A : Type 0} where
-  concat-snoc : (n : ℕ) (f : ℕ → List A) → concat (tabulate (suc n) f) ≡ concat (tabulate n f) ++ f n
-  concat-snoc zero f = append-nil (f 0)
-  concat-snoc (suc n) f =
-      ap (λ r. f 0 ++ r) (concat-snoc n (λ k. f (suc k))) ∙ sym (append-assoc (f 0) (concat (tabulate n (λ k. f (suc k)))) (f (suc n)))
-
-  pub concat-more : (n : ℕ) (f : ℕ → List A) → concat (tabulate (n + 1) f) ≡ concat (tabulate n f) ++ f n
-  concat-more n f = ap (λ m. concat (tabulate m f)) (add-one n) ∙ concat-snoc n f
-
-  pub concat-more-long : (n : ℕ) (f : ℕ → List A) → length (concat (tabulate (n + 1) f)) ≡ length (concat (tabulate n f)) + length (f n)
-  concat-more-long n f = ap length (concat-more n f) ∙ length-append (concat (tabulate n f)) (f n)
-
-pub concat-fits : {A : Type 0} (n k : ℕ) (f : ℕ → List A) → k < n → length (concat (tabulate k f)) + length (f k) ≤ length (concat (tabulate n f))
-concat-fits zero k f h = absurd (not-suc-le-zero h)
-concat-fits (suc n) zero f h = omega (arith, length-append (f 0) (concat (tabulate n (λ i. f (suc i)))))
-concat-fits (suc n) (suc k) f h =
-    omega (
-      arith,
-      length-append (f 0) (concat (tabulate k (λ i. f (suc i)))),
-      length-append (f 0) (concat (tabulate n (λ i. f (suc i)))),
-      concat-fits n k (λ i. f (suc i)) (le-of-suc-le-suc h),
-    )
-
 concat-append : {A : Type 0} (xss yss : List (List A)) → concat (xss ++ yss) ≡ concat xss ++ concat yss
 concat-append [] yss = refl
 concat-append (xs ∷ xss) yss = ap (λ r. xs ++ r) (concat-append xss yss) ∙ sym (append-assoc xs (concat xss) (concat yss))
@@ -183,46 +157,3 @@ words-concat g (suc n) f =
     ap concat (map-append g (f 0) (concat (tabulate n (λ i. f (suc i)))))
     ∙ concat-append (map g (f 0)) (map g (concat (tabulate n (λ i. f (suc i)))))
     ∙ ap (λ r. concat (map g (f 0)) ++ r) (words-concat g n (λ i. f (suc i)))
-
--- n lists of one length
-pub concat-tabulate-length : {A : Type 0} (m n : ℕ) (f : ℕ → List A) → ((k : ℕ) → k < n → length (f k) ≡ m) → length (concat (tabulate n f)) ≡ n * m
-concat-tabulate-length m zero f h = sym (zero-mul m)
-concat-tabulate-length m (suc n) f h =
-    omega (
-      arith,
-      length-append (f 0) (concat (tabulate n (λ k. f (suc k)))),
-      h 0 (omega arith),
-      suc-mul n m,
-      concat-tabulate-length m n (λ k. f (suc k)) (λ k l. h (suc k) (omega arith)),
-    )
-
--- a buffer out with the first k + 1 records, and the place behind them
-pub record Added (at k : ℕ) (f : ℕ → List ℕ) (buf out : List ℕ) (next : ℕ) : Type 0 where
-  pub words : out ≡ placed at (concat (tabulate (k + 1) f)) buf
-  pub place : next ≡ at + length (concat (tabulate (k + 1) f))
-  pub long : length out ≡ length buf
-
-module _ (n at k here next : ℕ) (f : ℕ → List ℕ) (buf old out : List ℕ) where
-  -- old has the first k records, and record k is written behind them
-  pub placed-record : k < n → at + length (concat (tabulate n f)) ≤ length buf →
-      here ≡ at + length (concat (tabulate k f)) → old ≡ placed at (concat (tabulate k f)) buf →
-      next ≡ here + length (f k) → out ≡ placed here (f k) old → Added at k f buf out next
-  placed-record hk room eh e en e' =
-      record { words = words; place = place; long = ap length words ∙ placed-length at all buf (omega (arith, fits, more-long)) }
-    where
-      all : List ℕ
-      all = concat (tabulate (k + 1) f)
-
-      more-long : length all ≡ length (concat (tabulate k f)) + length (f k)
-      more-long = concat-more-long k f
-
-      fits : length (concat (tabulate k f)) + length (f k) ≤ length (concat (tabulate n f))
-      fits = concat-fits n k f hk
-
-      words : out ≡ placed at all buf
-      words =
-          e' ∙ ap₂ {C = List ℕ} (λ m l. placed m (f k) l) eh e ∙ placed-then at (concat (tabulate k f)) (f k) buf (omega (arith, fits))
-          ∙ ap (λ l. placed at l buf) (sym (concat-more k f))
-
-      place : next ≡ at + length all
-      place = omega (arith, en, eh, more-long)

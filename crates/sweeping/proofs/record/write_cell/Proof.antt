@@ -1,77 +1,93 @@
 -- Sign word, lower vertices, upper vertices: the words of a list cell of dimension d + 1, piece by piece. Assumes nothing.
 use mathlib.Core.Path.{_≡_, sym, ap, _∙_}
 use mathlib.Core.List.{List}
-use Prim.Native.Nat.{ℕ, suc, _+_, _-_, _*_, _≤_}
+use Prim.Native.Nat.{ℕ, suc, _+_, _-_, _*_, _≤_, _<_}
 use native.Mathlib.Nat.{mul-le-mul-left}
 use native.Mathlib.Omega.{arith}
 use borrow.Author.Needs.{needs}
-use lib.ListN.{length, take, set, length-set, length-take}
+use lib.ListN.{length, take, drop, getD, set, length-set}
+use lib.Seq.{length-take-le, getD-take}
 use Rattle.words.specs.Records.{tabulate}
-use Rattle.words.specs.Inner.Placed.{placed}
+use Rattle.words.specs.Inner.Placed.{placed, Put}
+use Rattle.words.proofs.Records.{tabulate-length}
 use Rattle.words.proofs.Placed.{placed-length}
+use Rattle.words.proofs.Writing.{Left, left-starts, left-next, left-run, left-none}
 use Rattle.records.specs.Layout.{listSize, recordSize, vertexPlace}
 use Rattle.sweeping.specs.Inner.Written.{recordWords}
 use Rattle.simplex.specs.SignWords.{turnedSign}
 use Rattle.sweeping.specs.Inner.RecordWords.{liftedFrom}
-use Rattle.sweeping.proofs.Pieces.{placed-start, placed-piece}
 use Rattle.sweeping.proofs.RecordLaws.{record-long, word-sign, word-lower, word-upper}
 use Rattle.sweeping.proofs.record.write_cell.Statement.{statement}
 use Rattle.sweeping.proofs.record.write_cell.Tie as tie
 
-abbrev words : tie.Start → List ℕ
-words c = let a = c .args in recordWords (a .d) (a .v) (a .s) (a .h) (a .table .now) (a .i) (a .p) (a .k)
+abbrev recordOf : tie.Start → List ℕ
+recordOf c = let a = c .args in recordWords (a .d) (a .v) (a .s) (a .h) (a .table .now) (a .i) (a .p) (a .k)
 
-long : (c : tie.Start) → length (words c) ≡ recordSize (suc (c .args .d))
+-- the words that are written, the first of the record
+abbrev words : tie.Start → List ℕ
+words c = take (listSize (suc (c .args .d))) (recordOf c)
+
+long : (c : tie.Start) → length (words c) ≡ listSize (suc (c .args .d))
 long c =
-    record-long _ _ _ _ _ _ _ _ (c .pre .0 .long) (c .pre .1 .0 .1) (c .pre .1 .0 .2)
+    let all : length (recordOf c) ≡ recordSize (suc (c .args .d)) =
+    record-long _ _ _ _ _ _ _ _ (c .pre .0 .long) (c .pre .1 .0 .1) (c .pre .1 .0 .2) in
+    length-take-le _ (recordOf c) (omega arith)
 
 room : (c : tie.Start) → c .args .at + length (words c) ≤ length (c .args .out .now)
 room c = omega (arith, long c)
+
+word : (c : tie.Start) (m x : ℕ) → m < listSize (suc (c .args .d)) → getD (recordOf c) m 0 ≡ x → x ≡ getD (words c) m 0
+word c m x h e = sym (getD-take (listSize (suc (c .args .d))) (recordOf c) m 0 h ∙ e)
 
 -- how many vertices are at this level
 abbrev lower : tie.Start → ℕ
 lower c = c .args .d + 1 - c .args .k
 
--- a buffer with some of the words is as long as before
-kept : (c : tie.Start) (n : ℕ) (E : List ℕ) → E ≡ placed (c .args .at) (take n (words c)) (c .args .out .now) → length E ≡ length (c .args .out .now)
-kept c n E e = ap length e ∙ placed-length _ (take n (words c)) _ (omega (arith, room c, length-take n (words c)))
+-- the first n words are written, and E is reached
+abbrev Upto : tie.Start → ℕ → ℕ → List ℕ → Type 0
+Upto c n cur E = Left (c .args .at) (words c) (c .args .out .now) cur (drop n (words c)) E
 
 -- the sign word is written,
 abbrev start : tie.After-turned → tie.Start
 start c = search needs
 
 signed : (c : tie.After-turned) → let s = start c in
-    set (s .args .out .now) (s .args .at) (c .turned .result) ≡ placed (s .args .at) (take (vertexPlace 0) (words s)) (s .args .out .now)
+    Upto s (vertexPlace 0) (s .args .at + vertexPlace 0) (set (s .args .out .now) (s .args .at) (c .turned .result))
 signed c =
     let s = start c in
     let a = s .args in
-    placed-start _ _ (words s) _ (omega (arith, long s)) (room s)
+    left-next 0 (words s) 0 (omega (arith, long s)) (left-starts _ (words s) _ (room s)) _ _
     (c .turned .ensures ∙ ap (λ (w : ℕ). turnedSign w (a .k * a .d)) (c .before .sign .ensures)
-    ∙ sym (word-sign _ _ _ _ _ _ _ _ (s .pre .0 .long) (s .pre .1 .0 .1) (s .pre .1 .0 .2)))
+    ∙ word s 0 _ (omega arith) (word-sign _ _ _ _ _ _ _ _ (s .pre .0 .long) (s .pre .1 .0 .1) (s .pre .1 .0 .2))) (omega arith)
 
 -- then the lower vertices,
 lowered : (c : tie.Start) (old E : List ℕ) → let a = c .args in
-    old ≡ placed (a .at) (take (vertexPlace 0) (words c)) (a .out .now) →
+    Upto c (vertexPlace 0) (a .at + vertexPlace 0) old →
     E ≡ placed (a .at + vertexPlace 0) (tabulate (lower c) (liftedFrom (a .d) (a .v) (a .s) (a .table .now) (a .i) (a .p) (a .k))) old →
-    E ≡ placed (a .at) (take (vertexPlace 0 + lower c) (words c)) (a .out .now)
-lowered c old E eo e =
+    Upto c (vertexPlace 0 + lower c) (a .at + vertexPlace 0 + lower c) E
+lowered c old E l e =
     let a = c .args in
-    placed-piece _ (vertexPlace 0) (lower c) (a .at + vertexPlace 0) (liftedFrom _ _ _ _ _ _ _) (words c) _ _ _ (omega (arith, long c)) (room c)
-    (λ j l. sym (word-lower _ _ _ _ _ _ _ _ (c .pre .0 .long) (c .pre .1 .0 .1) (c .pre .1 .0 .2) (vertexPlace 0 + j) j (omega arith) (omega arith)))
-    (omega arith) eo e
+    let f : ℕ → ℕ = (liftedFrom (a .d) (a .v) (a .s) (a .table .now) (a .i) (a .p) (a .k)) in
+    left-run (words c) (vertexPlace 0) (lower c) (omega (arith, long c)) l 0 f _ E
+    (λ j less. word c (vertexPlace 0 + j) _ (omega arith)
+    (word-lower _ _ _ _ _ _ _ _ (c .pre .0 .long) (c .pre .1 .0 .1) (c .pre .1 .0 .2) (vertexPlace 0 + j) j (omega arith) (omega arith)))
+    (record { place = omega (arith, tabulate-length (lower c) f); content = e })
 
 -- and the upper ones
 whole : (c : tie.Start) (old E : List ℕ) → let a = c .args in
-    old ≡ placed (a .at) (take (vertexPlace 0 + lower c) (words c)) (a .out .now) →
+    Upto c (vertexPlace 0 + lower c) (a .at + vertexPlace 0 + lower c) old →
     E ≡ placed (a .at + vertexPlace 0 + lower c) (tabulate (a .k + 1) (liftedFrom (a .d) (a .v) (a .s) (a .table .now) (a .i + 1) (a .p) 0)) old →
-    E ≡ placed (a .at) (take (listSize (suc (a .d))) (words c)) (a .out .now)
-whole c old E eo e =
+    E ≡ placed (a .at) (words c) (a .out .now)
+whole c old E left e =
     let a = c .args in
-    let all : vertexPlace 0 + lower c + (a .k + 1) ≡ listSize (suc (a .d)) = omega arith in
-    placed-piece _ (vertexPlace 0 + lower c) (a .k + 1) (a .at + vertexPlace 0 + lower c) (liftedFrom _ _ _ _ (a .i + 1) _ 0) (words c) _ _ _
-    (omega (arith, long c)) (room c) (λ j l. sym (word-upper _ _ _ _ _ _ _ _ (c .pre .0 .long) (c .pre .1 .0 .1) (c .pre .1 .0 .2)
-    (vertexPlace 0 + lower c + j) j (omega arith) (omega arith))) (omega arith) eo e
-    ∙ ap (λ (n : ℕ). placed (a .at) (take n (words c)) (a .out .now)) all
+    let n = vertexPlace 0 + lower c in
+    let f : ℕ → ℕ = (liftedFrom (a .d) (a .v) (a .s) (a .table .now) (a .i + 1) (a .p) 0) in
+    let put : Put (a .at + vertexPlace 0 + lower c) (tabulate (a .k + 1) f) old (a .at + n + (a .k + 1)) E =
+    record { place = omega (arith, tabulate-length (a .k + 1) f); content = e } in
+    left-none (words c) (n + (a .k + 1)) (omega (arith, long c))
+    (left-run (words c) n (a .k + 1) (omega (arith, long c)) left 0 f _ E
+    (λ j less. word c (n + j) _ (omega arith)
+    (word-upper _ _ _ _ _ _ _ _ (c .pre .0 .long) (c .pre .1 .0 .1) (c .pre .1 .0 .2) (n + j) j (omega arith) (omega arith))) put) .content
 
 mul-turned : tie.Need-mul-turned
 mul-turned c =
@@ -89,7 +105,7 @@ write-vertices-requires-2 : tie.Need-write-vertices-requires-2
 write-vertices-requires-2 c κs =
     let s : tie.Start = search needs in
     let first : tie.After-write-vertices = search needs in
-    let same = kept s (vertexPlace 0 + lower s) _ (lowered s _ _ (signed (search needs)) (first .write-vertices .ensures)) in
+    let same = lowered s _ _ (signed (search needs)) (first .write-vertices .ensures) .same in
     (s .pre .0, ((omega arith, s .pre .1 .0 .1, omega arith), omega (arith, s .pre .1 .1, same)))
 
 returns : tie.Need-returns
@@ -100,7 +116,7 @@ returns c =
     whole s _ _ (lowered s _ _ (signed (search needs)) (first .write-vertices .ensures)) (second .write-vertices2 .ensures)
 
 same-length : tie.Need-same-length
-same-length c = let s : tie.Start = search needs in kept s (listSize (suc (s .args .d))) _ (returns c)
+same-length c = let s : tie.Start = search needs in ap length (returns c) ∙ placed-length _ (words s) _ (room s)
 
 pub write-cell-spec : {M : Type 1} → statement M
 write-cell-spec =

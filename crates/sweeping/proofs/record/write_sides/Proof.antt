@@ -1,10 +1,14 @@
 -- Sides at one place, over faces in order. The loop has written the first j. Assumes nothing.
 use mathlib.Core.List.{List}
 use Prim.Native.Nat.{ℕ, _+_, _-_}
+use native.Mathlib.Nat.{add-zero}
 use native.Mathlib.Omega.{arith}
+use lib.ListN.{drop}
 use borrow.Author.Needs.{needs}
+use Rattle.words.specs.Records.{tabulate}
+use Rattle.words.proofs.Records.{tabulate-length}
+use Rattle.words.proofs.Writing.{Left, left-starts, left-value, left-values}
 use Rattle.sweeping.specs.Inner.Across.{sideWord}
-use Rattle.sweeping.proofs.Pieces.{Filled, fill-starts, fill-goes, fill-ends}
 use Rattle.sweeping.proofs.record.write_sides.Statement.{statement}
 use Rattle.sweeping.proofs.record.write_sides.Tie as tie
 
@@ -13,7 +17,9 @@ abbrev sidesFrom : List ℕ → List ℕ → ℕ → ℕ → ℕ → ℕ
 sidesFrom firsts backs a l j = sideWord firsts backs (a + j) l
 
 abbrev Inv-loop : tie.InvT-loop
-Inv-loop d a count l firsts backs at out₀ j₀ out j = Filled at count (sidesFrom firsts backs a l) out₀ j out
+Inv-loop d a count l firsts backs at out₀ j₀ out j =
+    let all = tabulate count (sidesFrom firsts backs a l) in
+    Left at all out₀ (at + j) (drop j all) out
 
 abbrev μ-loop : tie.MeasureT-loop
 μ-loop d a count l firsts backs at out₀ j₀ out j = 8 - j
@@ -24,13 +30,14 @@ sides s = let a = s .args in sidesFrom (a .firsts .now) (a .backs .now) (a .a) (
 loop-holds : tie.Need-loop-holds Inv-loop μ-loop
 loop-holds c =
     let s : tie.Start Inv-loop μ-loop = search needs in
-    fill-starts _ _ (sides s) _ (s .pre .1 .1)
+    let a = s .args in
+    rw add-zero (left-starts (a .at) _ (a .out .now) (omega (arith, tabulate-length (a .count) (sides s))))
 
 returns : tie.Need-returns Inv-loop μ-loop
 returns c =
     let s : tie.Start Inv-loop μ-loop = search needs in
     let at : tie.At-loop Inv-loop μ-loop = search needs in
-    fill-ends _ _ (sides s) _ _ _ (c .if1 .taken) (at .loop .inv)
+    left-values _ _ (sides s) (c .if1 .taken) (at .loop .inv) .content
 
 side-word-requires : tie.Need-side-word-requires Inv-loop μ-loop
 side-word-requires c κs =
@@ -42,13 +49,13 @@ loop-again : tie.Need-loop-again Inv-loop μ-loop
 loop-again c =
     let s : tie.Start Inv-loop μ-loop = search needs in
     let at : tie.At-loop Inv-loop μ-loop = search needs in
-    fill-goes _ _ (sides s) _ _ _ _ (omega arith) (c .side-word .ensures) (at .loop .inv)
+    left-value (s .args .count) (at .loop .j) (sides s) _ _ (omega arith) (at .loop .inv) (c .side-word .ensures) (omega arith)
 
 returns-2 : tie.Need-returns-2 Inv-loop μ-loop
 returns-2 c =
     let s : tie.Start Inv-loop μ-loop = search needs in
     let at : tie.At-loop Inv-loop μ-loop = search needs in
-    fill-ends _ _ (sides s) _ _ _ (omega arith) (at .loop .inv)
+    left-values (s .args .count) (at .loop .j) (sides s) (omega arith) (at .loop .inv) .content
 
 pub write-sides-spec : {M : Type 1} → statement M
 write-sides-spec =

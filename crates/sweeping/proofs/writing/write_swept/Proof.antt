@@ -1,74 +1,57 @@
 -- All levels. The loop has written the first i of them. Assumes nothing.
-use mathlib.Core.Path.{_≡_, sym, ap, _∙_}
+use mathlib.Core.Path.{ap}
 use mathlib.Core.List.{List}
-use Prim.Native.Nat.{ℕ, _+_, _-_, _≤_}
+use Prim.Native.Nat.{ℕ, _-_}
 use native.Mathlib.Omega.{arith}
 use borrow.Author.Needs.{needs}
-use lib.ListN.{length}
+use lib.ListN.{length, drop}
 use Rattle.words.specs.Records.{tabulate, concat}
-use Rattle.words.specs.Inner.Placed.{placed}
+use Rattle.words.proofs.Writing.{Left, left-starts, left-record, left-record-fits, left-records}
 use Rattle.sweeping.specs.Inner.Written.{levelWords}
-use Rattle.words.proofs.Placed.{placed-none, concat-fits, placed-record}
 use Rattle.sweeping.proofs.SweptWords.{all-is}
 use Rattle.sweeping.proofs.writing.write_swept.Statement.{statement}
 use Rattle.sweeping.proofs.writing.write_swept.Tie as tie
 
 abbrev Inv-loop : tie.InvT-loop
 Inv-loop d v s h table out₀ next₀ i₀ out next i =
-    (i ≤ h) × (next ≡ 0 + length (concat (tabulate i (levelWords d v s h table)))) × (length out ≡ length out₀)
-    × (out ≡ placed 0 (concat (tabulate i (levelWords d v s h table))) out₀)
+    let all = tabulate h (levelWords d v s h table) in
+    Left 0 (concat all) out₀ next (concat (drop i all)) out
 
 abbrev μ-loop : tie.MeasureT-loop
 μ-loop d v s h table out₀ next₀ i₀ out next i = h - i
 
-room : (c : tie.Start Inv-loop μ-loop) →
-    0 + length (concat (tabulate (c .args .h) (levelWords (c .args .d) (c .args .v) (c .args .s) (c .args .h) (c .args .table .now))))
-    ≤ length (c .args .out .now)
-room c =
-    let a = c .args in
-    omega (arith, c .pre .1, ap length (all-is (a .d) (a .v) (a .s) (a .h) (a .table .now)))
+abbrev levels : tie.Start Inv-loop μ-loop → ℕ → List ℕ
+levels c = let a = c .args in levelWords (a .d) (a .v) (a .s) (a .h) (a .table .now)
 
 loop-holds : tie.Need-loop-holds Inv-loop μ-loop
-loop-holds c = (omega arith, omega arith, omega arith, sym (placed-none (0) _))
+loop-holds c =
+    let s : tie.Start Inv-loop μ-loop = search needs in
+    let a = s .args in
+    left-starts 0 _ (a .out .now) (omega (arith, s .pre .1, ap length (all-is (a .d) (a .v) (a .s) (a .h) (a .table .now))))
 
 write-level-requires : tie.Need-write-level-requires Inv-loop μ-loop
 write-level-requires c κs =
-    let start : tie.Start Inv-loop μ-loop = search needs in
+    let s : tie.Start Inv-loop μ-loop = search needs in
     let at : tie.At-loop Inv-loop μ-loop = search needs in
-    let a = start .args in (
-      start .pre .0,
-      (
-        c .before .loop-test .taken,
-        omega (
-          arith,
-          room start,
-          at .loop .inv .1,
-          at .loop .inv .2,
-          concat-fits _ _ (levelWords (a .d) (a .v) (a .s) (a .h) (a .table .now)) (c .before .loop-test .taken),
-        ),
-      ),
-    )
+    let more = c .before .loop-test .taken in
+    (s .pre .0, (more, left-record-fits _ _ (levels s) more (at .loop .inv)))
 
 loop-again : tie.Need-loop-again Inv-loop μ-loop
 loop-again c =
-    let start : tie.Start Inv-loop μ-loop = search needs in
+    let s : tie.Start Inv-loop μ-loop = search needs in
     let at : tie.At-loop Inv-loop μ-loop = search needs in
-    let a = start .args in
-    let call = (let done : tie.After-write-level Inv-loop μ-loop = search needs in done .write-level) in
-    let more =
-    placed-record (a .h) (0) _ _ _ (levelWords (a .d) (a .v) (a .s) (a .h) _) _ _ _ (omega arith) (room start)
-    (at .loop .inv .1) (at .loop .inv .3) (call .ensures .0) (call .ensures .1) in
-    (omega arith, more .place, more .long, more .words)
+    let turn : tie.In-loop Inv-loop μ-loop = search needs in
+    let done : tie.After-write-level Inv-loop μ-loop = search needs in
+    let call = done .write-level .ensures in
+    left-record _ _ (levels s) (turn .loop-test .taken) (at .loop .inv) _ _ (record { place = call .0; content = call .1 })
 
 returns : tie.Need-returns Inv-loop μ-loop
 returns c =
-    let start : tie.Start Inv-loop μ-loop = search needs in
-    let at = c .before in
-    let a = start .args in
-    let all : at .loop .i ≡ a .h = omega arith in
-    let words = ap (λ (m : ℕ). concat (tabulate m (levelWords (a .d) (a .v) (a .s) (a .h) (a .table .now)))) all
-    ∙ sym (all-is _ _ _ (a .h) _) in
-    (omega (arith, at .loop .inv .1, ap length words), at .loop .inv .3 ∙ ap (λ (l : List ℕ). placed (0) l (a .out .now)) words)
+    let s : tie.Start Inv-loop μ-loop = search needs in
+    let a = s .args in
+    let put = left-records (a .h) (c .before .loop .i) (levels s) (omega arith) (c .before .loop .inv) in
+    let is = all-is (a .d) (a .v) (a .s) (a .h) (a .table .now) in
+    (rw is (omega (arith, put .place)), rw is (put .content))
 
 pub write-swept-spec : {M : Type 1} → statement M
 write-swept-spec =

@@ -6,11 +6,12 @@ use lib.ListN.{length}
 use borrow.Author.Count.{below-none, below-more}
 use borrow.Author.Needs.{needs}
 use borrow.Author.Tests.{not-true, not-false}
+use Rattle.words.proofs.Records.{record-fits, record-next}
 use Rattle.simplex.proofs.Rows.{sameRow-true}
 use Rattle.simplex.specs.Cell.{sameRow}
 use Rattle.tables.specs.Inner.Held.{recordHeld, run}
 use Rattle.records.specs.Layout.{recordSize}
-use Rattle.tables.proofs.Filling.{record-fits, record-next, table-other, table-same}
+use Rattle.tables.proofs.Filling.{table-other, table-same}
 use Rattle.tables.proofs.table.same.Statement.{statement}
 use Rattle.tables.proofs.table.same.Tie as tie
 

@@ -53,7 +53,8 @@ returns c =
     let one = c .before .before in
     let s : tie.Start = search needs in
     let a = s .args in
-    let host = host-outside (a .d) (a .v) (a .s) (a .table .now) (a .faces .now) (sym (one .within .ensures) ∙ not-true _ (c .before .if1 .taken)) in
+    let host = host-outside (a .d) (a .v) (a .s) (a .table .now) (a .faces .now)
+    (sym (one .within .ensures) ∙ not-true _ (c .before .if1 .taken)) in
     (toZ-ofZ w64 _ (search needs) ∙ c .minus .ensures ∙ host .0, host .1)
 
 returns-2 : tie.Need-returns-2
@@ -87,7 +88,8 @@ returns-3 c =
     let a = start (n .before) .args in
     let words = front (search needs) .1 in
     let host = host-right (a .d) (a .v) (a .s) (a .table .now) (a .faces .now) (two .if2 .left ∙ twice n) in (
-      toZ-ofZ w64 _ (search needs) ∙ call .faces-from .ensures .0 ∙ ap (λ ws. facesAnswer (a .d) (a .v) (a .s) ws (a .faces .now)) words ∙ host .0,
+      toZ-ofZ w64 _ (search needs) ∙ call .faces-from .ensures .0
+          ∙ ap (λ ws. facesAnswer (a .d) (a .v) (a .s) ws (a .faces .now)) words ∙ host .0,
       call .faces-from .ensures .1 ∙ ap (λ ws. facesAfter (a .d) (a .v) (a .s) ws (a .faces .now)) words ∙ host .1,
     )
 
