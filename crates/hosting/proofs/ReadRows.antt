@@ -97,7 +97,8 @@ module _ (b : List ℕ) where
     abbrev pub Told : Outcome ℕ → List ℕ → List ℕ → List ℕ → Type 0
     Told o h c p =
         (o ≡ hostReadOutcome b header cells points)
-        × ((h ≡ hostReadHeader b header cells points) × ((c ≡ hostReadCells b header cells points) × (p ≡ hostReadPoints b header cells points)))
+        × ((h ≡ hostReadHeader b header cells points)
+        × ((c ≡ hostReadCells b header cells points) × (p ≡ hostReadPoints b header cells points)))
 
     told : (o : Outcome ℕ) → o ≡ hostReadOutcome b header cells points →
         Told o (after o (headerBytes b) header) (after o (bytesOf (fileWords b)) cells) (after o (pointBytes b) points)

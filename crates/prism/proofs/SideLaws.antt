@@ -83,7 +83,8 @@ pub record SideAt (d k j : ℕ) : Type 0 where
   pub place : sidePlace d k j < d
   pub pair : sidePair d (sideFace d k j) (sidePlace d k j) ≡ side k j
 
-side-at : (d k j a l : ℕ) → (sideFace d k j ≡ a) × (sidePlace d k j ≡ l) → a ≤ d → l < d → sidePair d a l ≡ side k j → SideAt d k j
+side-at : (d k j a l : ℕ) → (sideFace d k j ≡ a) × (sidePlace d k j ≡ l) → a ≤ d → l < d →
+    sidePair d a l ≡ side k j → SideAt d k j
 side-at d k j a l (p, q) ha hl e =
     record { face = rw p ha; place = rw q hl; pair = ap₂ (sidePair d) p q ∙ e }
 

@@ -27,7 +27,8 @@ abbrev pub prismRow : ℕ → ℕ → ℕ → Row → Row
 prismRow lo hi k v = raised lo (drop k v) ++ raised hi (take (suc k) v)
 
 -- a lower vertex dropped: position j of cell k, 1 ≤ j, is cell k over face k + j
-pub side-low : (lo hi k j : ℕ) (v : Row) → 1 ≤ j → k + j < length v → without j (prismRow lo hi k v) ≡ prismRow lo hi k (without (k + j) v)
+pub side-low : (lo hi k j : ℕ) (v : Row) → 1 ≤ j → k + j < length v →
+    without j (prismRow lo hi k v) ≡ prismRow lo hi k (without (k + j) v)
 side-low lo hi k j v p h =
     without-left j (raised lo (drop k v)) (raised hi (take (suc k) v)) (rw (length-map, length-drop) (omega arith))
     ∙ ap₂ {C = Row} (λ l r. l ++ r) (without-map (λ n. n + lo) j (drop k v) ∙ ap (raised lo) (drop-face k j v))
@@ -92,7 +93,8 @@ pub pair-face : (lo hi d a l : ℕ) (v : Row) → length v ≡ suc d → a ≤ d
     without (sidePosition d a l) (prismRow lo hi (sideCell a l) v) ≡ prismRow lo hi l (without a v)
 pair-face lo hi d a l v e ha hl = go (ltb l a) refl
   where
-    go : (t : Bool) → ltb l a ≡ t → without (cond t (a - l) (d + a - l)) (prismRow lo hi (cond t l (suc l)) v) ≡ prismRow lo hi l (without a v)
+    go : (t : Bool) → ltb l a ≡ t → without (cond t (a - l) (d + a - l)) (prismRow lo hi (cond t l (suc l)) v)
+        ≡ prismRow lo hi l (without a v)
     go true z =
         let y : l < a = ltb-true l a z in
         side-low lo hi l (a - l) v (omega arith) (omega arith) ∙ ap (λ b. prismRow lo hi l (without b v)) (omega arith)

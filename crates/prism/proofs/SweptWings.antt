@@ -21,7 +21,8 @@ use Rattle.prism.specs.Sides.{sideCell, sideFace, sidePlace, sidePositio
 use Rattle.prism.specs.Wings.{backFrom, backTo, cellNumber, sweptWing, wingAside}
 use Rattle.prism.proofs.Meeting.{bottom-none, inner-next, inner-prev, level-next, level-prev, side-meet, side-none, top-none}
 
-pub back-is : (W : ℕ → ℕ → ℕ) (p q n b c : ℕ) → W q c ≡ p → b ≤ c → c < b + n → ((m : ℕ) → m < c → W q m ≡ p → ⊥) → backFrom W p q b n ≡ c
+pub back-is : (W : ℕ → ℕ → ℕ) (p q n b c : ℕ) → W q c ≡ p → b ≤ c → c < b + n →
+    ((m : ℕ) → m < c → W q m ≡ p → ⊥) → backFrom W p q b n ≡ c
 back-is W p q zero b c e l h u = absurd (omega arith)
 back-is W p q (suc n) b c e l h u = go (ℕ-discrete b c) (λ k. back-is W p q n (suc b) c e k (omega arith) u)
   where
@@ -98,7 +99,8 @@ module _ (nv d h : ℕ) (cs : List Cell) (s : Solid nv cs) (ln : All (Long (suc 
           let ej : j ≡ sidePosition d (k + j - suc d) (k - 1) = rw x (omega arith) in
           ap₂ (tw i p) ek ej ∙ side-is i p (k + j - suc d) (k - 1) hi hp (omega arith) (omega arith)
 
-      go1 : (t : Bool) → eqb j (suc d) ≡ t → j ≢ 0 → tw i p k j ≡ cond t (cond (eqb k 0) (cond (eqb i 0) 65535 (nu (i - 1) p d)) (nu i p (k - 1)))
+      go1 : (t : Bool) → eqb j (suc d) ≡ t → j ≢ 0 →
+          tw i p k j ≡ cond t (cond (eqb k 0) (cond (eqb i 0) 65535 (nu (i - 1) p d)) (nu i p (k - 1)))
           (wingAside d S h W i p (sideFace d k j) (sidePlace d k j))
       go1 true e n = ap (tw i p k) (eqb-true j (suc d) e) ∙ goB (eqb k 0) refl
       go1 false e n = goC (leb (k + j) d) refl n (eqb-false j (suc d) e)

@@ -76,7 +76,8 @@ fn write_cell(
     requires ready { ⌜ Ready d v s h (now table) ⌝ }
     requires at { ⌜ (i < h) × (p < s) × (k ≤ d) ⌝ }
     requires room { ⌜ at + recordSize (suc d) ≤ length (now out) ⌝ }
-    ensures { λ _. ⌜ now (out .exit) ≡ placed at (take (listSize (suc d)) (recordWords d v s h (now (table .entry)) i p k)) (now (out .entry)) ⌝ }
+    ensures { λ _. ⌜ now (out .exit)
+        ≡ placed at (take (listSize (suc d)) (recordWords d v s h (now (table .entry)) i p k)) (now (out .entry)) ⌝ }
 {
     out[at] = turned(sign(d, s, table, p), k * d);
     write_vertices(d, v, s, h, table, i, p, k, d + 1 - k, at + VERTICES, out);

@@ -63,9 +63,9 @@ fn back(d: usize, s: usize, table: &[u16], p: usize, q: usize) -> usize
 }
 
 // The cell across a face: its first swept cell at some level, and its own position at the face. EMPTY and 0 where none is across.
-pub struct Beyond {
-    pub first: u16,
-    pub back: usize,
+struct Beyond {
+    first: u16,
+    back: usize,
 }
 
 // The cell across face a of p, at level i.

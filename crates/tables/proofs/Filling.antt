@@ -24,7 +24,8 @@ use Rattle.matching.proofs.KeptRows.{same-false}
 use Rattle.simplex.proofs.Rows.{same-rows}
 
 -- the words of a list are f 0, f 1, ..
-pub is-tabulated : (n : ℕ) (f : ℕ → ℕ) (xs : List ℕ) → length xs ≡ n → ((k : ℕ) → k < n → getD xs k 0 ≡ f k) → xs ≡ tabulate n f
+pub is-tabulated : (n : ℕ) (f : ℕ → ℕ) (xs : List ℕ) → length xs ≡ n →
+    ((k : ℕ) → k < n → getD xs k 0 ≡ f k) → xs ≡ tabulate n f
 is-tabulated n f xs e h =
     ext-getD 0 xs (tabulate n f) (e ∙ sym (tabulate-length n f)) (λ k l. h k (omega arith) ∙ sym (tabulate-at n f k 0 (omega arith)))
 
@@ -40,7 +41,8 @@ parts-of n (suc s) ws e =
     ∙ take-append-drop n ws
 
 -- the first j words of a run written
-module _ (n from to j : ℕ) (words buf old new : List ℕ) (room : to + n ≤ length buf) (e : old ≡ placed to (take j (run n from words)) buf) where
+module _ (n from to j : ℕ) (words buf old new : List ℕ) (room : to + n ≤ length buf)
+    (e : old ≡ placed to (take j (run n from words)) buf) where
   many : length (run n from words) ≡ n
   many = tabulate-length n (λ i. getD words (from + i) 0)
 
@@ -96,7 +98,8 @@ same-append : (u v a b : List ℕ) → length u ≡ length v → sameRow (u ++ a
 same-append [] [] a b e = refl
 same-append [] (y ∷ v) a b e = absurd (omega arith)
 same-append (x ∷ u) [] a b e = absurd (omega arith)
-same-append (x ∷ u) (y ∷ v) a b e = ap (λ t. eqb x y && t) (same-append u v a b (omega arith)) ∙ and-assoc (eqb x y) (sameRow u v) (sameRow a b)
+same-append (x ∷ u) (y ∷ v) a b e = ap (λ t. eqb x y && t) (same-append u v a b (omega arith))
+    ∙ and-assoc (eqb x y) (sameRow u v) (sameRow a b)
 
 -- record p
 module _ (d : ℕ) (rows : List ℕ) (signs : List Sign) (wings : List ℕ) (p : ℕ) where

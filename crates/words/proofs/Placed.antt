@@ -71,7 +71,8 @@ module _ {A : Type 0} where
           ∙ ap (λ n. drop n buf) ends
 
   -- behind what was written the buffer is as it was
-  pub placed-behind : (at : ℕ) (xs buf : List A) → at + length xs ≤ length buf → drop (at + length xs) (placed at xs buf) ≡ drop (at + length xs) buf
+  pub placed-behind : (at : ℕ) (xs buf : List A) → at + length xs ≤ length buf →
+      drop (at + length xs) (placed at xs buf) ≡ drop (at + length xs) buf
   unfolding placed
   placed-behind at xs buf h =
       ap (drop (at + length xs)) (sym (append-assoc (take at buf) xs (drop (at + length xs) buf)))
@@ -88,7 +89,8 @@ module _ {A : Type 0} where
   pub placed-read : (at : ℕ) (xs buf : List A) → at ≤ length buf → take (length xs) (drop at (placed at xs buf)) ≡ xs
   unfolding placed
   placed-read at xs buf room =
-      ap (take (length xs)) (drop-at (take at buf) (xs ++ drop (at + length xs) buf) at (length-take-le at buf room)) ∙ take-at xs _ (length xs) refl
+      ap (take (length xs)) (drop-at (take at buf) (xs ++ drop (at + length xs) buf) at (length-take-le at buf room))
+      ∙ take-at xs _ (length xs) refl
 
   -- a longer list written over a list
   pub placed-over : (at : ℕ) (xs ys buf : List A) → length xs ≤ length ys → at + length xs ≤ length buf →

@@ -44,7 +44,8 @@ module _ {A : Type 0} where
         content = q .content ∙ rw (p .place, p .content) (placed-then at xs ys old (omega (arith, p .place)));
       }
 
-  pub put-cons : {at cur next : ℕ} {x : A} {ys old buf new : List A} → Put at (x ∷ []) old cur buf → Put cur ys buf next new → at < length old →
+  pub put-cons : {at cur next : ℕ} {x : A} {ys old buf new : List A} → Put at (x ∷ []) old cur buf →
+      Put cur ys buf next new → at < length old →
       Put at (x ∷ ys) old next new
   put-cons p q h = put-then p q (omega (arith, p .place))
 
@@ -78,7 +79,8 @@ module _ {A : Type 0} where
     pub left-fits : (a b : List A) → Left at all old cur (a ++ b) buf → cur + length a ≤ length buf
     left-fits a b l = omega (arith, l .room, length-append a b)
 
-    pub left-goes : (a b : List A) (next : ℕ) (new : List A) → Left at all old cur (a ++ b) buf → Put cur a buf next new → Left at all old next b new
+    pub left-goes : (a b : List A) (next : ℕ) (new : List A) → Left at all old cur (a ++ b) buf → Put cur a buf next new →
+        Left at all old next b new
     left-goes a b next new l p =
         let fits = left-fits a b l in
         let same : length new ≡ length buf = ap length (p .content) ∙ placed-length cur a buf fits in
@@ -134,7 +136,8 @@ module _ {A : Type 0} where
           left-some next new (rw same at p)
 
     -- element k of n tabulated ones of which those from k on are left
-    pub left-value : (n k : ℕ) (f : ℕ → A) (next : ℕ) (x : A) → k < n → Left at all old cur (drop k (tabulate n f)) buf → x ≡ f k → next ≡ cur + 1 →
+    pub left-value : (n k : ℕ) (f : ℕ → A) (next : ℕ) (x : A) → k < n →
+        Left at all old cur (drop k (tabulate n f)) buf → x ≡ f k → next ≡ cur + 1 →
         Left at all old next (drop (k + 1) (tabulate n f)) (set buf cur x)
     left-value n k f next x h l e here =
         left-next x (tabulate n f) k (omega (arith, tabulate-length n f)) l next x (e ∙ sym (tabulate-at n f k x h)) here
@@ -153,7 +156,8 @@ module _ {A : Type 0} where
       pub left-record : (next : ℕ) (new : List A) → Put cur (f k) buf next new → Left at all old next (concat (drop (k + 1) (tabulate n f))) new
       left-record next new p = left-goes (f k) (concat (drop (k + 1) (tabulate n f))) next new (rw next-record at l) p
 
-    pub left-records : (n k : ℕ) (f : ℕ → List A) → n ≤ k → Left at all old cur (concat (drop k (tabulate n f))) buf → Put at all old cur buf
+    pub left-records : (n k : ℕ) (f : ℕ → List A) → n ≤ k → Left at all old cur (concat (drop k (tabulate n f))) buf →
+        Put at all old cur buf
     left-records n k f h l =
         let none : length (tabulate n f) ≤ k = omega (arith, tabulate-length n f) in
         left-ends (rw (drop-of-length-le (tabulate n f) none) at l)
@@ -164,10 +168,12 @@ module _ {A : Type 0} where
       pub left-item-fits : cur + length (g (getD xs k z)) ≤ length buf
       left-item-fits = left-fits (g (getD xs k z)) (concat (map g (drop (k + 1) xs))) (rw (drop-next z xs k h) at l)
 
-      pub left-item : (next : ℕ) (new : List A) → Put cur (g (getD xs k z)) buf next new → Left at all old next (concat (map g (drop (k + 1) xs))) new
+      pub left-item : (next : ℕ) (new : List A) → Put cur (g (getD xs k z)) buf next new →
+          Left at all old next (concat (map g (drop (k + 1) xs))) new
       left-item next new p = left-goes (g (getD xs k z)) (concat (map g (drop (k + 1) xs))) next new (rw (drop-next z xs k h) at l) p
 
-    pub left-items : {B : Type 0} (g : B → List A) (xs : List B) (k : ℕ) → length xs ≤ k → Left at all old cur (concat (map g (drop k xs))) buf →
+    pub left-items : {B : Type 0} (g : B → List A) (xs : List B) (k : ℕ) → length xs ≤ k →
+        Left at all old cur (concat (map g (drop k xs))) buf →
         Put at all old cur buf
     left-items g xs k h l = left-ends (rw (drop-of-length-le xs h) at l)
 
@@ -175,11 +181,13 @@ module _ {A : Type 0} where
     left-ahead rest l = rw (l .put .place, l .put .content) (placed-behind at (l .done) old (omega (arith, l .put .place, l .room, l .same)))
 
     -- before it too
-    pub left-before : (rest : List A) → Left at all old cur rest buf → (i : ℕ) (z : A) → i < at → at ≤ length old → getD buf i z ≡ getD old i z
+    pub left-before : (rest : List A) → Left at all old cur rest buf → (i : ℕ) (z : A) → i < at → at ≤ length old →
+        getD buf i z ≡ getD old i z
     left-before rest l i z h room = rw (l .put .content) (placed-before at (l .done) old i z h room)
 
     -- what is written from the start on is read there
-    pub left-read : (rest : List A) → Left at all old cur rest buf → at ≡ 0 → (p n : ℕ) → p + n ≤ cur → take n (drop p buf) ≡ take n (drop p all)
+    pub left-read : (rest : List A) → Left at all old cur rest buf → at ≡ 0 → (p n : ℕ) → p + n ≤ cur →
+        take n (drop p buf) ≡ take n (drop p all)
     left-read rest l e p n h =
         let start : Put 0 (l .done) old cur buf = rw e at (l .put) in
         rw (put-first start, sym (l .parts))

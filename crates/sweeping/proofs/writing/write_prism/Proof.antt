@@ -53,7 +53,8 @@ loop-again c =
     let turn : tie.In-loop Inv-loop μ-loop = search needs in
     let done : tie.After-write-record Inv-loop μ-loop = search needs in
     let call = done .write-record .ensures in
-    left-record (s .args .d + 1) (at .loop .k) (records s) (omega (arith, turn .loop-test .taken)) (at .loop .inv) _ _ (record { place = call .0; content = call .1 })
+    left-record (s .args .d + 1) (at .loop .k) (records s) (omega (arith, turn .loop-test .taken)) (at .loop .inv) _ _
+    (record { place = call .0; content = call .1 })
 
 returns : tie.Need-returns Inv-loop μ-loop
 returns c =

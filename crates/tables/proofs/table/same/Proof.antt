@@ -17,7 +17,8 @@ use Rattle.tables.proofs.table.same.Tie as tie
 
 abbrev Inv-loop : tie.InvT-loop
 Inv-loop d s rows signs wings table size at₀ p₀ at p =
-    (p ≤ s) × (at ≡ p * recordSize d) × ((q : ℕ) → q < p → run (recordSize d) (q * recordSize d) table ≡ recordHeld d rows signs wings q)
+    (p ≤ s) × (at ≡ p * recordSize d)
+    × ((q : ℕ) → q < p → run (recordSize d) (q * recordSize d) table ≡ recordHeld d rows signs wings q)
 
 abbrev μ-loop : tie.MeasureT-loop
 μ-loop d s rows signs wings table size at₀ p₀ at p = s - p
