@@ -9,7 +9,7 @@ use Rattle.rules.specs.Calls.{accepted}
 use Rattle.rules.proofs.Accepting.{accepted-by}
 use Rattle.records.specs.Layout.{tableLength}
 use Rattle.sweep.specs.Sweep.{sweepInput, sweepOutcome, sweepRules, sweptWords, sweptLength}
-use Rattle.sweeping.specs.Inner.Written.{allWords}
+use Rattle.sweeping.specs.Inner.SweptWords.{allWords}
 use Rattle.sweeping.proofs.SweptWords.{all-words, all-long}
 
 module _ (d v s h : ℕ) (ws : List ℕ) where

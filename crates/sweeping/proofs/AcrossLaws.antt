@@ -17,7 +17,7 @@ use borrow.Author.Tests.{eq-eqb, ne-eqb, le-leb, lt-leb, eqb-true, eqb-false}
 use Rattle.records.specs.Layout.{empty}
 use Rattle.prism.specs.Sides.{sideCell, sideFace, sidePlace}
 use Rattle.prism.specs.Wings.{cellNumber, backTo, wingAside, wingAbove, wingBelow, sweptWing}
-use Rattle.sweeping.specs.Inner.Written.{solidWing, Ready}
+use Rattle.sweeping.specs.Inner.SweptWords.{solidWing, Ready}
 use Rattle.sweeping.specs.Inner.Across.{Holds, SidesFit, Across, sideWord, wingWord}
 use Rattle.sweeping.proofs.Bounds.{number-inside}
 use Rattle.prism.proofs.SideLaws.{side-of-position, side-bounds}

@@ -2,7 +2,7 @@
 pub mod AcrossLaws
 pub mod Bounds
 pub mod RecordLaws
+pub mod Searching
 pub mod SoundTable
 pub mod SweptWords
 pub mod TableWords
-pub mod WingWords

@@ -22,7 +22,7 @@ use Rattle.records.specs.Layout.{Entry, recordSize, listSize, vertexPlace, wing
 use Rattle.solids.specs.Table.{entryAt}
 use Rattle.prism.specs.Cells.{atLevel, lifted, dimension, prismCell}
 use Rattle.prism.specs.Wings.{sweptWing}
-use Rattle.sweeping.specs.Inner.Written.{solidEntries, solidWing, solidVertex, recordWords}
+use Rattle.sweeping.specs.Inner.SweptWords.{solidEntries, solidWing, solidVertex, recordWords}
 use Rattle.simplex.specs.SignWords.{turnedSign}
 use Rattle.sweeping.specs.Inner.RecordWords.{sweptVertex, liftedFrom}
 use Rattle.sweeping.proofs.TableWords.{solid-entry, solid-row-long}

@@ -30,7 +30,7 @@ use Rattle.solids.proofs.Symmetric.{wing, wings-symmetric}
 use Rattle.solids.proofs.Tables.{table-at, table-wing}
 use Rattle.prism.specs.Swept.{sweptCells}
 use Rattle.prism.specs.Wings.{backTo}
-use Rattle.sweeping.specs.Inner.Written.{solidEntries, solidVertex, solidWing, Ready}
+use Rattle.sweeping.specs.Inner.SweptWords.{solidEntries, solidVertex, solidWing, Ready}
 use Rattle.words.proofs.Records.{length-tabulated, tabulate-length}
 use Rattle.prism.proofs.SweptWings.{back-is}
 use Rattle.records.proofs.Parts.{part-long}

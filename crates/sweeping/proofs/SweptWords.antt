@@ -14,7 +14,7 @@ use Rattle.words.specs.Records.{tabulate, concat}
 use Rattle.words.proofs.Records.{length-tabulated, tabulate-ext, tabulate-map}
 use Rattle.records.specs.Layout.{entriesOf, entryWords, tableWords, tableLength, recordSize}
 use Rattle.prism.specs.Swept.{sweptEntry, sweptTable, sweptCells}
-use Rattle.sweeping.specs.Inner.Written.{solidEntries, recordWords, prismWords, levelWords, allWords}
+use Rattle.sweeping.specs.Inner.SweptWords.{solidEntries, recordWords, prismWords, levelWords, allWords}
 use Rattle.words.proofs.Placed.{words-concat}
 use Rattle.sweeping.proofs.RecordLaws.{record-long}
 

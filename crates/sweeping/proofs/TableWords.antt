@@ -14,7 +14,7 @@ use Rattle.records.specs.Layout.{Entry, empty, recordSize, tableLength, entryIn
 use Rattle.records.specs.Inner.Inside.{vertexIn, wingIn}
 use Rattle.records.proofs.Places.{record-long, row-long, entry-at}
 use Rattle.solids.specs.Table.{entryAt}
-use Rattle.sweeping.specs.Inner.Written.{solidEntries, solidVertex, solidWing}
+use Rattle.sweeping.specs.Inner.SweptWords.{solidEntries, solidVertex, solidWing}
 
 module _ (d s : ℕ) (ws : List ℕ) (p : ℕ) (hp : p < s) where
   pub solid-entry : entryAt (solidEntries d s ws) p ≡ entryIn d ws p

@@ -1,4 +1,4 @@
 -- Definitions that serve contracts inside the library and proofs alone: nothing that a call or a theorem promises rests on them.
 pub mod Across
 pub mod RecordWords
-pub mod Written
+pub mod SweptWords

@@ -3,7 +3,7 @@ use records::reading;
 ghost use mathlib.Core.Path.{_≡_};
 ghost use Prim.Native.Nat.{_≤_};
 ghost use Rattle.records.specs.Inner.Inside.{Inside, signIn};
-ghost use Rattle.sweeping.specs.Inner.Written.{solidWing, solidVertex};
+ghost use Rattle.sweeping.specs.Inner.SweptWords.{solidWing, solidVertex};
 
 pub fn wide(x: u16) -> usize
     ensures { λ r. ⌜ r ≡ x ⌝ }

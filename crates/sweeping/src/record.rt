@@ -10,7 +10,7 @@ ghost use Rattle.prism.specs.Cells.{atLevel};
 ghost use Rattle.prism.specs.Swept.{sweptCells};
 ghost use Rattle.sweeping.specs.Inner.RecordWords.{liftedFrom};
 ghost use Rattle.sweeping.specs.Inner.Across.{SidesFit, Across, sideWord, wingWord};
-ghost use Rattle.sweeping.specs.Inner.Written.{recordWords, Ready};
+ghost use Rattle.sweeping.specs.Inner.SweptWords.{recordWords, Ready};
 use crate::reading::sign;
 use crate::reading::vertex;
 use crate::reading::wide;

@@ -7,7 +7,7 @@ ghost use Rattle.rules.specs.Limits.{maxCells};
 ghost use Rattle.prism.specs.Swept.{sweptCells};
 ghost use Rattle.sweeping.specs.Inner.Across.{Holds, faceFirst, faceBack};
 ghost use Rattle.prism.specs.Wings.{cellNumber, backTo, wingAbove, wingBelow};
-ghost use Rattle.sweeping.specs.Inner.Written.{solidWing, Ready};
+ghost use Rattle.sweeping.specs.Inner.SweptWords.{solidWing, Ready};
 use crate::reading::wide;
 use crate::reading::wing;
 use records::sizes::EMPTY;

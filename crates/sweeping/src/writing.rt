@@ -3,7 +3,7 @@ ghost use mathlib.Core.Path.{_≡_};
 ghost use Prim.Native.Nat.{_+_, _<_, _≤_};
 ghost use lib.ListN.{length};
 ghost use Rattle.words.specs.Inner.Placed.{placed};
-ghost use Rattle.sweeping.specs.Inner.Written.{prismWords, levelWords, allWords, Ready};
+ghost use Rattle.sweeping.specs.Inner.SweptWords.{prismWords, levelWords, allWords, Ready};
 use crate::record::write_record;
 use crate::wings::face_sides;
 

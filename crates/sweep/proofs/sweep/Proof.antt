@@ -15,7 +15,7 @@ use Rattle.rules.proofs.InLimits.{SweepLimits, sweep-limits-are}
 use Rattle.records.specs.Layout.{tableLength}
 use Rattle.solids.specs.Table.{sound}
 use Rattle.prism.specs.Swept.{sweptCells}
-use Rattle.sweeping.specs.Inner.Written.{allWords, Ready}
+use Rattle.sweeping.specs.Inner.SweptWords.{allWords, Ready}
 use Rattle.sweeping.proofs.SoundTable.{sound-ready}
 use Rattle.sweep.specs.Sweep.{sweepInput, sweptLength, sweepRules}
 use Rattle.sweep.proofs.Order.{refuses, accepts, small}

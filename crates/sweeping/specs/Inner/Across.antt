@@ -13,7 +13,7 @@ use lib.ListN.{getD}
 use Rattle.records.specs.Layout.{empty}
 use Rattle.prism.specs.Sides.{sideCell, sideFace, sidePlace}
 use Rattle.prism.specs.Wings.{cellNumber, backTo, wingAbove, wingBelow}
-use Rattle.sweeping.specs.Inner.Written.{solidWing}
+use Rattle.sweeping.specs.Inner.SweptWords.{solidWing}
 
 abbrev pub Holds : ℕ → (ℕ → ℕ) → List ℕ → Type 0
 Holds n f xs = (j : ℕ) → j < n → getD xs j 0 ≡ f j

@@ -6,7 +6,7 @@ use mathlib.Core.List.{List}
 use Prim.Native.Nat.{ℕ, suc, _+_, _-_}
 use lib.Dec.{leb}
 use Rattle.prism.specs.Cells.{atLevel}
-use Rattle.sweeping.specs.Inner.Written.{solidVertex}
+use Rattle.sweeping.specs.Inner.SweptWords.{solidVertex}
 
 abbrev pub sweptVertex : ℕ → ℕ → ℕ → List ℕ → ℕ → ℕ → ℕ → ℕ → ℕ
 sweptVertex d v s ws i p k j =

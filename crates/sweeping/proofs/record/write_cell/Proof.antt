@@ -13,7 +13,7 @@ use Rattle.words.proofs.Records.{tabulate-length}
 use Rattle.words.proofs.Placed.{placed-length}
 use Rattle.words.proofs.Writing.{Left, left-starts, left-next, left-run, left-none}
 use Rattle.records.specs.Layout.{listSize, recordSize, vertexPlace}
-use Rattle.sweeping.specs.Inner.Written.{recordWords}
+use Rattle.sweeping.specs.Inner.SweptWords.{recordWords}
 use Rattle.simplex.specs.SignWords.{turnedSign}
 use Rattle.sweeping.specs.Inner.RecordWords.{liftedFrom}
 use Rattle.sweeping.proofs.RecordLaws.{record-long, word-sign, word-lower, word-upper}

@@ -12,7 +12,7 @@ use Rattle.words.proofs.Records.{tabulate-length}
 use Rattle.words.proofs.Placed.{placed-length}
 use Rattle.words.proofs.Writing.{Left, left-starts, left-some, left-run, left-none}
 use Rattle.records.specs.Layout.{listSize, recordSize, wingPlace}
-use Rattle.sweeping.specs.Inner.Written.{recordWords}
+use Rattle.sweeping.specs.Inner.SweptWords.{recordWords}
 use Rattle.sweeping.specs.Inner.Across.{wingWord}
 use Rattle.sweeping.proofs.RecordLaws.{record-long, word-wing}
 use Rattle.sweeping.proofs.AcrossLaws.{sides-fit, wing-word}

@@ -4,8 +4,8 @@ use Prim.Native.Nat.{_+_, _-_, _≤_}
 use native.Mathlib.Omega.{arith}
 use borrow.Author.Needs.{needs}
 use Rattle.prism.specs.Wings.{backFrom, backTo}
-use Rattle.sweeping.specs.Inner.Written.{solidWing}
-use Rattle.sweeping.proofs.WingWords.{back-here, back-next, back-end, back-start}
+use Rattle.sweeping.specs.Inner.SweptWords.{solidWing}
+use Rattle.sweeping.proofs.Searching.{back-here, back-next, back-end, back-start}
 use Rattle.sweeping.proofs.wings.back.Statement.{statement}
 use Rattle.sweeping.proofs.wings.back.Tie as tie
 

@@ -6,7 +6,7 @@ use native.Mathlib.Nat.{not-suc-le-zero}
 use lib.ListN.{length, length-set}
 use borrow.Author.Needs.{needs}
 use Rattle.sweeping.specs.Inner.Across.{Holds, faceFirst, faceBack}
-use Rattle.sweeping.specs.Inner.Written.{solidWing}
+use Rattle.sweeping.specs.Inner.SweptWords.{solidWing}
 use Rattle.sweeping.proofs.AcrossLaws.{holds-more}
 use Rattle.sweeping.proofs.wings.face_sides.Statement.{statement}
 use Rattle.sweeping.proofs.wings.face_sides.Tie as tie

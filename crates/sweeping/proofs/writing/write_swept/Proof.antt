@@ -7,7 +7,7 @@ use borrow.Author.Needs.{needs}
 use lib.ListN.{length, drop}
 use Rattle.words.specs.Records.{tabulate, concat}
 use Rattle.words.proofs.Writing.{Left, left-starts, left-record, left-record-fits, left-records}
-use Rattle.sweeping.specs.Inner.Written.{levelWords}
+use Rattle.sweeping.specs.Inner.SweptWords.{levelWords}
 use Rattle.sweeping.proofs.SweptWords.{all-is}
 use Rattle.sweeping.proofs.writing.write_swept.Statement.{statement}
 use Rattle.sweeping.proofs.writing.write_swept.Tie as tie
