@@ -105,7 +105,8 @@ int64_t winged_move(uint32_t n, uint32_t v, uint32_t h, uint32_t kind, uint32_t 
 int64_t winged_faces(uint32_t d, uint32_t v, uint32_t s, const uint8_t *table, size_t table_len, uint8_t *faces,
                      size_t faces_len);
 
-/* The key's text of a table of dimension d (0 to 7) and v points of n axes. Returns the count of bytes. */
+/* The key's text of a table of dimension d (0 to 7) and v points of n axes: three decimals, of two equally near
+ * thousandths the even one. Returns the count of bytes. */
 int64_t winged_list(uint32_t d, uint32_t n, uint32_t v, uint32_t s, const uint8_t *table, size_t table_len,
                     const uint8_t *points, size_t points_len, uint8_t *text, size_t text_len);
 

@@ -32,13 +32,15 @@ fn moved(data: &[u8], n: usize, points: &[f64]) -> Vec<f64> {
     result
 }
 
-/// A number with three decimals, to the nearest thousandth, a half away from zero, by the exact float.
+/// A number with three decimals, to the nearest thousandth, a half to the even one, by the exact float.
 fn decimal(x: f64, text: &mut Vec<u8>) {
     let bits = x.to_bits();
     let exponent = (bits >> 52 & 2047) as i32;
     let mantissa = if exponent == 0 { bits & ((1 << 52) - 1) } else { bits & ((1 << 52) - 1) | 1 << 52 };
     let down = 1075 - exponent.max(1);
-    let thousandths = if down > 70 { 0 } else { (2000 * mantissa as u128 + (1u128 << down)) >> (down + 1) };
+    // What is added takes a half upwards from an odd number, and not from an even one.
+    let scaled = 1000 * mantissa as u128;
+    let thousandths = if down > 70 { 0 } else { (scaled + (1 << (down - 1)) - 1 + (scaled >> down & 1)) >> down };
     text.extend_from_slice(if x < 0.0 && thousandths > 0 { b" -" } else { b" " });
     digits(thousandths as usize / 1000, 1, text);
     text.push(b'.');

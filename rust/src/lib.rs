@@ -220,7 +220,8 @@ pub fn move_points(n: u32, v: u32, h: u32, step: Step, points: &[f64]) -> Result
     Ok(floats(&levels[..8 * count]))
 }
 
-/// The key's text of a table and its points; 2 MB hold the longest.
+/// The key's text of a table and its points; 2 MB hold the longest. Coordinates have three decimals; of two equally
+/// near thousandths the even one is written.
 pub fn list(d: u32, n: u32, v: u32, s: u32, table: &[u16], points: &[f64]) -> Result<String, Refusal> {
     let (table, points) = (bytes(table), float_bytes(points));
     let mut text = vec![0u8; 1 << 21];

@@ -98,6 +98,15 @@ def floats_at_edges():
         yield case(f"float {place} is {x}", 2, 3, 5, 3, table, points, row=0 if good else 4)
 
 
+def many_floats(rng):
+    """All that a call can list, 32,768 floats: half-way between two thousandths, the neighbours of such, and any."""
+    ties = [(-1) ** k * (2 * k + 1) / 16 for k in range(10922)]
+    beside = [math.nextafter(x, to) for x in ties for to in (-BIG, BIG)]
+    yield case("odd sixteenths and one bit away", 0, 8, 4096, 1, [0, 0, EMPTY], [*ties, *beside, 0.0625, -0.0625], row=0)
+    for name, kind in (("odd sixteenths up to the limit", solids.near_tie), ("floats of any kind", solids.random_float)):
+        yield case(name, 0, 8, 4096, 1, [0, 0, EMPTY], [kind(rng) for _ in range(32768)], row=0)
+
+
 def with_word(table, place, word):
     return table[:place] + [word] + table[place + 1:]
 
@@ -248,4 +257,5 @@ def random_cases(rng, count):
 def cases(rng):
     for part in (limits, lengths, floats_at_edges, unsound, rooms, two_faults):
         yield from part()
+    yield from many_floats(rng)
     yield from random_cases(rng, 3000)

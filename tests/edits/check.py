@@ -135,17 +135,39 @@ def own_function(edit):
 
 
 @functools.cache
+def bodies(name):
+    """The functions of a crate, each with its text."""
+    found = {}
+    for file in sorted((ROOT / "crates" / name / "src").rglob("*.rt")):
+        module = "/".join(file.relative_to(ROOT / "crates" / name / "src").with_suffix("").parts)
+        parts = re.split(r"\bfn (\w+)", file.read_text())
+        found |= {f"{module}/{one}".removeprefix("lib/"): text for one, text in zip(parts[1::2], parts[2::2])}
+    return found
+
+
+def called(name, function):
+    """The functions of a crate that one calls, and those that have the same name."""
+    text = bodies(name).get(function, "")
+    return [other for other in bodies(name) if other != function and re.search(rf"\b{pathlib.Path(other).name}\(", text)]
+
+
+@functools.cache
 def rests_on(name, function):
-    """The functions of a crate on whose theorems the proof of one rests: a proof by hand cites those of what it calls."""
+    """The functions of a crate on whose theorems the proof of one rests: a proof by hand cites those of what it calls, and
+    a theorem that is cited rests on those of what its function calls."""
     proofs = ROOT / "crates" / name / "proofs"
     found, waiting = set(), [f"{function}/Proof"]
     while waiting:
         file = proofs / (waiting.pop() + ".antt")
         for cited in re.findall(rf"Rattle\.{name}\.proofs\.([\w.]+)", file.read_text() if file.is_file() else ""):
-            path = re.sub(r"/Met$", "/Proof", cited.rstrip(".").replace(".", "/"))
-            if path not in found:
-                found.add(path)
-                waiting.append(path)
+            paths = [re.sub(r"/Met$", "/Proof", cited.rstrip(".").replace(".", "/"))]
+            while paths:
+                path = paths.pop()
+                if path not in found:
+                    found.add(path)
+                    waiting.append(path)
+                    if path.endswith("/Proof"):
+                        paths += [f"{one}/Proof" for one in called(name, path.removesuffix("/Proof"))]
     return {path.removesuffix("/Proof") for path in found if path.endswith("/Proof")}
 
 

@@ -6,6 +6,8 @@ Each sample's key must be the stored one, and the reference's; each text must pa
 Last line: 'N passed, M failed'.
 """
 
+import itertools
+import math
 import os
 import random
 import resource
@@ -59,6 +61,15 @@ def check_samples():
     check("a sample for each refusal that reaches the program", refusals == set(range(1, 16)) - {14})
 
 
+def check_halves():
+    """Among the samples are odd sixteenths that go up, and that go down, on both sides of zero, with both neighbours."""
+    points = {x for file in FILES if file.parent.name == "halves" for x in reference.read(file.read_bytes(), 10**6, 10**6).points}
+    ties = [x for x in points if abs(x) * 16 % 2 == 1 and {math.nextafter(x, -math.inf), math.nextafter(x, math.inf)} <= points]
+    for side, lower in itertools.product((-1, 1), (0, 1)):
+        some = [x for x in ties if x * side > 0 and math.floor(abs(x) * 1000) % 2 == lower]
+        check(f"halves on side {side} above {('even', 'odd')[lower]} thousandths: {len(some)}", len(some) >= 4)
+
+
 def check_pieces():
     check("a byte at a time", in_pieces(K1.read_bytes(), 1) == key_of(K1))
     long = ROOT / "examples" / "series" / "4-four-cube.wng"
@@ -107,6 +118,7 @@ def check_stack():
 
 def main():
     check_samples()
+    check_halves()
     check_pieces()
     check_endless()
     check_failures()

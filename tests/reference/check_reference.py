@@ -7,7 +7,8 @@ import struct
 import subprocess
 import sys
 from collections import Counter
-from decimal import ROUND_HALF_UP, Decimal
+from decimal import ROUND_HALF_EVEN, Decimal
+from fractions import Fraction
 
 sys.dont_write_bytecode = True
 import solids
@@ -97,7 +98,7 @@ def check_keys():
     check("K5", (text_from(ref.table_cells(d, swept)), text_from(found)),
           ("+012 -123", "-02 +01 -23 +13"))
     check("K6", [ref.coordinate(x) for x in (0.0625, -0.0625, -0.0001)],
-          ["0.063", "-0.063", "0.000"])
+          ["0.062", "-0.062", "0.000"])
     check("K7", ref.side_pairs(2, 0), [(1, 2), (2, 1)])
     d, swept, _ = swept_of(6, 3, "+01234 -01235")
     wings = ref.table_wings(d, swept)
@@ -294,11 +295,12 @@ def check_program_and_c():
     check("c sweep short", ref.c_sweep(2, 3, 1, 1, table, 53), (-15, b""))
 
 def check_printing(rng):
-    """Printed coordinates against decimal arithmetic, which is exact here too."""
-    for _ in range(3000):
-        x = solids.random_float(rng, rng.choice((1.0, 1000.0, BIG - 1.0)))
-        wanted = str(Decimal(x).quantize(Decimal("0.001"), ROUND_HALF_UP))
+    """Printed coordinates against decimal arithmetic, which is exact here too; ties are the odd sixteenths."""
+    for k in range(6000):
+        x = solids.near_tie(rng) if k % 2 else solids.random_float(rng, rng.choice((1.0, 1000.0, BIG - 1.0)))
+        wanted = str(Decimal(x).quantize(Decimal("0.001"), ROUND_HALF_EVEN))
         check(f"print {x!r}", ref.coordinate(x), "0.000" if wanted == "-0.000" else wanted)
+        check(f"tie {x!r}", Fraction(x) * 2000 % 2 == 1, abs(x) * 16 % 2 == 1)
 
 def check_side_pairs():
     """112 pairs, in bounds, none twice in a dimension; those of the closed rule, which the library follows."""

@@ -88,11 +88,17 @@ def small_solid(d, rng):
     return v, random_solid(d, v, rng.randint(1, 9), rng, rng.choice(MANNERS))
 
 # Points and steps.
+def near_tie(rng):
+    """An odd sixteenth, half-way between two thousandths as no other float is; or a neighbour of it, one bit away."""
+    x = rng.choice((1, -1)) * rng.randrange(1, rng.choice((2**6, 2**14, 2**24)), 2) / 16.0
+    return rng.choice((x, math.nextafter(x, 0.0), math.nextafter(x, 2 * x)))
+
 def random_float(rng, most=1000.0):
     """A float of many kinds, below the limit: halves of thousandths, tiny, plain."""
     return rng.choice((
         lambda: rng.uniform(-most, most),
         lambda: rng.randint(-2**12, 2**12) / 16.0,
+        lambda: near_tie(rng),
         lambda: rng.randint(-2000, 2000) / 2000.0,
         lambda: float(rng.randint(-9, 9)),
         lambda: rng.uniform(-1, 1) * 2.0 ** rng.randint(-1070, -8),

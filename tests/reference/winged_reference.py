@@ -320,8 +320,8 @@ def read(data, cells_room, points_room):
     return ReadAnswer(d, n, v, s, h, step, cells, points)
 
 def coordinate(x):
-    """Three decimals of the exact float, a half away from zero, no minus on zero."""
-    thousandths = math.floor(abs(Fraction(x)) * 1000 + Fraction(1, 2))
+    """Three decimals of the exact float, a half to the even thousandth, no minus on zero."""
+    thousandths = round(abs(Fraction(x)) * 1000)  # of a fraction: to the nearest, a half to the even one
     minus = "-" if x < 0 and thousandths > 0 else ""
     return f"{minus}{thousandths // 1000}.{thousandths % 1000:03d}"
 

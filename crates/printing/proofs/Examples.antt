@@ -13,10 +13,23 @@ pub six-digits : digits 123456 ≡ ascii "123456"
 unfolding digits
 six-digits = refl
 
--- 0.0625, by its bits
-pub half-upwards : thousandths (ofBits binary64 0x3fb0000000000000) ≡ 63
+-- 0.0625 and 0.1875, by their bits: 62.5 and 187.5 thousandths
+pub half-downwards : thousandths (ofBits binary64 0x3fb0000000000000) ≡ 62
+unfolding ofBits thousandths
+half-downwards = refl
+
+pub half-upwards : thousandths (ofBits binary64 0x3fc8000000000000) ≡ 188
 unfolding ofBits thousandths
 half-upwards = refl
+
+-- one bit above the one and below the other
+pub above-half : thousandths (ofBits binary64 0x3fb0000000000001) ≡ 63
+unfolding ofBits thousandths
+above-half = refl
+
+pub below-half : thousandths (ofBits binary64 0x3fc7ffffffffffff) ≡ 187
+unfolding ofBits thousandths
+below-half = refl
 
 -- -0.0001, by its bits
 pub no-minus : minusOf (ofBits binary64 0xbf1a36e2eb1c432d) ≡ []

@@ -6,8 +6,8 @@
 use mathlib.Core.Path.{_≡_, refl, sym, ap, _∙_, subst}
 use mathlib.Core.Bool.{Bool, true, false, not, cond, _&&_, true≢false}
 use Prim.Native.Nat.{ℕ, zero, suc, _+_, _-_, _*_, _/_, _%_, _^_, _≤_, _<_}
-use native.Mathlib.Nat.{add-mul, mul-assoc, mul-comm, mul-right-comm, mul-div-mul-left, mul-div-mul-right, div-eq-of-lt, mul-lt-mul-of-pos-right}
-use native.Mathlib.Nat.{lt-of-mul-lt-mul-right, lt-of-le-of-lt, mul-le-mul-right, pow-suc, not-le-of-lt}
+use native.Mathlib.Nat.{mul-assoc, mul-comm, mul-right-comm, mul-lt-mul-of-pos-right, lt-of-mul-lt-mul-right, lt-of-le-of-lt, mul-le-mul-right}
+use native.Mathlib.Nat.{not-le-of-lt}
 use native.Mathlib.Omega.{arith}
 use native.Mathlib.Decide.{decLt}
 use lib.IntN.{ℤ, pos}
@@ -22,7 +22,8 @@ use borrow.Author.Tests.{ltb-true}
 use Rattle.rules.proofs.Tests.{and-parts}
 use Rattle.points.specs.Step.{magnitudeLimit, inRange}
 use Rattle.points.proofs.Finite.{nan-out, inf-out}
-use Rattle.printing.specs.Decimal.{thousandths, negative}
+use Rattle.printing.specs.Decimal.{nearest, thousandths, negative}
+use Rattle.printing.proofs.HalfEven.{nearest-scaled, nearest-zero}
 
 limit-is : magnitudeLimit ≡ fin false 1 (pos 20)
 unfolding ofBits ofFields odd trailingZeros
@@ -69,19 +70,18 @@ fields-value s (suc x) t r =
     ((4503599627370496 + t) * 2 ^ x) (2 ^ 1074) (odd-sign 53 s (4503599627370496 + t) x 1074) r
 
 -- thousandths by any fraction of the same value
-by-value : (x : Float) (s : Bool) (a c : ℕ) → 0 < c → HasValue x s a c → thousandths x ≡ (2000 * a + c) / (2 * c)
+by-value : (x : Float) (s : Bool) (a c : ℕ) → 0 < c → HasValue x s a c → thousandths x ≡ nearest (1000 * a) c
 unfolding thousandths
 by-value nan s a c p h = absurd h
 by-value (inf t) s a c p h = absurd h
 by-value (fin t m e) s a c p h =
     let n = m * up e in
     let d = down e in
-    let same : (2000 * n + d) * c ≡ (2000 * a + c) * d =
-    omega (arith, add-mul (2000 * n) d c, add-mul (2000 * a) c d, mul-assoc 2000 n c, mul-assoc 2000 a d, mul-comm d c, h .1) in
-    sym (mul-div-mul-right (2000 * n + d) (2 * d) p)
-    ∙ ap (λ (k : ℕ). (2000 * n + d) * c / k) (mul-right-comm 2 d c)
-    ∙ ap (λ (k : ℕ). k / (2 * c * d)) same
-    ∙ mul-div-mul-right (2000 * a + c) (2 * c) (down-pos e)
+    let same : 1000 * n * c ≡ 1000 * a * d = omega (arith, mul-assoc 1000 n c, mul-assoc 1000 a d, h .1) in
+    sym (nearest-scaled (1000 * n) d p)
+    ∙ ap (λ (k : ℕ). nearest k (d * c)) same
+    ∙ ap (λ (k : ℕ). nearest (1000 * a * d) k) (mul-comm d c)
+    ∙ nearest-scaled (1000 * a) c (down-pos e)
 
 value-below : (x : Float) (s : Bool) (a c : ℕ) → 0 < c → inRange x ≡ true → HasValue x s a c → a < 1048576 * c
 value-below nan s a c p r h = absurd h
@@ -92,32 +92,17 @@ value-below (fin t m e) s a c p r h =
     lt-of-mul-lt-mul-right d (omega (arith, less, h .1, mul-right-comm 1048576 d c))
 
 -- a common power of two goes out of the fraction
-shifted : (m x j : ℕ) → (2000 * (m * 2 ^ x) + 2 ^ (suc j + x)) / (2 * 2 ^ (suc j + x)) ≡ (1000 * m + 2 ^ j) / 2 ^ suc j
-shifted m x j =
-    let p = 2 ^ x in
-    let q = 2 ^ suc j in
-    let num : 2000 * (m * p) + q * p ≡ (2 * (1000 * m + 2 ^ j)) * p =
-    omega (
-      arith,
-      ap (λ (z : ℕ). z * p) (pow-suc 2 j),
-      mul-right-comm (2 ^ j) 2 p,
-      mul-assoc 2 (1000 * m + 2 ^ j) p,
-      add-mul (1000 * m) (2 ^ j) p,
-      mul-assoc 1000 m p,
-    ) in
-    ap (λ (z : ℕ). (2000 * (m * p) + z) / (2 * z)) (pow-add 2 (suc j) x)
-    ∙ ap (λ (z : ℕ). z / (2 * (q * p))) num
-    ∙ ap (λ (z : ℕ). (2 * (1000 * m + 2 ^ j)) * p / z) (sym (mul-assoc 2 q p))
-    ∙ mul-div-mul-right (2 * (1000 * m + 2 ^ j)) (2 * q) (pow-pos x)
-    ∙ mul-div-mul-left (1000 * m + 2 ^ j) q (omega arith)
+shifted : (m x k : ℕ) → nearest (1000 * (m * 2 ^ x)) (2 ^ (k + x)) ≡ nearest (1000 * m) (2 ^ k)
+shifted m x k =
+    ap (λ (z : ℕ). nearest z (2 ^ (k + x))) (sym (mul-assoc 1000 m (2 ^ x)))
+    ∙ ap (λ (z : ℕ). nearest (1000 * m * 2 ^ x) z) (pow-add 2 k x)
+    ∙ nearest-scaled (1000 * m) (2 ^ k) (pow-pos x)
 
 -- less than half a thousandth
-tiny : (m x j : ℕ) → 2000 * m < 18446744073709551616 → (2000 * (m * 2 ^ x) + 2 ^ (64 + j + x)) / (2 * 2 ^ (64 + j + x)) ≡ 0
-tiny m x j h =
-    let p = 2 ^ (64 + j + x) in
-    let a : 2000 * m * 2 ^ x < 18446744073709551616 * 2 ^ x = mul-lt-mul-of-pos-right h (pow-pos x) in
-    let b : 2 ^ 64 * 2 ^ x ≤ p = subst (λ (z : ℕ). z ≤ p) (pow-add 2 64 x) (pow-mono (omega arith)) in
-    div-eq-of-lt (omega (arith, a, b, mul-assoc 2000 m (2 ^ x)))
+tiny : (m j : ℕ) → 2000 * m < 18446744073709551616 → nearest (1000 * m) (2 ^ (64 + j)) ≡ 0
+tiny m j h =
+    let high : 2 ^ 64 ≤ 2 ^ (64 + j) = pow-mono {i = 64} {j = 64 + j} (omega arith) in
+    nearest-zero (1000 * m) (2 ^ (64 + j)) (omega arith)
 
 mant-below : (y t : ℕ) → t < 4503599627370496 → 2000 * mant y t < 18446744073709551616
 unfolding mant
@@ -137,8 +122,9 @@ fields-zero s y t h l r =
     let lx = expo-below y l in
     let whole : 1074 ≡ 64 + (1010 - x) + x = omega arith in
     by-value (ofFields binary64 s y t) s (mant y t * 2 ^ x) (2 ^ 1074) (pow-pos 1074) (fields-value s y t r)
-    ∙ ap (λ (k : ℕ). (2000 * (mant y t * 2 ^ x) + 2 ^ k) / (2 * 2 ^ k)) whole
-    ∙ tiny (mant y t) x (1010 - x) (mant-below y t h)
+    ∙ ap (λ (k : ℕ). nearest (1000 * (mant y t * 2 ^ x)) (2 ^ k)) whole
+    ∙ shifted (mant y t) x (64 + (1010 - x))
+    ∙ tiny (mant y t) (1010 - x) (mant-below y t h)
 
 -- a power below another has the lower exponent
 power-below : (a b : ℕ) → 2 ^ a < 2 ^ b → Dec (a < b) → a < b
@@ -157,22 +143,17 @@ field-below s x t r =
     omega arith
 
 fields-shifted : (s : Bool) (y t : ℕ) → 1012 ≤ y → inRange (ofFields binary64 s y t) ≡ true →
-    (y < 1043) × (thousandths (ofFields binary64 s y t) ≡ (1000 * (4503599627370496 + t) + 2 ^ (1075 - y - 1)) / 2 ^ (1075 - y))
+    (y < 1043) × (thousandths (ofFields binary64 s y t) ≡ nearest (1000 * (4503599627370496 + t)) (2 ^ (1075 - y)))
 unfolding mant expo
 fields-shifted s zero t l r = absurd (omega arith)
 fields-shifted s (suc x) t l r =
     let b = field-below s x t r in
     let m = 4503599627370496 + t in
-    let j = 1073 - x in
-    let whole : 1074 ≡ suc j + x = omega arith in
-    let one : 1075 - suc x ≡ suc j = omega arith in
-    let two : 1075 - suc x - 1 ≡ j = omega arith in (
+    let whole : 1074 ≡ 1075 - suc x + x = omega arith in (
       omega arith,
       by-value (ofFields binary64 s (suc x) t) s (m * 2 ^ x) (2 ^ 1074) (pow-pos 1074) (fields-value s (suc x) t r)
-          ∙ ap (λ (k : ℕ). (2000 * (m * 2 ^ x) + 2 ^ k) / (2 * 2 ^ k)) whole
-          ∙ shifted m x j
-          ∙ ap (λ (k : ℕ). (1000 * m + 2 ^ k) / 2 ^ suc j) (sym two)
-          ∙ ap (λ (k : ℕ). (1000 * m + 2 ^ (1075 - suc x - 1)) / 2 ^ k) (sym one),
+          ∙ ap (λ (k : ℕ). nearest (1000 * (m * 2 ^ x)) (2 ^ k)) whole
+          ∙ shifted m x (1075 - suc x),
     )
 
 value-sign : (x : Float) (s : Bool) (a c : ℕ) → HasValue x s a c → negative x ≡ s
@@ -206,8 +187,7 @@ module _ (x : Float) (f : fits binary64 x ≡ true) (r : inRange x ≡ true) whe
   pub field-in-range : 1012 ≤ fieldOf x → fieldOf x < 1043
   field-in-range l = fields-shifted sign-bit (fieldOf x) (digitsOf x) l range-fields .0
 
-  pub thousandths-shifted : 1012 ≤ fieldOf x →
-      (1000 * (4503599627370496 + digitsOf x) + 2 ^ (1075 - fieldOf x - 1)) / 2 ^ (1075 - fieldOf x) ≡ thousandths x
+  pub thousandths-shifted : 1012 ≤ fieldOf x → nearest (1000 * (4503599627370496 + digitsOf x)) (2 ^ (1075 - fieldOf x)) ≡ thousandths x
   unfolding sign-bit
   thousandths-shifted l = sym (ap thousandths (fields-of x f) ∙ fields-shifted sign-bit (fieldOf x) (digitsOf x) l range-fields .1)
 

@@ -1,52 +1,81 @@
--- Rounding to thousandths.
---   half-goes-up          an example of a half
---   Nearest m e t         t thousandths are at most half a thousandth off the float, and at a half not below it
---   thousandths-near      this holds of what is printed,
+-- What is promised of printed coordinates: the nearest thousandth, of two equally near the even one.
+--   Near a b t            t is at most a half off a / b
+--   Nearest a b t         and even, where another number is too
+--   thousandths-near      this holds of what is printed, and a float's thousandfold,
 --   nearest-unique        and of no other number
 -- Assumes nothing.
-use mathlib.Core.Path.{_≡_, refl}
+use mathlib.Core.Path.{_≡_, sym}
 use mathlib.Core.Bool.{Bool}
-use Prim.Native.Nat.{ℕ, suc, _+_, _*_, _/_, _≤_, _<_}
-use native.Mathlib.Nat.{le-antisymm, suc-mul, mul-left-comm, lt-of-mul-lt-mul-right, div-mul-le-self, lt-div-mul-add}
+use Prim.Native.Nat.{ℕ, suc, _+_, _*_, _/_, _%_, _≤_, _<_}
+use native.Mathlib.Nat.{add-mul, suc-mul, mul-le-mul-right, lt-of-mul-lt-mul-right, div-add-mod', mod-lt}
 use native.Mathlib.Omega.{arith}
-use lib.IntN.{ℤ, pos, negsuc}
-use lib.Pow.{pow-pos}
+use native.Mathlib.Decide.{decLt, ℕ-discrete}
+use lib.IntN.{ℤ}
 use lib.Ieee.{fin, up, down}
-use Rattle.printing.specs.Decimal.{thousandths}
+use lib.Ieee.Fits.{down-pos}
+use Rattle.printing.specs.Decimal.{nearest, thousandths}
+use Rattle.printing.proofs.HalfEven.{nearest-down, nearest-up, nearest-tie}
 
--- 1 / 16 is 62.5 thousandths, and 63 in print
-pub half-goes-up : (s : Bool) → thousandths (fin s 1 (negsuc 3)) ≡ 63
+-- both sides are twice the number, times b
+pub record Near (a b t : ℕ) : Type 0 where
+  pub above : 2 * (t * b) ≤ 2 * a + b
+  pub below : 2 * a ≤ 2 * (t * b) + b
+
+pub record Nearest (a b t : ℕ) : Type 0 where
+  pub near : Near a b t
+  pub even : (u : ℕ) → Near a b u → (u ≡ t → ⊥) → t % 2 ≡ 0
+
+-- two that are near are neighbours
+near-next : (a b t u : ℕ) → 0 < b → Near a b t → Near a b u → t ≤ suc u
+near-next a b t u h p q =
+    let less : t * b < suc (suc u) * b = omega (arith, p .above, q .below, suc-mul (suc u) b, suc-mul u b) in
+    omega (arith, lt-of-mul-lt-mul-right b less)
+
+-- less than a half off: no other is near
+alone : (a b t u : ℕ) → 2 * (t * b) < 2 * a + b → 2 * a < 2 * (t * b) + b → Near a b u → u ≡ t
+alone a b t u p q n =
+    let low : u * b < suc t * b = omega (arith, n .above, suc-mul t b) in
+    let high : t * b < suc u * b = omega (arith, n .below, suc-mul u b) in
+    omega (arith, lt-of-mul-lt-mul-right b low, lt-of-mul-lt-mul-right b high)
+
+nearest-alone : (a b t : ℕ) → 2 * (t * b) < 2 * a + b → 2 * a < 2 * (t * b) + b → Nearest a b t
+nearest-alone a b t p q = record {
+  near = record { above = omega arith; below = omega arith };
+  even = λ u n other. absurd (other (alone a b t u p q n));
+}
+
+nearest-of : (a b : ℕ) → 0 < b → Dec (2 * (a % b) < b) → Dec (b < 2 * (a % b)) → Nearest a b (nearest a b)
+nearest-of a b h (yes l) m =
+    let whole = div-add-mod' a b in
+    rw (nearest-down a b l) (nearest-alone a b (a / b) (omega (arith, whole)) (omega (arith, whole)))
+nearest-of a b h (no l) (yes m) =
+    let whole = div-add-mod' a b in
+    let more = suc-mul (a / b) b in
+    let short = mod-lt a h in
+    rw (nearest-up a b m) (nearest-alone a b (suc (a / b)) (omega (arith, whole, more, short)) (omega (arith, whole, more, short)))
+nearest-of a b h (no l) (no m) =
+    let q = a / b in
+    let whole = div-add-mod' a b in
+    let sum = add-mul q (q % 2) b in
+    let step : q % 2 * b ≤ 1 * b = mul-le-mul-right b (omega arith) in
+    let tie : 2 * (a % b) ≡ b = omega arith in
+    rw (nearest-tie a b tie) record {
+      near = record { above = omega (arith, whole, sum, step, tie); below = omega (arith, whole, sum, step, tie) };
+      even = λ u n other. omega arith;
+    }
+
+nearest-is : (a b : ℕ) → 0 < b → Nearest a b (nearest a b)
+nearest-is a b h = nearest-of a b h (decLt (2 * (a % b)) b) (decLt b (2 * (a % b)))
+
+pub thousandths-near : (s : Bool) (m : ℕ) (e : ℤ) → Nearest (1000 * (m * up e)) (down e) (thousandths (fin s m e))
 unfolding thousandths
-half-goes-up s = refl
+thousandths-near s m e = nearest-is (1000 * (m * up e)) (down e) (down-pos e)
 
--- the float is m up e / down e: both sides are twice the thousandfold, times down e
-pub record Nearest (m : ℕ) (e : ℤ) (t : ℕ) : Type 0 where
-  pub above : 2 * (t * down e) ≤ 2 * (1000 * (m * up e)) + down e
-  pub below : 2 * (1000 * (m * up e)) < 2 * (t * down e) + down e
+unique-by : (a b t u : ℕ) → 0 < b → Nearest a b t → Nearest a b u → Dec (t ≡ u) → t ≡ u
+unique-by a b t u h p q (yes e) = e
+unique-by a b t u h p q (no n) =
+    let evens : (t % 2 ≡ 0) × (u % 2 ≡ 0) = (p .even u (q .near) (λ e. n (sym e)), q .even t (p .near) n) in
+    omega (arith, evens .0, evens .1, near-next a b t u h (p .near) (q .near), near-next a b u t h (q .near) (p .near))
 
-down-positive : (e : ℤ) → 0 < down e
-down-positive (pos k) = omega arith
-down-positive (negsuc k) = pow-pos (suc k)
-
--- (x + d) / 2 d is x / 2 d to the nearest whole number, a half upwards
-half-up : (x d : ℕ) → 0 < d → (2 * ((x + d) / (2 * d) * d) ≤ x + d) × (x < 2 * ((x + d) / (2 * d) * d) + d)
-half-up x d h =
-    let t = (x + d) / (2 * d) in
-    let same : t * (2 * d) ≡ 2 * (t * d) = mul-left-comm t 2 d in
-    let low : t * (2 * d) ≤ x + d = div-mul-le-self (x + d) (2 * d) in
-    let high : x + d < t * (2 * d) + 2 * d = lt-div-mul-add (omega arith) in
-    (omega arith, omega arith)
-
-pub thousandths-near : (s : Bool) (m : ℕ) (e : ℤ) → Nearest m e (thousandths (fin s m e))
-unfolding thousandths
-thousandths-near s m e =
-    let near = half-up (2000 * (m * up e)) (down e) (down-positive e) in
-    record { above = omega (arith, near .0); below = omega (arith, near .1) }
-
-nearest-at-most : (m : ℕ) (e : ℤ) (t u : ℕ) → Nearest m e t → Nearest m e u → t ≤ u
-nearest-at-most m e t u p q =
-    let less : t * down e < suc u * down e = omega (arith, suc-mul u (down e)) in
-    omega (arith, lt-of-mul-lt-mul-right (down e) less)
-
-pub nearest-unique : (m : ℕ) (e : ℤ) (t u : ℕ) → Nearest m e t → Nearest m e u → t ≡ u
-nearest-unique m e t u p q = le-antisymm (nearest-at-most m e t u p q) (nearest-at-most m e u t q p)
+pub nearest-unique : (a b t u : ℕ) → 0 < b → Nearest a b t → Nearest a b u → t ≡ u
+nearest-unique a b t u h p q = unique-by a b t u h p q (ℕ-discrete t u)

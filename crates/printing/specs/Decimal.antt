@@ -1,6 +1,7 @@
 -- Numbers in print. Text is a list of bytes. Paper, section 8.
 --   digits n          a whole number in decimal, without leading zeros
---   thousandths x     the magnitude of a float in thousandths, to the nearest, a half upwards
+--   nearest a b       the whole number nearest to a / b; of two equally near the even one
+--   thousandths x     the magnitude of a float in thousandths, to the nearest
 --   coordinate x      a float with three decimals; what rounds to zero has no minus
 use mathlib.Core.Bool.{Bool, false, cond, _&&_}
 use mathlib.Core.List.{List, [], _∷_, _++_}
@@ -22,11 +23,18 @@ digitsUpTo (suc k) n = let r = digitsUpTo k (n / 10) ++ digit n ∷ [] in cond (
 unfoldable pub digits : ℕ → List ℕ
 digits n = digitsUpTo 19 n
 
--- a float is m times up e / down e: the nearest whole number to its thousandfold is that plus a half, rounded down
+-- below a half downwards, above it upwards, at a half to the even one
+abbrev pub nearest : ℕ → ℕ → ℕ
+nearest a b =
+    let q = a / b in
+    let twice = 2 * (a % b) in
+    cond (ltb twice b) q (cond (ltb b twice) (suc q) (q + q % 2))
+
+-- a float is m times up e / down e
 unfoldable pub thousandths : Float → ℕ
 thousandths nan = 0
 thousandths (inf s) = 0
-thousandths (fin s m e) = (2000 * (m * up e) + down e) / (2 * down e)
+thousandths (fin s m e) = nearest (1000 * (m * up e)) (down e)
 
 abbrev pub negative : Float → Bool
 negative nan = false

@@ -4,8 +4,8 @@ ghost use mathlib.Core.Bool.{true};
 ghost use Rattle.points.specs.Step.{inRange};
 ghost use Rattle.printing.specs.Decimal.{thousandths, negative};
 
-// The magnitude in thousandths, to the nearest, a half upwards. The exponent's field is 1075 - k. From k = 64 on the
-// magnitude is less than half a thousandth.
+// The magnitude in thousandths, to the nearest, at a half to the even one: a half is added to an odd number, and just less
+// to an even one. The exponent's field is 1075 - k. From k = 64 on the magnitude is less than half a thousandth.
 pub(crate) fn thousandths_of(x: f64) -> u64
     requires { ⌜ inRange x ≡ true ⌝ }
     ensures { λ r. ⌜ r ≡ thousandths x ⌝ }
@@ -16,8 +16,10 @@ pub(crate) fn thousandths_of(x: f64) -> u64
         return 0;
     }
     let k = 1075 - field;
-    let m = 4503599627370496 + b % 4503599627370496;
-    (1000 * m + (1 << (k - 1))) >> k
+    let a = 1000 * (4503599627370496 + b % 4503599627370496);
+    let half: u64 = 1 << (k - 1);
+    let odd = (a >> k) % 2;
+    (a + half - 1 + odd) >> k
 }
 
 // Whether the sign bit is set.

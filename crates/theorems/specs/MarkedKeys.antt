@@ -93,8 +93,8 @@ K5-faces = boundaryCells (facesOfSwept 1 segment) ≡ spelled "-02" ∷ spelled 
 -- 0.0625, -0.0625 and -0.0001 by their bits
 abbrev pub K6 : Type 0
 K6 =
-    (coordinate (ofBits binary64 0x3fb0000000000000) ≡ ascii "0.063")
-    × (coordinate (ofBits binary64 0xbfb0000000000000) ≡ ascii "-0.063")
+    (coordinate (ofBits binary64 0x3fb0000000000000) ≡ ascii "0.062")
+    × (coordinate (ofBits binary64 0xbfb0000000000000) ≡ ascii "-0.062")
     × (coordinate (ofBits binary64 0xbf1a36e2eb1c432d) ≡ ascii "0.000")
 
 abbrev pub K7 : Type 0
