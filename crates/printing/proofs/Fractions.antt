@@ -168,7 +168,8 @@ digitsOf x = toBits binary64 x % 4503599627370496
 abbrev pub fieldOf : Float → ℕ
 fieldOf x = toBits binary64 x % 9223372036854775808 / 4503599627370496
 
-fields-of : (x : Float) → fits binary64 x ≡ true → x ≡ ofFields binary64 (leb 9223372036854775808 (toBits binary64 x)) (fieldOf x) (digitsOf x)
+fields-of : (x : Float) → fits binary64 x ≡ true →
+    x ≡ ofFields binary64 (leb 9223372036854775808 (toBits binary64 x)) (fieldOf x) (digitsOf x)
 unfolding ofBits
 fields-of x f = sym (ofBits-toBits binary64 x (subst T (sym f) tt))
 

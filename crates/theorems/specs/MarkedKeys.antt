@@ -62,13 +62,14 @@ K1 = printed k1File ≡ ascii "key 1 1 2 2\nv 0 0.500\nv 1 1.500\n+ 1\n- 0\n"
 abbrev pub K2-cells : Type 0
 K2-cells =
     sweptEntries 1 k2Solid
-    ≡ entry "+0124" "1..." ∷ entry "+1245" "2.30" ∷ entry "+2456" ".4.1" ∷ entry "-1235" "4.1." ∷ entry "-2356" "52.3" ∷ entry "-3567" "...4" ∷ []
+    ≡ entry "+0124" "1..." ∷ entry "+1245" "2.30" ∷ entry "+2456" ".4.1"
+    ∷ entry "-1235" "4.1." ∷ entry "-2356" "52.3" ∷ entry "-3567" "...4" ∷ []
 
 abbrev pub K2-faces : Type 0
 K2-faces =
     boundaryCells (facesOfSwept 1 k2Solid)
-    ≡ spelled "-024" ∷ spelled "+014" ∷ spelled "-012" ∷ spelled "-145" ∷ spelled "+456" ∷ spelled "+246" ∷ spelled "+135" ∷ spelled "+123"
-    ∷ spelled "-236" ∷ spelled "-567" ∷ spelled "+367" ∷ spelled "-357" ∷ []
+    ≡ spelled "-024" ∷ spelled "+014" ∷ spelled "-012" ∷ spelled "-145" ∷ spelled "+456" ∷ spelled "+246"
+    ∷ spelled "+135" ∷ spelled "+123" ∷ spelled "-236" ∷ spelled "-567" ∷ spelled "+367" ∷ spelled "-357" ∷ []
 
 abbrev pub K2-calls : Type 0
 K2-calls =
