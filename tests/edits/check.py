@@ -151,23 +151,25 @@ def called(name, function):
     return [other for other in bodies(name) if other != function and re.search(rf"\b{pathlib.Path(other).name}\(", text)]
 
 
+def cites(name, path):
+    """The proofs of a crate that one of them names, a theorem by the proof that it has."""
+    file = ROOT / "crates" / name / "proofs" / f"{path}.antt"
+    named = re.findall(rf"Rattle\.{name}\.proofs\.([\w.]+)", file.read_text() if file.is_file() else "")
+    return [re.sub(r"/Met$", "/Proof", one.rstrip(".").replace(".", "/")) for one in named]
+
+
 @functools.cache
 def rests_on(name, function):
     """The functions of a crate on whose theorems the proof of one rests: a proof by hand cites those of what it calls, and
     a theorem that is cited rests on those of what its function calls."""
-    proofs = ROOT / "crates" / name / "proofs"
-    found, waiting = set(), [f"{function}/Proof"]
+    found, waiting = set(), cites(name, f"{function}/Proof")
     while waiting:
-        file = proofs / (waiting.pop() + ".antt")
-        for cited in re.findall(rf"Rattle\.{name}\.proofs\.([\w.]+)", file.read_text() if file.is_file() else ""):
-            paths = [re.sub(r"/Met$", "/Proof", cited.rstrip(".").replace(".", "/"))]
-            while paths:
-                path = paths.pop()
-                if path not in found:
-                    found.add(path)
-                    waiting.append(path)
-                    if path.endswith("/Proof"):
-                        paths += [f"{one}/Proof" for one in called(name, path.removesuffix("/Proof"))]
+        path = waiting.pop()
+        if path not in found:
+            found.add(path)
+            waiting += cites(name, path)
+            if path.endswith("/Proof"):
+                waiting += [f"{other}/Proof" for other in called(name, path.removesuffix("/Proof"))]
     return {path.removesuffix("/Proof") for path in found if path.endswith("/Proof")}
 
 

@@ -4,26 +4,27 @@
 --   negative-bits         the sign is the highest bit
 -- Assumes nothing.
 use mathlib.Core.Path.{_≡_, refl, sym, ap, _∙_, subst}
-use mathlib.Core.Bool.{Bool, true, false, not, cond, _&&_, true≢false}
+use mathlib.Core.Bool.{Bool, true, false, cond, _&&_, true≢false}
 use Prim.Native.Nat.{ℕ, zero, suc, _+_, _-_, _*_, _/_, _%_, _^_, _≤_, _<_}
-use native.Mathlib.Nat.{mul-assoc, mul-comm, mul-right-comm, mul-lt-mul-of-pos-right, lt-of-mul-lt-mul-right, lt-of-le-of-lt, mul-le-mul-right}
-use native.Mathlib.Nat.{not-le-of-lt}
+use native.Mathlib.Nat.{mul-assoc, mul-right-comm, mul-lt-mul-of-pos-right, lt-of-mul-lt-mul-right, lt-of-le-of-lt, mul-le-mul-right}
+use native.Mathlib.Nat.{not-le-of-lt, mod-eq-of-lt, div-eq-of-lt}
 use native.Mathlib.Omega.{arith}
 use native.Mathlib.Decide.{decLt}
 use lib.IntN.{ℤ, pos}
 use lib.Dec.{T, leb, ltb, eqb}
 use lib.Pow.{pow-add, pow-pos, pow-mono}
 use lib.Count.{trailingZeros}
-use lib.Ieee.{Float, nan, inf, fin, binary64, up, down, odd, lt, neg, isNan, fits, ofFields, ofBits, toBits}
+use lib.Ieee.{Float, nan, inf, fin, binary64, up, down, odd, lt, neg, fits, ofFields, ofBits, toBits}
 use lib.Ieee.Bits.{ofBits-toBits}
 use lib.Ieee.Exact.{HasValue, odd-sign}
 use lib.Ieee.Fits.{down-pos}
+use lib.Ieee.Nearest.{closest, closest-same}
 use borrow.Author.Tests.{ltb-true}
 use Rattle.rules.proofs.Tests.{and-parts}
 use Rattle.points.specs.Step.{magnitudeLimit, inRange}
 use Rattle.points.proofs.Finite.{nan-out, inf-out}
-use Rattle.printing.specs.Decimal.{nearest, thousandths, negative}
-use Rattle.printing.proofs.HalfEven.{nearest-scaled, nearest-zero}
+use Rattle.printing.specs.Decimal.{thousandths, negative}
+use Rattle.printing.proofs.HalfEven.{closest-down}
 
 limit-is : magnitudeLimit ≡ fin false 1 (pos 20)
 unfolding ofBits ofFields odd trailingZeros
@@ -70,18 +71,13 @@ fields-value s (suc x) t r =
     ((4503599627370496 + t) * 2 ^ x) (2 ^ 1074) (odd-sign 53 s (4503599627370496 + t) x 1074) r
 
 -- thousandths by any fraction of the same value
-by-value : (x : Float) (s : Bool) (a c : ℕ) → 0 < c → HasValue x s a c → thousandths x ≡ nearest (1000 * a) c
+by-value : (x : Float) (s : Bool) (a c : ℕ) → 0 < c → HasValue x s a c → thousandths x ≡ closest (1000 * a) c
 unfolding thousandths
 by-value nan s a c p h = absurd h
 by-value (inf t) s a c p h = absurd h
 by-value (fin t m e) s a c p h =
     let n = m * up e in
-    let d = down e in
-    let same : 1000 * n * c ≡ 1000 * a * d = omega (arith, mul-assoc 1000 n c, mul-assoc 1000 a d, h .1) in
-    sym (nearest-scaled (1000 * n) d p)
-    ∙ ap (λ (k : ℕ). nearest k (d * c)) same
-    ∙ ap (λ (k : ℕ). nearest (1000 * a * d) k) (mul-comm d c)
-    ∙ nearest-scaled (1000 * a) c (down-pos e)
+    closest-same (1000 * n) (down e) (1000 * a) c (down-pos e) p (omega (arith, mul-assoc 1000 n c, mul-assoc 1000 a (down e), h .1))
 
 value-below : (x : Float) (s : Bool) (a c : ℕ) → 0 < c → inRange x ≡ true → HasValue x s a c → a < 1048576 * c
 value-below nan s a c p r h = absurd h
@@ -92,17 +88,22 @@ value-below (fin t m e) s a c p r h =
     lt-of-mul-lt-mul-right d (omega (arith, less, h .1, mul-right-comm 1048576 d c))
 
 -- a common power of two goes out of the fraction
-shifted : (m x k : ℕ) → nearest (1000 * (m * 2 ^ x)) (2 ^ (k + x)) ≡ nearest (1000 * m) (2 ^ k)
+shifted : (m x k : ℕ) → closest (1000 * (m * 2 ^ x)) (2 ^ (k + x)) ≡ closest (1000 * m) (2 ^ k)
 shifted m x k =
-    ap (λ (z : ℕ). nearest z (2 ^ (k + x))) (sym (mul-assoc 1000 m (2 ^ x)))
-    ∙ ap (λ (z : ℕ). nearest (1000 * m * 2 ^ x) z) (pow-add 2 k x)
-    ∙ nearest-scaled (1000 * m) (2 ^ k) (pow-pos x)
+    let same : 1000 * (m * 2 ^ x) * 2 ^ k ≡ 1000 * m * 2 ^ (k + x) =
+    ap (λ (z : ℕ). z * 2 ^ k) (sym (mul-assoc 1000 m (2 ^ x)))
+    ∙ mul-right-comm (1000 * m) (2 ^ x) (2 ^ k)
+    ∙ mul-assoc (1000 * m) (2 ^ k) (2 ^ x)
+    ∙ ap (λ (z : ℕ). 1000 * m * z) (sym (pow-add 2 k x)) in
+    closest-same (1000 * (m * 2 ^ x)) (2 ^ (k + x)) (1000 * m) (2 ^ k) (pow-pos (k + x)) (pow-pos k) same
 
 -- less than half a thousandth
-tiny : (m j : ℕ) → 2000 * m < 18446744073709551616 → nearest (1000 * m) (2 ^ (64 + j)) ≡ 0
+tiny : (m j : ℕ) → 2000 * m < 18446744073709551616 → closest (1000 * m) (2 ^ (64 + j)) ≡ 0
 tiny m j h =
-    let high : 2 ^ 64 ≤ 2 ^ (64 + j) = pow-mono {i = 64} {j = 64 + j} (omega arith) in
-    nearest-zero (1000 * m) (2 ^ (64 + j)) (omega arith)
+    let u = 2 ^ (64 + j) in
+    let high : 2 ^ 64 ≤ u = pow-mono {i = 64} {j = 64 + j} (omega arith) in
+    let rest : 1000 * m % u ≡ 1000 * m = mod-eq-of-lt (omega arith) in
+    closest-down (1000 * m) u (omega arith) ∙ div-eq-of-lt (omega arith)
 
 mant-below : (y t : ℕ) → t < 4503599627370496 → 2000 * mant y t < 18446744073709551616
 unfolding mant
@@ -122,7 +123,7 @@ fields-zero s y t h l r =
     let lx = expo-below y l in
     let whole : 1074 ≡ 64 + (1010 - x) + x = omega arith in
     by-value (ofFields binary64 s y t) s (mant y t * 2 ^ x) (2 ^ 1074) (pow-pos 1074) (fields-value s y t r)
-    ∙ ap (λ (k : ℕ). nearest (1000 * (mant y t * 2 ^ x)) (2 ^ k)) whole
+    ∙ ap (λ (k : ℕ). closest (1000 * (mant y t * 2 ^ x)) (2 ^ k)) whole
     ∙ shifted (mant y t) x (64 + (1010 - x))
     ∙ tiny (mant y t) (1010 - x) (mant-below y t h)
 
@@ -143,7 +144,7 @@ field-below s x t r =
     omega arith
 
 fields-shifted : (s : Bool) (y t : ℕ) → 1012 ≤ y → inRange (ofFields binary64 s y t) ≡ true →
-    (y < 1043) × (thousandths (ofFields binary64 s y t) ≡ nearest (1000 * (4503599627370496 + t)) (2 ^ (1075 - y)))
+    (y < 1043) × (thousandths (ofFields binary64 s y t) ≡ closest (1000 * (4503599627370496 + t)) (2 ^ (1075 - y)))
 unfolding mant expo
 fields-shifted s zero t l r = absurd (omega arith)
 fields-shifted s (suc x) t l r =
@@ -152,7 +153,7 @@ fields-shifted s (suc x) t l r =
     let whole : 1074 ≡ 1075 - suc x + x = omega arith in (
       omega arith,
       by-value (ofFields binary64 s (suc x) t) s (m * 2 ^ x) (2 ^ 1074) (pow-pos 1074) (fields-value s (suc x) t r)
-          ∙ ap (λ (k : ℕ). nearest (1000 * (m * 2 ^ x)) (2 ^ k)) whole
+          ∙ ap (λ (k : ℕ). closest (1000 * (m * 2 ^ x)) (2 ^ k)) whole
           ∙ shifted m x (1075 - suc x),
     )
 
@@ -188,7 +189,7 @@ module _ (x : Float) (f : fits binary64 x ≡ true) (r : inRange x ≡ true) whe
   pub field-in-range : 1012 ≤ fieldOf x → fieldOf x < 1043
   field-in-range l = fields-shifted sign-bit (fieldOf x) (digitsOf x) l range-fields .0
 
-  pub thousandths-shifted : 1012 ≤ fieldOf x → nearest (1000 * (4503599627370496 + digitsOf x)) (2 ^ (1075 - fieldOf x)) ≡ thousandths x
+  pub thousandths-shifted : 1012 ≤ fieldOf x → closest (1000 * (4503599627370496 + digitsOf x)) (2 ^ (1075 - fieldOf x)) ≡ thousandths x
   unfolding sign-bit
   thousandths-shifted l = sym (ap thousandths (fields-of x f) ∙ fields-shifted sign-bit (fieldOf x) (digitsOf x) l range-fields .1)
 

@@ -13,8 +13,9 @@ use native.Mathlib.Decide.{decLt, ℕ-discrete}
 use lib.IntN.{ℤ}
 use lib.Ieee.{fin, up, down}
 use lib.Ieee.Fits.{down-pos}
-use Rattle.printing.specs.Decimal.{nearest, thousandths}
-use Rattle.printing.proofs.HalfEven.{nearest-down, nearest-up, nearest-tie}
+use lib.Ieee.Nearest.{closest}
+use Rattle.printing.specs.Decimal.{thousandths}
+use Rattle.printing.proofs.HalfEven.{closest-down, closest-up, closest-tie}
 
 -- both sides are twice the number, times b
 pub record Near (a b t : ℕ) : Type 0 where
@@ -44,32 +45,32 @@ nearest-alone a b t p q = record {
   even = λ u n other. absurd (other (alone a b t u p q n));
 }
 
-nearest-of : (a b : ℕ) → 0 < b → Dec (2 * (a % b) < b) → Dec (b < 2 * (a % b)) → Nearest a b (nearest a b)
-nearest-of a b h (yes l) m =
+closest-of : (a b : ℕ) → 0 < b → Dec (a % b * 2 < b) → Dec (b < a % b * 2) → Nearest a b (closest a b)
+closest-of a b h (yes l) m =
     let whole = div-add-mod' a b in
-    rw (nearest-down a b l) (nearest-alone a b (a / b) (omega (arith, whole)) (omega (arith, whole)))
-nearest-of a b h (no l) (yes m) =
+    rw (closest-down a b l) (nearest-alone a b (a / b) (omega (arith, whole)) (omega (arith, whole)))
+closest-of a b h (no l) (yes m) =
     let whole = div-add-mod' a b in
     let more = suc-mul (a / b) b in
     let short = mod-lt a h in
-    rw (nearest-up a b m) (nearest-alone a b (suc (a / b)) (omega (arith, whole, more, short)) (omega (arith, whole, more, short)))
-nearest-of a b h (no l) (no m) =
+    rw (closest-up a b m) (nearest-alone a b (suc (a / b)) (omega (arith, whole, more, short)) (omega (arith, whole, more, short)))
+closest-of a b h (no l) (no m) =
     let q = a / b in
     let whole = div-add-mod' a b in
     let sum = add-mul q (q % 2) b in
     let step : q % 2 * b ≤ 1 * b = mul-le-mul-right b (omega arith) in
-    let tie : 2 * (a % b) ≡ b = omega arith in
-    rw (nearest-tie a b tie) record {
+    let tie : a % b * 2 ≡ b = omega arith in
+    rw (closest-tie a b tie) record {
       near = record { above = omega (arith, whole, sum, step, tie); below = omega (arith, whole, sum, step, tie) };
       even = λ u n other. omega arith;
     }
 
-nearest-is : (a b : ℕ) → 0 < b → Nearest a b (nearest a b)
-nearest-is a b h = nearest-of a b h (decLt (2 * (a % b)) b) (decLt b (2 * (a % b)))
+closest-is : (a b : ℕ) → 0 < b → Nearest a b (closest a b)
+closest-is a b h = closest-of a b h (decLt (a % b * 2) b) (decLt b (a % b * 2))
 
 pub thousandths-near : (s : Bool) (m : ℕ) (e : ℤ) → Nearest (1000 * (m * up e)) (down e) (thousandths (fin s m e))
 unfolding thousandths
-thousandths-near s m e = nearest-is (1000 * (m * up e)) (down e) (down-pos e)
+thousandths-near s m e = closest-is (1000 * (m * up e)) (down e) (down-pos e)
 
 unique-by : (a b t u : ℕ) → 0 < b → Nearest a b t → Nearest a b u → Dec (t ≡ u) → t ≡ u
 unique-by a b t u h p q (yes e) = e

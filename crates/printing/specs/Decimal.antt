@@ -1,13 +1,13 @@
 -- Numbers in print. Text is a list of bytes. Paper, section 8.
 --   digits n          a whole number in decimal, without leading zeros
---   nearest a b       the whole number nearest to a / b; of two equally near the even one
---   thousandths x     the magnitude of a float in thousandths, to the nearest
+--   thousandths x     the magnitude of a float in thousandths, to the nearest, of two equally near the even one
 --   coordinate x      a float with three decimals; what rounds to zero has no minus
 use mathlib.Core.Bool.{Bool, false, cond, _&&_}
 use mathlib.Core.List.{List, [], _∷_, _++_}
 use Prim.Native.Nat.{ℕ, zero, suc, _+_, _*_, _/_, _%_}
 use lib.Dec.{ltb}
 use lib.Ieee.{Float, nan, inf, fin, up, down}
+use lib.Ieee.Nearest.{closest}
 use Rattle.words.specs.Text.{ascii}
 
 -- the byte of a digit
@@ -23,18 +23,12 @@ digitsUpTo (suc k) n = let r = digitsUpTo k (n / 10) ++ digit n ∷ [] in cond (
 unfoldable pub digits : ℕ → List ℕ
 digits n = digitsUpTo 19 n
 
--- below a half downwards, above it upwards, at a half to the even one
-abbrev pub nearest : ℕ → ℕ → ℕ
-nearest a b =
-    let q = a / b in
-    let twice = 2 * (a % b) in
-    cond (ltb twice b) q (cond (ltb b twice) (suc q) (q + q % 2))
-
--- a float is m times up e / down e
+-- a float is m times up e / down e; `closest a b` is a / b rounded as IEEE 754 does: down below a half, up above it, and
+-- at a half to the even one
 unfoldable pub thousandths : Float → ℕ
 thousandths nan = 0
 thousandths (inf s) = 0
-thousandths (fin s m e) = nearest (1000 * (m * up e)) (down e)
+thousandths (fin s m e) = closest (1000 * (m * up e)) (down e)
 
 abbrev pub negative : Float → Bool
 negative nan = false

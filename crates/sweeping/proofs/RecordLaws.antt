@@ -99,7 +99,8 @@ module _ (d v s h : ℕ) (ws : List ℕ) (i p k : ℕ) (long : length ws ≡ tab
       ap (λ n. getD (recordWords d v s h ws i p k) n 0) (add-one j)
       ∙ List·getD-append (low ++ high) wings 0 j (omega (arith, both-long)) ∙ vertex-at j hj
 
-  pub word-wing : (j : ℕ) → j ≤ d + 1 → getD (recordWords d v s h ws i p k) (wingPlace (suc d) j) 0 ≡ sweptWing d s h (solidWing d s ws) i p k j
+  pub word-wing : (j : ℕ) → j ≤ d + 1 →
+      getD (recordWords d v s h ws i p k) (wingPlace (suc d) j) 0 ≡ sweptWing d s h (solidWing d s ws) i p k j
   unfolding recordWords
   word-wing j hj =
       let first = cellWords (prismCell v i k here) in
@@ -112,7 +113,8 @@ module _ (d v s h : ℕ) (ws : List ℕ) (i p k : ℕ) (long : length ws ≡ tab
   word-lower m j e low =
       ap (λ n. getD (recordWords d v s h ws i p k) n 0) e ∙ word-vertex j (omega arith) ∙ rw (le-leb (k + j) d low) refl
 
-  pub word-upper : (m j : ℕ) → m ≡ vertexPlace (d + 1 - k + j) → j ≤ k → getD (recordWords d v s h ws i p k) m 0 ≡ liftedFrom d v s ws (i + 1) p 0 j
+  pub word-upper : (m j : ℕ) → m ≡ vertexPlace (d + 1 - k + j) → j ≤ k →
+      getD (recordWords d v s h ws i p k) m 0 ≡ liftedFrom d v s ws (i + 1) p 0 j
   word-upper m j e low =
       let n = d + 1 - k + j in
       let vertex : k + n - suc d ≡ 0 + j = omega arith in

@@ -1,5 +1,4 @@
 -- One name that opens every definition, so that an example is proved by computing both sides.
-use lib.Count.{trailingZeros}
 use lib.Ieee.{eq}
 use Rattle.solids.proofs.Computing.{computing as solids-computing}
 use Rattle.wing.specs.Wing.{wingRules, wingOutcome, wingBuffer}

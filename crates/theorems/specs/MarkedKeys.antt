@@ -2,10 +2,10 @@
 use mathlib.Core.Path.{_≡_}
 use mathlib.Core.List.{List, [], _∷_, _++_}
 use Prim.Native.Nat.{ℕ}
-use lib.ListN.{getD, replicate}
+use lib.ListN.{replicate}
 use lib.Ieee.{binary64, ofBits}
 use Rattle.words.specs.Text.{ascii}
-use Rattle.rules.specs.Calls.{Outcome, accepted, refused}
+use Rattle.rules.specs.Calls.{accepted, refused}
 use Rattle.simplex.specs.Order.{ascending}
 use Rattle.solids.specs.Accept.{Listed}
 use Rattle.solids.specs.Table.{wingAt}

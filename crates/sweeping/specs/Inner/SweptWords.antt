@@ -45,4 +45,5 @@ module _ (d v s h : ℕ) (ws : List ℕ) where
     pub long : length ws ≡ tableLength d s
     pub low : (p k : ℕ) → p < s → k ≤ d → solidVertex d s ws p k < v
     pub across : (p a : ℕ) → p < s → a ≤ d → (solidWing d s ws p a ≡ empty → ⊥) → solidWing d s ws p a < s
-    pub back : (p a : ℕ) → p < s → a ≤ d → (solidWing d s ws p a ≡ empty → ⊥) → backTo (solidWing d s ws) p (solidWing d s ws p a) d ≤ d
+    pub back : (p a : ℕ) → p < s → a ≤ d → (solidWing d s ws p a ≡ empty → ⊥) →
+        backTo (solidWing d s ws) p (solidWing d s ws p a) d ≤ d

@@ -5,9 +5,9 @@ use native.Mathlib.Nat.{pow-suc, mod-eq-of-lt}
 use native.Mathlib.Omega.{arith}
 use lib.Pow.{pow-pos, pow-mono}
 use lib.Ieee.{Float, binary64, toBits}
+use lib.Ieee.Nearest.{closest}
 use borrow.Author.Needs.{needs}
 use Rattle.points.proofs.Finite.{range-no-nan}
-use Rattle.printing.specs.Decimal.{nearest}
 use Rattle.printing.proofs.HalfEven.{half-added}
 use Rattle.printing.proofs.Fractions.{thousandths-zero, field-in-range, thousandths-shifted, digitsOf, fieldOf}
 use Rattle.printing.proofs.nearest.thousandths_of.Statement.{statement}
@@ -34,13 +34,14 @@ module _ (y : ℕ) where
   abbrev half : ℕ
   half = 1 * 2 ^ (1075 - y - 1) % 18446744073709551616
 
+  power-below : 1012 ≤ y → 2 ^ (1075 - y - 1) ≤ 4611686018427387904
+  power-below l = pow-mono {j = 62} (omega arith)
+
   half-is : 1012 ≤ y → half ≡ 2 ^ (1075 - y - 1)
-  half-is l =
-      let low : 2 ^ (1075 - y - 1) ≤ 4611686018427387904 = pow-mono {j = 62} (omega arith) in
-      mod-eq-of-lt (omega arith) ∙ omega arith
+  half-is l = let low = power-below l in mod-eq-of-lt (omega (arith, low)) ∙ omega arith
 
   half-below : 1012 ≤ y → half ≤ 4611686018427387904
-  half-below l = let low : 2 ^ (1075 - y - 1) ≤ 4611686018427387904 = pow-mono {j = 62} (omega arith) in omega (arith, half-is l)
+  half-below l = omega (arith, power-below l, half-is l)
 
   half-positive : 1012 ≤ y → 0 < half
   half-positive l = let some : 0 < 2 ^ (1075 - y - 1) = pow-pos (1075 - y - 1) in omega (arith, half-is l)
@@ -76,8 +77,8 @@ returns-2 c =
     let unit = unit-is y (c .if1 .left) (in-range c) in
     ap (λ (u : ℕ). (a + half y - 1 + a / u % 2) / u) unit
     ∙ half-added a (half y) (half-positive y (c .if1 .left))
-    ∙ ap (λ (u : ℕ). nearest a u) (sym unit)
-    ∙ ap (λ (z : ℕ). nearest z (2 ^ (1075 - y))) (scaled-is x)
+    ∙ ap (λ (u : ℕ). closest a u) (sym unit)
+    ∙ ap (λ (z : ℕ). closest z (2 ^ (1075 - y))) (scaled-is x)
     ∙ thousandths-shifted x (c .before .good .0 .1) (c .before .pre) (c .if1 .left)
 
 pub thousandths-of-spec : {M : Type 1} → statement M
