@@ -15,7 +15,10 @@
  * of a refusal (enum winged_refusal). The first refusal that applies is returned. A refused call writes nothing;
  * an accepted one writes from the start of each output and no further. Lengths are in bytes. An input must have
  * exactly the length that the numbers say; of an output only whole words or floats count, and it may be longer
- * than needed.
+ * than needed. A buffer of length 0 may come with any pointer, NULL among them: nothing is read or written through it.
+ *
+ * A solid may be without cells (s is 0), in every dimension, and only then without vertices (v is 0). The calls take it
+ * like any other: its list and its table have length 0, and a return of 0 is a count, no refusal.
  *
  * The inputs and the outputs of a call must not overlap. A call uses no heap and no global state, so calls on
  * different buffers may run in several threads at once; winged_list and winged_key use up to 1 MB of stack, the
@@ -59,7 +62,7 @@ extern "C" {
 
 enum winged_refusal {
     WINGED_NOT_OURS = 1,         /* read: under 40 bytes, or mark or version wrong */
-    WINGED_OUTSIDE_LIMITS = 2,   /* a number is outside its limits */
+    WINGED_OUTSIDE_LIMITS = 2,   /* a number is outside its limits, or there are cells and no vertices */
     WINGED_WRONG_LENGTH = 3,     /* an input's length is not what the numbers say */
     WINGED_FLOAT_RANGE = 4,      /* read, move, list: a float is not finite, or of magnitude 1,048,576 or above */
     WINGED_STEP_UNFIT = 5,       /* read, move: the step does not fit its space, or an unused part is not 0 */

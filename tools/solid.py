@@ -4,7 +4,7 @@
 usage: solid.py pack [TEXT [FILE]]     text to file (default: standard input and output)
        solid.py unpack [FILE [TEXT]]   file to text
        solid.py explain N              what refusal N means
-       solid.py random D V S SEED      a random accepted solid as text: dimension, vertices, cells, seed
+       solid.py random D V S SEED      a random accepted solid as text: dimension, vertices, cells (or 0), seed
        solid.py --help
 
 The text, with anything after # a comment:
@@ -15,6 +15,12 @@ The text, with anything after # a comment:
     v 1 0 0
     v 0 1 0
     + 0 1 2                  # one line a cell: its sign and its vertices
+
+A text may have no cells, and no vertices. Then these two lines say what those would have told, the dimension and the
+count of coordinates; beside cells and vertices they may stand, and must agree with them:
+
+    dimension 2              # of the cells
+    axes 3                   # of the vertices
 
 Exit status: 0 done; 1 bad text or file, with its line; 2 wrong usage.
 """
@@ -27,6 +33,7 @@ import sys
 REASONS = pathlib.Path(__file__).resolve().parents[1] / "docs" / "refusals.txt"
 KINDS = {"slide": 1, "slant": 2, "turn": 3}
 NUMBERS = {"slide": "an axis and an amount", "slant": "an axis and an amount, twice", "turn": "cosine, sine and rise"}
+SAID = {"dimension": ("D", "cell"), "axes": ("N", "vertex")}  # what a line says where there is no such part
 
 
 class Bad(Exception):
@@ -72,9 +79,20 @@ def parse_step(words, line):
     return KINDS[kind], axes + (0,) * (2 - len(axes)), amounts + (0.0,) * (3 - len(amounts))
 
 
+def agreed(name, said, found):
+    """A number that a line of its own says, or the first cell or vertex shows, each with its line: equal where both are."""
+    letter, part = SAID[name]
+    if said is None and found is None:
+        raise Bad(f"no {part} in the text, and no line '{name} {letter}' in its place")
+    if said is not None and found is not None and said[0] != found[0]:
+        raise Bad(f"{name} {said[0]}, but the {part} in line {found[1]} makes it {found[0]}", said[1])
+    return (said or found)[0]
+
+
 def parse(text):
-    """Steps, step, points and cells of a text."""
+    """Steps, step, dimension, axes, points and cells of a text."""
     steps = step = None
+    said, found = {}, {}  # dimension and axes, with their lines
     points, cells = [], []
     for line, content in enumerate(text.splitlines(), 1):
         words = content.split("#")[0].split()
@@ -85,6 +103,10 @@ def parse(text):
             if steps is not None or len(words) != 2:
                 raise Bad("one line 'steps COUNT' is wanted", line)
             steps = whole(words[1], line)
+        elif head in SAID:
+            if head in said or len(words) != 2:
+                raise Bad(f"one line '{head} {SAID[head][0]}' is wanted", line)
+            said[head] = whole(words[1], line, 255), line
         elif head in KINDS:
             if step is not None:
                 raise Bad("a second step", line)
@@ -93,22 +115,24 @@ def parse(text):
             points.append([decimal(w, line) for w in words[1:]])
             if not points[-1] or len(points[-1]) != len(points[0]):
                 raise Bad(f"a vertex takes as many coordinates as the first, {len(points[0])}", line)
+            found.setdefault("axes", (len(points[0]), line))
         elif head in "+-" and len(head) == 1:
             cells.append((head, [whole(w, line) for w in words[1:]]))
             if not cells[-1][1] or len(cells[-1][1]) != len(cells[0][1]):
                 raise Bad(f"a cell takes as many vertices as the first, {len(cells[0][1])}", line)
+            found.setdefault("dimension", (len(cells[0][1]) - 1, line))
         else:
-            raise Bad(f"{head!r} begins no line: steps, slide, slant, turn, v, + or -", line)
-    for name, part in (("steps", steps), ("step (slide, slant or turn)", step), ("vertex", points), ("cell", cells)):
-        if part is None or part == []:
+            raise Bad(f"{head!r} begins no line: steps, slide, slant, turn, dimension, axes, v, + or -", line)
+    for name, part in (("steps", steps), ("step (slide, slant or turn)", step)):
+        if part is None:
             raise Bad(f"no {name} in the text")
-    return steps, step, points, cells
+    d, n = (agreed(name, said.get(name), found.get(name)) for name in SAID)
+    return steps, step, d, n, points, cells
 
 
 def pack(text):
     """The file of a text. What the text says is kept, also where the program will refuse it."""
-    steps, (kind, axes, floats), points, cells = parse(text)
-    d, n = len(cells[0][1]) - 1, len(points[0])
+    steps, (kind, axes, floats), d, n, points, cells = parse(text)
     if d > 255 or n > 255 or len(points) > 65535 or len(cells) > 65535:
         raise Bad("too many vertices, cells or coordinates for a file")
     data = b"WNG" + struct.pack("<HBBHHHBBB3d", 1, d, n, len(points), len(cells), steps, kind, *axes, *floats)
@@ -127,7 +151,7 @@ def unpack(data):
     if len(data) != 40 + 8 * v * n + s * size:
         raise refused("3")
     step = {1: f"slide {a} {x!r}", 2: f"slant {a} {x!r} {b} {y!r}", 3: f"turn {x!r} {y!r} {z!r}"}[kind]
-    lines = [f"steps {h}", step]
+    lines = [f"steps {h}", step] + [f"dimension {d}"] * (s == 0) + [f"axes {n}"] * (v == 0)
     for p in range(v):
         lines.append("v " + " ".join(repr(c) for c in struct.unpack_from(f"<{n}d", data, 40 + 8 * n * p)))
     for p in range(s):
@@ -168,11 +192,12 @@ def random_cells(d, v, s, rng):
 
 
 def random_text(d, v, s, seed):
-    if not (0 <= d <= 6 and d < v <= 4096 and 1 <= s <= 4096):
-        raise Bad("wanted: dimension 0 to 6, vertices above it and up to 4,096, cells 1 to 4,096")
+    if not (d <= 6 and v <= 4096 and s <= 4096 and (s == 0 or d < v)):
+        raise Bad("wanted: dimension 0 to 6, vertices and cells up to 4,096, and more vertices than the dimension where there are cells")
     rng = random.Random(seed)
     n = min(8, d + 1)
     lines = [f"# dimension {d}, {v} vertices, up to {s} cells, seed {seed}", "steps 1", f"slide {n - 1} 1.0"]
+    lines += [f"dimension {d}"] * (s == 0) + [f"axes {n}"] * (v == 0)
     lines += ["v " + " ".join(str(rng.randrange(-999, 1000) / 8) for _ in range(n)) for _ in range(v)]
     lines += [("+" if sign > 0 else "-") + " " + " ".join(map(str, row)) for sign, row in random_cells(d, v, s, rng)]
     return "\n".join(lines) + "\n"

@@ -3,7 +3,8 @@
 //!
 //! Words are 16 bits. A list of cells holds a sign word (0 plus, 1 minus) and d + 1 vertices a cell; a table
 //! holds a sign word, d + 1 ascending vertices and d + 1 wings a cell, 65535 for none; a face is a sign word
-//! and d vertices. Points are floats, n for each vertex.
+//! and d vertices. Points are floats, n for each vertex. A solid may be without cells, and then without vertices: its
+//! lists are empty.
 //!
 //! ```
 //! // a segment from vertex 0 to vertex 1, swept in one step, and the boundary of that square
@@ -77,7 +78,7 @@ impl fmt::Display for Refusal {
     fn fmt(&self, f: &mut fmt::Formatter) -> fmt::Result {
         let reason = match self {
             Refusal::NotOurs => "the file is too short, or its mark or version is wrong",
-            Refusal::OutsideLimits => "a number is outside its limits",
+            Refusal::OutsideLimits => "a number is outside its limits, or there are cells and no vertices",
             Refusal::WrongLength => "a length is not what the numbers say",
             Refusal::FloatRange => "a float is not finite, or of magnitude 1,048,576 or above",
             Refusal::StepUnfit => "the step does not fit its space, or an unused part is not zero",

@@ -1,6 +1,7 @@
 """Cases by bytes: lengths that are no whole number of words or floats, a short header, and a step told by numbers that
 the other cases do not send."""
 
+import itertools
 import struct
 
 import winged_reference as reference
@@ -88,6 +89,13 @@ def reads():
         solid = Solid(kind=kind, axes=axes).set(floats=list(bits))
         solid.points[0] = MINUS_ZERO
         yield read(f"kind {kind} by bytes", 0, 0, 0, 0, solid)
+    for d in range(7):
+        for v, n in itertools.product((0, 2), {d + 1, 8}):
+            for header, cells, points in ((0, 0, 0), (0, 1, 7), (-1, 0, 0), (-40, 0, 0), (0, 0, -1)):
+                row = 15 if header < 0 or v and points < 0 else 0
+                if v or points >= 0:
+                    solid = Solid(d=d, n=n, v=v, s=0)
+                    yield read(f"no cells: d {d} n {n} v {v}, {header}, {cells}, {points} bytes over", header, cells, points, row, solid)
     yield read("no header's room, and a vertex too high", -1, 0, 0, 7, bad_vertex())
 
 

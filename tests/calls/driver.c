@@ -9,7 +9,7 @@
  *   6, 7, 8   move, read and list by bytes: the call's numbers, the lengths of all buffers in bytes, then the inputs
  *   9         a file to its key: its bytes, the bytes lent; then the file
  * Every output holds marks before the call. Around all buffers stand guard bytes; a call that touches one, or an input,
- * ends the program with status 1. */
+ * ends the program with status 1. So does a call whose answer is another where a buffer of length 0 comes as NULL. */
 #include <inttypes.h>
 #include <stdio.h>
 #include <stdlib.h>
@@ -26,6 +26,13 @@ typedef struct {
     uint8_t *whole, *kept, *bytes;
     size_t n;
 } Buffer;
+
+/* What a call is given: its numbers and its buffers in order, the rest without memory. */
+typedef struct {
+    uint64_t kind;
+    const uint64_t *k;
+    Buffer b[4];
+} Case;
 
 static int get(uint64_t *x)
 {
@@ -149,10 +156,48 @@ static void print_answer(const char *word, int64_t r)
         printf("%s %" PRId64 "\n", word, r);
 }
 
-static int64_t call_move(uint64_t kind, const uint64_t *k, Buffer points, Buffer levels)
+static int64_t call_move(const Case *c)
 {
-    return winged_move(small(k[5]), small(k[6]), small(k[7]), small(kind), small(k[0]), small(k[1]), k[2], k[3], k[4],
-                       points.bytes, points.n, levels.bytes, levels.n);
+    const uint64_t *k = c->k;
+
+    return winged_move(small(k[5]), small(k[6]), small(k[7]), small(c->kind), small(k[0]), small(k[1]), k[2], k[3], k[4],
+                       c->b[0].bytes, c->b[0].n, c->b[1].bytes, c->b[1].n);
+}
+
+static int64_t call_read(const Case *c)
+{
+    return winged_read(c->b[0].bytes, c->b[0].n, c->b[1].bytes, c->b[1].n, c->b[2].bytes, c->b[2].n, c->b[3].bytes, c->b[3].n);
+}
+
+static int64_t call_list(const Case *c)
+{
+    const uint64_t *k = c->k;
+
+    return winged_list(small(k[0]), small(k[1]), small(k[2]), small(k[3]), c->b[0].bytes, c->b[0].n, c->b[1].bytes, c->b[1].n,
+                       c->b[2].bytes, c->b[2].n);
+}
+
+static int64_t call_key(const Case *c)
+{
+    return winged_key(c->b[0].bytes, c->b[0].n, c->b[1].bytes, c->b[1].n);
+}
+
+/* The answer of a call. Where a buffer has length 0 the call is made again with NULL in its place. */
+static int64_t answer(int64_t (*call)(const Case *), Case c)
+{
+    int64_t r = call(&c);
+    int empty = 0;
+
+    for (int i = 0; i < 4 && c.b[i].whole; i++)
+        if (c.b[i].n == 0) {
+            c.b[i].bytes = NULL;
+            empty = 1;
+        }
+    if (empty && call(&c) != r) {
+        fprintf(stderr, "driver: another answer with NULL for a buffer of length 0\n");
+        exit(1);
+    }
+    return r;
 }
 
 static void move_case(uint64_t kind)
@@ -161,7 +206,7 @@ static void move_case(uint64_t kind)
 
     get_all(k, 10);
     Buffer points = input(8 * k[8]), levels = buffer(8 * k[9], FLOAT_MARK, 8);
-    print_answer("moved", call_move(kind, k, points, levels));
+    print_answer("moved", answer(call_move, (Case){kind, k, {points, levels}}));
     printf("buffer");
     print_numbers(levels.bytes, k[9], 8);
     done(points, 1);
@@ -191,7 +236,7 @@ static void read_case(void)
 
     get_all(k, 3);
     Buffer file = input(k[0]), header = output(HEADER + 3), cells = output(2 * k[1]), points = buffer(8 * k[2], FLOAT_MARK, 8);
-    int64_t r = winged_read(file.bytes, file.n, header.bytes, header.n, cells.bytes, cells.n, points.bytes, points.n);
+    int64_t r = answer(call_read, (Case){0, k, {file, header, cells, points}});
     if (r < 0) {
         print_answer("", r);
     } else {
@@ -218,8 +263,7 @@ static void list_bytes(size_t size)
 
     get_all(k, 7);
     Buffer table = input(size == 1 ? k[4] : 2 * k[4]), points = input(size == 1 ? k[5] : 8 * k[5]), text = output(k[6]);
-    print_answer("listed", winged_list(small(k[0]), small(k[1]), small(k[2]), small(k[3]), table.bytes, table.n, points.bytes,
-                                       points.n, text.bytes, text.n));
+    print_answer("listed", answer(call_list, (Case){0, k, {table, points, text}}));
     printf("buffer ");
     print_bytes(text);
     done(table, 1);
@@ -234,7 +278,7 @@ static void move_bytes(void)
     get_all(&kind, 1);
     get_all(k, 10);
     Buffer points = input(k[8]), levels = output(k[9]);
-    print_answer("moved", call_move(kind, k, points, levels));
+    print_answer("moved", answer(call_move, (Case){kind, k, {points, levels}}));
     printf("buffer ");
     print_bytes(levels);
     done(points, 1);
@@ -247,7 +291,7 @@ static void read_bytes(void)
 
     get_all(k, 4);
     Buffer file = input(k[0]), header = output(k[1]), cells = output(k[2]), points = output(k[3]);
-    print_answer("read", winged_read(file.bytes, file.n, header.bytes, header.n, cells.bytes, cells.n, points.bytes, points.n));
+    print_answer("read", answer(call_read, (Case){0, k, {file, header, cells, points}}));
     print_bytes(header);
     print_bytes(cells);
     printf("behind ");
@@ -264,7 +308,7 @@ static void key_case(void)
 
     get_all(k, 2);
     Buffer file = input(k[0]), text = output(k[1]);
-    print_answer("printed", winged_key(file.bytes, file.n, text.bytes, text.n));
+    print_answer("printed", answer(call_key, (Case){0, k, {file, text}}));
     printf("buffer ");
     print_bytes(text);
     done(file, 1);

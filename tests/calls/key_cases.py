@@ -23,6 +23,8 @@ def files(rng):
     yield from (("no bytes", b""), ("a good file", good))
     for length in (39, 40, LIMIT - 1, LIMIT, LIMIT + 1, 3 * LIMIT):
         yield f"{length} bytes", good[:length] + b"\0" * (length - len(good))
+    for d, n, v, h, data in solids.empty_files():
+        yield f"no cells: d {d} n {n} v {v} h {h}", data
     for number in range(400):
         data = solids.random_file(rng)
         yield f"random {number}", solids.damaged(data, rng) if rng.random() < 0.5 else data

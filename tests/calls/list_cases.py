@@ -59,7 +59,7 @@ def limits():
     for v in (0, 1, 2, 4095, 4096, 4097, 4098):
         yield case(f"v {v}", 0, 1, v, 1, [1, 0, EMPTY], plain(v), row=0 if 1 <= v <= 4096 else 2)
     for s in (0, 1, 2, 4095, 4096, 4097, 4098):
-        yield case(f"s {s}", 0, 1, 4096, s, points_apart(s), [0.0] * 4096, row=0 if 1 <= s <= 4096 else 2)
+        yield case(f"s {s}", 0, 1, 4096, s, points_apart(s), [0.0] * 4096, row=0 if s <= 4096 else 2)
     most = (7, 8, 4096, 4096)
     yield case("the most of all, no table", *most, [0] * 69632, [0.0] * 32768, row=14)
     yield case("the most of all, a word short", *most, [0] * 69631, [0.0] * 32768, row=3)
@@ -68,6 +68,21 @@ def limits():
         numbers = [0, 1, 1, 1]
         numbers[place] = x
         yield case(f"{'dnvs'[place]} {x}", *numbers, [0, 0, EMPTY], [0.5], row=2)
+
+
+def no_cells():
+    """No cells: a first line and the vertices, if there are any. No vertices and a cell are row 2."""
+    for d, n, v in itertools.product(range(8), (1, 3, 8), (0, 1, 5, 4096)):
+        yield case(f"no cells: d {d} n {n} v {v}", d, n, v, 0, [], plain(v * n), row=0)
+        yield case(f"no cells, and a word: d {d} n {n} v {v}", d, n, v, 0, [0], plain(v * n), row=3)
+        yield case(f"no cells, and a float: d {d} n {n} v {v}", d, n, v, 0, [], plain(v * n + 1), row=3)
+        need = reference.list_key(d, n, v, 0, [], plain(v * n), ANY_ROOM).count
+        for room in (0, need - 1, need):
+            yield case(f"no cells: d {d} n {n} v {v} room {room}", d, n, v, 0, [], plain(v * n), room, 15 if room < need else 0)
+    for d, n in itertools.product(range(8), (1, 8)):
+        yield case(f"no vertices, one cell: d {d} n {n}", d, n, 0, 1, [0, *range(d + 1), *[EMPTY] * (d + 1)], [], row=2)
+    for d, n, v in ((8, 1, 0), (0, 0, 0), (0, 9, 0), (0, 1, 4097)):
+        yield case(f"no cells: d {d} n {n} v {v}", d, n, v, 0, [], plain(v * n), row=2)
 
 
 def lengths():
@@ -199,7 +214,7 @@ def put(field, place, x):
 # a row and what makes it apply to five triangles in a row
 FAULTS = [
     (2, lambda f: f.update(d=8)), (2, lambda f: f.update(n=0)), (2, lambda f: f.update(n=9)),
-    (2, lambda f: f.update(v=4097)), (2, lambda f: f.update(s=0)),
+    (2, lambda f: f.update(v=4097)), (2, lambda f: f.update(v=0)),
     (3, lambda f: f["table"].append(0)), (3, lambda f: f["table"].pop(1)),
     (3, lambda f: f["points"].append(0.0)), (3, lambda f: f["points"].pop(1)),
     (4, put("points", 0, math.nan)), (4, put("points", 10, -BIG)), (4, put("points", -1, math.inf)),
@@ -255,7 +270,7 @@ def random_cases(rng, count):
 
 
 def cases(rng):
-    for part in (limits, lengths, floats_at_edges, unsound, rooms, two_faults):
+    for part in (limits, no_cells, lengths, floats_at_edges, unsound, rooms, two_faults):
         yield from part()
     yield from many_floats(rng)
     yield from random_cases(rng, 3000)

@@ -48,7 +48,7 @@ def limits():
     for n in (*range(11), *HUGE):
         yield case(f"n {n}", n, 3, 2, Slide(0, 1.0), plain(3 * n if n < 20 else 3), row=0 if 1 <= n <= 8 else 2)
     for v in (0, 1, 2, 2048, 2049, 4095, 4096, 4097, 4098, *HUGE):
-        row = 0 if 1 <= v <= 2048 else 12 if 1 <= v <= 4096 else 2
+        row = 0 if v <= 2048 else 12 if v <= 4096 else 2
         yield case(f"v {v}", 1, v, 1, Slide(0, 1.0), plain(v if v < 5000 else 3), row=row)
     for h in (*range(67), 255, 65536, *HUGE):
         yield case(f"h {h}", 2, 3, h, Slide(1, 1.0), plain(6), room=400, row=0 if 1 <= h <= 64 else 2)
@@ -56,6 +56,18 @@ def limits():
                  (65, 62), (66, 62), (4096, 64)):
         row = 0 if (h + 1) * v <= 4096 else 12
         yield case(f"v {v} h {h}", 1, v, h, Slide(0, 0.5), plain(v), row=row)
+
+
+def no_points():
+    """No vertices: nothing is written, whatever the room; the numbers, the length and the step are tested as ever."""
+    for n, h in itertools.product(range(1, 9), (1, 2, 64)):
+        for step, room in itertools.product(solids.steps_of_each_kind(n), (0, 1, 3)):
+            yield case(f"no points: n {n} h {h} room {room} {step}", n, 0, h, step, [], room, 0)
+        yield case(f"no points, and a float: n {n} h {h}", n, 0, h, Slide(0, 1.0), [0.0], 4, 3)
+        yield case(f"no points, slid too far: n {n} h {h}", n, 0, h, Slide(0, BIG), [], 4, 4)
+        yield case(f"no points, axis {n}: h {h}", n, 0, h, Slide(n, 1.0), [], 4, 5)
+    for n, h in ((0, 1), (9, 1), (1, 0), (1, 65)):
+        yield case(f"no points: n {n} h {h}", n, 0, h, Slide(0, 1.0), [], 4, 2)
 
 
 def lengths():
@@ -215,7 +227,7 @@ def random_cases(rng, count):
 
 
 def cases(rng):
-    for part in (limits, lengths, floats_at_edges, axes, out_of_range, rooms, exact, two_faults):
+    for part in (limits, no_points, lengths, floats_at_edges, axes, out_of_range, rooms, exact, two_faults):
         yield from part()
     yield from circles(rng)
     yield from random_cases(rng, 4000)

@@ -92,15 +92,26 @@ def limits():
     for v in (0, 1, 2, 4095, 4096, 4097, 5000):
         yield Solid(d=0, n=1, v=v).case(f"v {v}", 0 if 1 <= v <= 4096 else 2)
     for s in (0, 1, 2, 4095, 4096, 4097, 5000):
-        yield Solid(d=0, n=1, s=s).case(f"s {s}", 0 if 1 <= s <= 4096 else 2)
+        yield Solid(d=0, n=1, s=s).case(f"s {s}", 0 if s <= 4096 else 2)
     for h in (0, 1, 2, 63, 64, 65, 66, 256, 65535):
         yield Solid(h=h).case(f"h {h}", 0 if 1 <= h <= 64 else 2)
     for kind in range(256):
         row = 0 if kind in (1, 2) else 5 if kind == 3 else 2
         yield Solid(kind=kind, axes=(0, 1) if kind == 2 else (0, 0)).case(f"kind {kind}", row)
     for field, value in (("v", 65535), ("s", 65535), ("v", 0), ("s", 0), ("v", 256), ("s", 256)):
-        row = 3 if value == 256 else 2
+        row = 3 if value == 256 or (field, value) == ("s", 0) else 2
         yield Solid().set(**{field: value}).case(f"{field} {value} and another length", row)
+
+
+def no_cells():
+    """Files without cells, with and without vertices; lent no words, and floats enough, one more and one too few."""
+    for d, n, v, h, data in solids.empty_files():
+        for more in (0, 1, -1) if v else (0, 1):
+            yield case(f"no cells: d {d} n {n} v {v} h {h}, {more} floats over", data, 0, v * n + more, 15 if more < 0 else 0)
+        if v == 0:
+            cell = struct.pack(f"<B{d + 1}H", 43, *range(d + 1))
+            yield case(f"no vertices, one cell: d {d} n {n}", data[:9] + b"\1\0" + data[11:] + cell, row=2)
+        yield case(f"no cells, a byte too many: d {d} n {n} v {v}", data + b"+", row=3)
 
 
 def starts():
@@ -284,7 +295,7 @@ def random_files(rng, count):
 
 
 def cases(rng):
-    for part in (limits, starts, lengths, floats_at_edges, axes, cells, rooms, two_faults):
+    for part in (limits, no_cells, starts, lengths, floats_at_edges, axes, cells, rooms, two_faults):
         yield from part()
     yield from circles(rng)
     yield from random_files(rng, 4000)

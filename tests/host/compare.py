@@ -8,6 +8,7 @@ Last line: 'N passed, M failed'.
 """
 
 import collections
+import itertools
 import os
 import random
 import struct
@@ -126,8 +127,18 @@ def edge_requests(rng):
         yield Request(WING, d, v, len(strip), 1, as_bytes(words), 1 << 19)
 
 
+def no_cells():
+    """Solids without cells, lent no room and some; a word too many; and a cell without a vertex."""
+    for d, (v, h) in itertools.product(range(8), solids.empty_sizes()):
+        for call, data, room in itertools.product(NAMES, (b"", b"\0", b"\0\0"), (0, 1, 2, 7)):
+            yield Request(call, d, v, 0, h, data, room)
+    for call, d, data in itertools.product(NAMES, range(8), (b"", bytes(6))):
+        yield Request(call, d, 0, 1, 1, data, 64)
+
+
 def all_requests(rng):
     yield from edge_requests(rng)
+    yield from no_cells()
     for _ in range(1500):
         d = rng.choice((0, 1, 1, 2, 2, 3, 3, 4, 5, 6, 7))
         v, cells = solids.small_solid(d, rng)

@@ -2,7 +2,8 @@
  *
  * Request: call (1 wing, 2 sweep, 3 faces), d, v, s, h, input length, output length, each 32 bits low byte first;
  * then the input. Answer: result (64 bits), then the output buffer. Around the input and the output stand guard
- * bytes; a call that touches one, or its input, ends the program with status 1. */
+ * bytes; a call that touches one, or its input, ends the program with status 1. So does a call whose answer is another
+ * where a buffer of length 0 comes as NULL. */
 #include <stdio.h>
 #include <stdlib.h>
 #include <string.h>
@@ -68,6 +69,10 @@ static void answer(uint32_t which, const uint32_t *k, size_t n, size_t m)
     in = guarded(n, content);
     out = guarded(m, NULL);
     r = call(which, k, in + GUARD, n, out + GUARD, m);
+    if ((n == 0 || m == 0) && call(which, k, n ? in + GUARD : NULL, n, m ? out + GUARD : NULL, m) != r) {
+        fprintf(stderr, "driver: another answer with NULL for a buffer of length 0\n");
+        exit(1);
+    }
     check_edges(in, n, "input");
     check_edges(out, m, "output");
     if (memcmp(in + GUARD, content, n) != 0) {

@@ -2,7 +2,7 @@
 
 usage: compare.py [PROGRAM [SEED]]
 
-Thousands of random files, good and damaged, and files at the limits. Last line: 'N passed, M failed'.
+Thousands of random files, good and damaged, files at the limits, and files without cells of every dimension and step. Last line: 'N passed, M failed'.
 """
 
 import collections
@@ -33,6 +33,7 @@ def edge_files(rng):
 
 def files(rng):
     yield from edge_files(rng)
+    yield from (data for *_, data in solids.empty_files())
     for _ in range(FILES):
         data = solids.random_file(rng)
         yield solids.damaged(data, rng) if rng.random() < 0.6 else data

@@ -125,11 +125,11 @@ def check_read_rows():
         check(f"row 1 {name}", read_number(data), 1)
     for name, place, form, value in (
             ("d 7", 5, "B", 7), ("n 0", 6, "B", 0), ("n 9", 6, "B", 9), ("n under d+1", 6, "B", 2),
-            ("V 0", 7, "H", 0), ("V 4097", 7, "H", 4097), ("S 0", 9, "H", 0),
-            ("S 4097", 9, "H", 4097), ("h 0", 11, "H", 0), ("h 65", 11, "H", 65),
+            ("V 0", 7, "H", 0), ("V 4097", 7, "H", 4097), ("S 4097", 9, "H", 4097), ("h 0", 11, "H", 0), ("h 65", 11, "H", 65),
             ("kind 0", 13, "B", 0), ("kind 4", 13, "B", 4)):
         check(f"row 2 {name}", read_number(patched(good, place, form, value)), 2)
-    for name, data in (("too many", good + b"\0"), ("too few", good[:-1]), ("header", good[:40])):
+    for name, data in (("too many", good + b"\0"), ("too few", good[:-1]), ("header", good[:40]),
+                       ("S 0", patched(good, 9, "H", 0)), ("V and S 0", patched(good, 7, "HH", 0, 0))):
         check(f"row 3 read {name}", read_number(data), 3)
     for place in (16, 24, 32, 40, 104):
         for value in (BIG, -BIG, math.inf, -math.inf, math.nan):
@@ -175,7 +175,7 @@ def check_wing_rows():
     """The rows of wing."""
     lone = [0, 0, 1, 2]
     check("wing accepts", ref.wing(2, 3, 1, lone, 7), Answer(7, lone + [EMPTY] * 3))
-    for d, v, s in ((8, 3, 1), (2, 0, 1), (2, 4097, 1), (2, 3, 0), (2, 3, 4097), (10**9, 3, 1)):
+    for d, v, s in ((8, 3, 1), (2, 0, 1), (2, 4097, 1), (2, 4097, 0), (2, 3, 4097), (10**9, 3, 1), (8, 0, 0)):
         check(f"row 2 wing {d} {v} {s}", ref.wing(d, v, s, lone, ROOM), Refused(2))
     check("row 3 wing", [number(ref.wing(2, 3, 1, c, ROOM)) for c in ([], lone[1:], lone + [0])],
           [3, 3, 3])
@@ -196,10 +196,10 @@ def check_wing_rows():
 def check_table_rows():
     """The rows of sweep, faces and list over tables."""
     lone = [0, 0, 1, 2, EMPTY, EMPTY, EMPTY]
-    for d, v, s, h in ((7, 3, 1, 1), (2, 0, 1, 1), (2, 3, 0, 1), (2, 4097, 1, 1), (2, 3, 4097, 1),
+    for d, v, s, h in ((7, 3, 1, 1), (2, 0, 1, 1), (7, 0, 0, 1), (2, 4097, 1, 1), (2, 3, 4097, 1),
                        (2, 3, 1, 0), (2, 3, 1, 65)):
         check(f"row 2 sweep {d} {v} {s} {h}", ref.sweep(d, v, s, h, lone, ROOM), Refused(2))
-    for d, v, s in ((8, 3, 1), (2, 0, 1), (2, 3, 0), (2, 4097, 1), (2, 3, 4097)):
+    for d, v, s in ((8, 3, 1), (2, 0, 1), (8, 0, 0), (2, 4097, 1), (2, 3, 4097)):
         check(f"row 2 faces {d} {v} {s}", ref.faces(d, v, s, lone, ROOM), Refused(2))
         check(f"row 2 list {d} {v} {s}", ref.list_key(d, 1, v, s, lone, [0.0] * 3, ROOM), Refused(2))
     check("row 2 list n", [number(ref.list_key(2, n, 3, 1, lone, [0.0] * 3, ROOM)) for n in (0, 9)],
@@ -250,7 +250,7 @@ def check_move_rows():
     def moved(n, v, h, step, points, room=ROOM):
         return number(ref.move(n, v, h, step, points, room))
     slide = Slide(0, 1.0)
-    for n, v, h in ((0, 1, 1), (9, 1, 1), (1, 0, 1), (1, 4097, 1), (1, 1, 0), (1, 1, 65)):
+    for n, v, h in ((0, 1, 1), (9, 1, 1), (9, 0, 1), (1, 4097, 1), (1, 1, 0), (1, 0, 0), (1, 1, 65)):
         check(f"row 2 move {n} {v} {h}", moved(n, v, h, slide, [0.0]), 2)
     check("row 3 move", [moved(1, 1, 1, slide, p) for p in ([], [0.0] * 2)], [3, 3])
     check("row 4 move", [moved(1, 1, 1, Slide(0, x), [y]) for x, y in
@@ -273,6 +273,30 @@ def check_move_rows():
     check("turn", struct.pack("<12d", *turned), struct.pack("<12d", *wanted))
     check("slant", ref.move(2, 1, 1, Slant(1, 0.5, 0, -1.0), [2.0, 3.0], ROOM).written,
           [2.0, 3.0, 1.0, 3.5])
+
+def check_no_cells():
+    """Solids without cells: each call takes them, and the key is a first line and the vertices."""
+    for d, v in ((d, v) for d in range(8) for v in (0, 1, 5, 4096)):
+        name = f"no cells, d {d} v {v}"
+        check(name + " wing", ref.wing(d, v, 0, [], 0), Answer(0, []))
+        check(name + " faces", ref.faces(d, v, 0, [], 0), Answer(0, []))
+        check(name + " list", ref.list_key(d, 1, v, 0, [], [0.5] * v, ROOM).written.decode().splitlines(),
+              [f"key {d} 1 {v} 0"] + [f"v {k} 0.500" for k in range(v)])
+        check(name + " a word", [number(call(d, v, 0, [0], ROOM)) for call in (ref.wing, ref.faces)], [3, 3])
+    for d, h in ((d, h) for d in range(7) for h in (1, 2, 64)):
+        check(f"no cells, sweep {d} {h}", ref.sweep(d, 0, 0, h, [], 0), Answer(0, []))
+        check(f"no cells, sweep too large {d} {h}", ref.sweep(d, 4096, 0, h, [], 0), Refused(12))
+    check("no vertices, move", [ref.move(n, 0, h, Slide(0, 1.0), [], 0) for n in (1, 8) for h in (1, 64)], [Answer(0, [])] * 4)
+    check("no vertices, a point", number(ref.move(1, 0, 1, Slide(0, 1.0), [0.0], 0)), 3)
+    for d, n, v, h, data in solids.empty_files():
+        lines, floats = ref.key(data).decode().splitlines(), (h + 1) * v * n
+        if len(data) > 65536 or (h + 1) * v > 4096:
+            check(f"no cells, file of {len(data)} bytes", lines, ["refused 3" if len(data) > 65536 else "refused 12"])
+        elif floats > 4096:  # more than the program has room for, as floats or as text
+            check(f"no cells, {floats} floats", lines, ["refused 15"])
+        else:
+            check(f"no cells, {floats} floats", (lines[0], len(lines)), (f"key {d + 1} {n} {(h + 1) * v} 0", 1 + (h + 1) * v))
+    check("no vertices, a cell", ref.key(one_file(v=0, points=[])), b"refused 2\n")
 
 def check_program_and_c():
     """The program's limits, its command line, and the calls as C has them."""
@@ -317,32 +341,32 @@ def check_side_pairs():
             check(f"the closed rule {d} {a}", closed, ref.side_pairs(d, a))
 
 # Random solids: wings by definition, and the third term.
-def third_term_lists(cells, v, h):
+def third_term_lists(d, cells, v, h):
     """The signed cells that the third term asks of the swept boundary."""
-    turned = (-1) ** (len(cells[0][1]) - 1)
+    turned = (-1) ** d
     top = [(turned * sign, vertices) for sign, vertices in ref.top_copy(cells, v, h)]
     bottom = [(-turned * sign, vertices) for sign, vertices in cells]
     return top + bottom + ref.sweep_plain(ref.own_boundary(cells), v, h)
 
-def check_third_term(name, cells, v, h, boundary, rng):
+def check_third_term(name, d, cells, v, h, boundary, rng):
     """Equal lists both ways, distinct faces, and the coefficients at sampled rows."""
-    wanted = third_term_lists(cells, v, h)
+    wanted = third_term_lists(d, cells, v, h)
     check(name + " faces wanted", all(boundary.count(c) == wanted.count(c) for c in wanted))
     check(name + " faces given", all(boundary.count(c) == wanted.count(c) for c in boundary))
     check(name + " distinct", len({vertices for _, vertices in boundary}), len(boundary))
-    d, most = len(cells[0][1]) - 1, (h + 1) * v
+    most = (h + 1) * v
     rows = [vertices for _, vertices in boundary + wanted]
     rows = rng.sample(rows, min(len(rows), 20))
-    rows += [tuple(sorted(rng.sample(range(most), d + 1))) for _ in range(10)]
+    rows += [tuple(sorted(rng.sample(range(most), d + 1))) for _ in range(10) if most > d]
     sides, top = ref.sweep_plain(ref.own_boundary(cells), v, h), ref.top_copy(cells, v, h)
     for row in rows:
         ends = ref.coefficient(top, row) - ref.coefficient(cells, row)
         check(f"{name} at {row}", ref.coefficient(boundary, row),
               (-1) ** d * ends + ref.coefficient(sides, row))
 
-def check_solid(name, v, cells, h, rng):
+def check_solid(name, d, v, cells, h, rng):
     """One accepted solid through wing, sweep and faces."""
-    d, s = len(cells[0][1]) - 1, len(cells)
+    s = len(cells)
     table = ref.wing(d, v, s, solids.cell_words(solids.shuffled(cells, rng)), ROOM)
     check(name + " accepted", number(table), 0)
     check(name + " cells", ref.table_cells(d, table.written), cells)
@@ -360,7 +384,7 @@ def check_solid(name, v, cells, h, rng):
     check(name + " face count", found.count, sum(w == EMPTY for row in
           ref.table_wings(d + 1, swept.written) for w in row))
     check(name + " faces alone", Counter(boundary), Counter(ref.own_boundary(swept_cells)))
-    check_third_term(name, cells, v, h, boundary, rng)
+    check_third_term(name, d, cells, v, h, boundary, rng)
     return table.written
 
 def check_solids(rng):
@@ -369,7 +393,7 @@ def check_solids(rng):
     for trial in range(400):
         d = trial % 5 if trial < 380 else 5 + trial % 2
         v, cells = solids.small_solid(d, rng)
-        table = check_solid(f"solid {trial}", v, cells, rng.choice((1, 1, 2, 3)), rng)
+        table = check_solid(f"solid {trial}", d, v, cells, rng.choice((1, 1, 2, 3)), rng)
         closed += d > 0 and not ref.own_boundary(cells)
         worse = solids.damaged_table(table, d, v, len(cells), rng)
         answer = ref.faces(d, v, len(cells), worse, ROOM)
@@ -381,6 +405,8 @@ def check_solids(rng):
             again = ref.wing(d, v, len(cells), solids.cell_words(ref.table_cells(d, worse)), ROOM)
             check(f"damage {trial} still sound", again.written, worse)
     check("closed solids among them", closed >= 10)
+    for d, v in ((d, v) for d in range(7) for v in (0, 1, 9)):
+        check_solid(f"no cells, d {d} v {v}", d, v, [], 2, rng)
 
 def check_files(rng):
     """Random files are read back; damaged ones print a key or a refusal; all rows occur."""
@@ -405,7 +431,7 @@ def check_files(rng):
 def main():
     """All checks, with a fixed seed; a check that breaks off is a failure too."""
     groups = (check_keys, check_read_rows, check_wing_rows, check_table_rows, check_unsound,
-              check_move_rows, check_program_and_c, check_side_pairs,
+              check_move_rows, check_no_cells, check_program_and_c, check_side_pairs,
               lambda: check_printing(random.Random(1)), lambda: check_solids(random.Random(2)),
               lambda: check_files(random.Random(3)))
     for place, group in enumerate(groups):

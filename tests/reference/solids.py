@@ -4,6 +4,7 @@ A signed cell is a pair (sign, vertices): +1 or -1, and a tuple of vertices.
 All chance comes from the random.Random that the caller lends.
 """
 
+import itertools
 import math
 import struct
 
@@ -113,7 +114,7 @@ def edge_float(rng):
 def random_points(v, n, rng):
     """The floats of v points; seldom some near the limit, so that moves go over it."""
     points = [random_float(rng) for _ in range(v * n)]
-    if rng.random() < 0.15:
+    if points and rng.random() < 0.15:
         points[rng.randrange(v * n)] = rng.choice((BELOW_BIG, -BELOW_BIG, BIG - 1.0, BIG - 2.0))
     return points
 
@@ -140,6 +141,24 @@ def random_step(n, rng):
         return Slant(a, random_float(rng), b, random_float(rng))
     return random_turn(rng)
 
+# Solids without cells.
+def empty_sizes():
+    """Vertex counts and steps for a solid without cells: those that a sweep may have, and those that are too many."""
+    return ((0, 1), (0, 2), (0, 64), (1, 1), (1, 5), (3, 1), (7, 3), (63, 64), (2048, 1), (2049, 1), (1366, 2), (4096, 64))
+
+def steps_of_each_kind(n):
+    """A step of each kind that n axes have room for."""
+    steps = (Slide(n - 1, 1.0), Slant(n - 1, 0.5, 0, -2.0), Turn(0.6, 0.8, 0.25))
+    return steps[:min(n, 3)]
+
+def empty_files():
+    """Files without cells, of every dimension and kind of step, with many vertices only slid; (d, n, v, h, file)."""
+    for d, (v, h) in itertools.product(range(7), empty_sizes()):
+        for n in {d + 1, max(d + 1, 3), 8} if v < 1000 else {d + 1}:
+            points = [(k * 37 % 101 - 50) / 16 for k in range(v * n)]
+            for step in steps_of_each_kind(n)[:3 if v < 1000 else 1]:
+                yield d, n, v, h, file_bytes(d, n, v, h, step, points, [])
+
 # Files.
 def step_bytes(step):
     """Bytes 13 to 39 of a file."""
@@ -159,7 +178,7 @@ def file_bytes(d, n, v, h, step, points, cells):
     return data
 
 def random_file(rng, d=None):
-    """A file of a random accepted solid, shuffled; most are small, some too big to sweep."""
+    """A file of a random accepted solid, shuffled; most are small, some too big to sweep, some without cells."""
     d = rng.randint(0, 6) if d is None else d
     n = rng.randint(d + 1, 8)
     v, cells = small_solid(d, rng)
@@ -168,6 +187,8 @@ def random_file(rng, d=None):
         v = rng.choice((60, 200, 700, 1365, 1366, 2048, 2049))
         cells = random_solid(d, v, rng.choice((5, 50, 150, 400)), rng)
         n, h = d + 1, rng.choice((1, 2, 8, 63, 64))
+    elif rng.random() < 0.05:
+        v, cells = rng.choice((0, 1, v)), []
     cells = shuffled(cells, rng, adjust=rng.random() < 0.9)
     return file_bytes(d, n, v, h, random_step(n, rng), random_points(v, n, rng), cells)
 

@@ -136,9 +136,9 @@ def table_boundary(d, table):
     return [face for cell, wings in zip(table_cells(d, table), table_wings(d, table))
             for face, neighbour in zip(faces_of(cell), wings) if neighbour == EMPTY]
 
-def counts_fit(*counts):
-    """Vertices or cells, each 1 to 4,096."""
-    return all(1 <= count <= MOST for count in counts)
+def sizes_fit(v, s):
+    """Vertices and cells, up to 4,096 each; without vertices there are no cells."""
+    return v <= MOST and s <= MOST and (v >= 1 or s == 0)
 
 def rows_refusal(rows, signs, v):
     """Rows 6 to 8 over rows of a sign and vertices, or None."""
@@ -151,7 +151,7 @@ def rows_refusal(rows, signs, v):
 
 def wing(d, v, s, cells, room):
     """The table of a list of cells."""
-    if not (0 <= d <= 7 and counts_fit(v, s)):
+    if not (0 <= d <= 7 and sizes_fit(v, s)):
         return Refused(2)
     if len(cells) != s * (d + 2):
         return Refused(3)
@@ -202,7 +202,7 @@ def swept_wings(d, s, h, wings):
 
 def sweep(d, v, s, h, table, room):
     """The table of the swept solid, one dimension higher."""
-    if not (0 <= d <= 6 and counts_fit(v, s) and 1 <= h <= 64):
+    if not (0 <= d <= 6 and sizes_fit(v, s) and 1 <= h <= 64):
         return Refused(2)
     if len(table) != s * (2 * d + 3):
         return Refused(3)
@@ -218,7 +218,7 @@ def sweep(d, v, s, h, table, room):
 
 def faces(d, v, s, table, room):
     """The records of the boundary faces, and how many."""
-    if not (0 <= d <= 7 and counts_fit(v, s)):
+    if not (0 <= d <= 7 and sizes_fit(v, s)):
         return Refused(2)
     if len(table) != s * (2 * d + 3):
         return Refused(3)
@@ -264,7 +264,7 @@ def moved_point(step, point):
 
 def move(n, v, h, step, points, room):
     """The points of levels 0 to h."""
-    if not (1 <= n <= 8 and counts_fit(v) and 1 <= h <= 64):
+    if not (1 <= n <= 8 and v <= MOST and 1 <= h <= 64):
         return Refused(2)
     if len(points) != v * n:
         return Refused(3)
@@ -299,7 +299,7 @@ def read(data, cells_room, points_room):
         return Refused(1)
     d, n, v, s, h, kind, *axes = struct.unpack_from("<BBHHHBBB", data, 5)
     floats = struct.unpack_from("<3d", data, 16)
-    in_limits = d <= 6 and 1 <= n <= 8 and n >= d + 1 and counts_fit(v, s) and 1 <= h <= 64
+    in_limits = d <= 6 and 1 <= n <= 8 and n >= d + 1 and sizes_fit(v, s) and 1 <= h <= 64
     if not (in_limits and kind in (1, 2, 3)):
         return Refused(2)
     cells_start = 40 + 8 * v * n
@@ -327,7 +327,7 @@ def coordinate(x):
 
 def list_key(d, n, v, s, table, points, room):
     """The text of the key of a table and its points."""
-    if not (0 <= d <= 7 and 1 <= n <= 8 and counts_fit(v, s)):
+    if not (0 <= d <= 7 and 1 <= n <= 8 and sizes_fit(v, s)):
         return Refused(2)
     if len(table) != s * (2 * d + 3) or len(points) != v * n:
         return Refused(3)

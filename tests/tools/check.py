@@ -15,6 +15,8 @@ sys.path.insert(0, str(ROOT / "tests"))
 from tally import Tally  # noqa: E402
 
 TOOL = [sys.executable, "-B", str(ROOT / "tools" / "solid.py")]
+STEP = "steps 1\nslide 2 1.0\n"
+EMPTY = STEP + "dimension 2\naxes 3\n"
 GOOD = "steps 1\nslide 0 1.0\nv 0 0\nv 1 0\n+ 0 1\n"
 # a text, and what the tool must say of it
 BAD = [
@@ -29,13 +31,29 @@ BAD = [
     (GOOD.replace("slide 0 1.0", "slide 0"), "line 2: slide takes an axis and an amount"),
     (GOOD.replace("slide 0 1.0", "turn 1 0"), "line 2: turn takes cosine, sine and rise"),
     (GOOD.replace("v 1 0", "v 1 east"), "line 4: 'east' is no number"),
-    (GOOD.replace("+ 0 1\n", ""), "no cell in the text"),
+    (GOOD.replace("+ 0 1\n", ""), "no cell in the text, and no line 'dimension D' in its place"),
+    (GOOD.replace("v 0 0\nv 1 0\n", ""), "no vertex in the text, and no line 'axes N' in its place"),
+    (GOOD + "dimension 2\n", "line 6: dimension 2, but the cell in line 5 makes it 1"),
+    ("axes 3\n" + GOOD, "line 1: axes 3, but the vertex in line 4 makes it 2"),
+    (GOOD + "axes 2\naxes 2\n", "line 7: one line 'axes N' is wanted"),
+    (GOOD + "dimension\n", "line 6: one line 'dimension D' is wanted"),
+    (GOOD + "dimension 256\n", "line 6: '256' is no whole number from 0 to 255"),
+    (EMPTY.replace("dimension 2\n", ""), "no cell in the text"),
+    (EMPTY.replace("axes 3\n", ""), "no vertex in the text"),
+]
+# a text, and the lines that its file is unpacked to
+SAID = [
+    (EMPTY, "steps 1|slide 2 1.0|dimension 2|axes 3"),
+    ("axes 3\ndimension 2\nv 0 1 2\n" + STEP, "steps 1|slide 2 1.0|dimension 2|v 0.0 1.0 2.0"),
+    (EMPTY + "+ 0 1 2\n", "steps 1|slide 2 1.0|axes 3|+ 0 1 2"),
+    (GOOD + "dimension 1\naxes 2\n", "steps 1|slide 0 1.0|v 0.0 0.0|v 1.0 0.0|+ 0 1"),
 ]
 # a file that has no text, and the refusal that says why
 HEAD = b"WNG\1\0\0\1\1\0\1\0\1\0"
 REFUSED = [(1, b""), (1, b"WNG"), (1, bytes(60)), (1, b"WNG\2" + bytes(60)), (2, HEAD + bytes(38)), (3, HEAD + b"\1" + bytes(36)), (6, HEAD + b"\1" + bytes(37))]
 USAGE = ([], ["pack", "a", "b", "c"], ["explain"], ["explain", "0"], ["explain", "16"], ["random", "1", "2", "3"], ["random", "a", "2", "3", "4"])
-RANDOM = [(d, v, s, seed) for d in range(7) for v, s in ((d + 1, 1), (d + 3, 6), (40, 30), (60, 20)) for seed in (1, 2)]
+RANDOM = [(d, v, s, seed) for d in range(7) for v, s in ((0, 0), (1, 0), (d + 1, 1), (d + 3, 6), (40, 30), (60, 20)) for seed in (1, 2)]
+UNFIT = [(7, 0, 0, 1), (0, 4097, 0, 1), (0, 1, 4097, 1), (0, 0, 1, 1), (3, 3, 1, 1)]
 
 tally = Tally()
 check = tally.check
@@ -56,6 +74,12 @@ def main():
     for text, message in BAD:
         done = run([*TOOL, "pack"], text.encode())
         check(f"bad text: {message}", done.returncode == 1 and done.stdout == b"" and message in done.stderr.decode())
+    for text, lines in SAID:
+        file = run([*TOOL, "pack"], text.encode()).stdout
+        check(f"said: {lines}", run([*TOOL, "unpack"], file).stdout.decode() == lines.replace("|", "\n") + "\n")
+    for numbers in UNFIT:
+        done = run([*TOOL, "random", *map(str, numbers)])
+        check(f"random {numbers}: not to be had", done.returncode == 1 and done.stdout == b"" and b"wanted: dimension" in done.stderr)
     for number, data in REFUSED:
         done = run([*TOOL, "unpack"], data)
         check(f"no file: {data[:14]!r}", done.returncode == 1 and done.stdout == b"" and f"refused {number}: ".encode() in done.stderr)

@@ -5,18 +5,23 @@
 // calls need no proof here; what is proved is that the program ends and does nothing undefined.
 use rules::refusal;
 use rules::refusal::Answer;
+use rules::refusal::Refusal;
 ghost use Prim.Native.Nat.{_+_, _≤_};
 ghost use lib.ListN.{length};
 
-// The count that a call answers; where it refuses, its number is printed, and the count is 0.
-fn counted(answer: Answer) -> usize {
+fn print_refusal(r: Refusal) {
+    io::write_all(1, b"refused ");
+    io::print_decimal(1, refusal::number(r) as u64);
+    io::write_all(1, b"\n");
+}
+
+// Whether a call accepts; where it refuses, its number is printed. What it counts may be 0: a solid may be without cells.
+fn accepted(answer: Answer) -> bool {
     match answer {
-        Answer::Written(count) => count,
+        Answer::Written(_) => true,
         Answer::Refused(r) => {
-            io::write_all(1, b"refused ");
-            io::print_decimal(1, refusal::number(r) as u64);
-            io::write_all(1, b"\n");
-            0
+            print_refusal(r);
+            false
         }
     }
 }
@@ -60,16 +65,18 @@ fn main() {
     let cells = [0u16, 0, 1, 2, 1, 1, 2, 3];
     // 2 d + 3 words for each cell
     let mut table = [0u16; 14];
-    if counted(wing::wing(2, 4, 2, &cells, &mut table)) == 0 {
+    if !accepted(wing::wing(2, 4, 2, &cells, &mut table)) {
         return;
     }
     // h s (d + 1) cells of dimension d + 1 on (h + 1) v vertices, here 6 tetrahedra on 8 vertices
     let mut swept = [0u16; 54];
-    if counted(sweep::sweep(2, 4, 2, 1, &table, &mut swept)) == 0 {
+    if !accepted(sweep::sweep(2, 4, 2, 1, &table, &mut swept)) {
         return;
     }
     // at most d + 1 faces of each cell, with a sign word and d vertices each
     let mut faces = [0u16; 96];
-    let count = counted(boundary::faces(3, 8, 6, &swept, &mut faces));
-    print_faces(&faces, count);
+    match boundary::faces(3, 8, 6, &swept, &mut faces) {
+        Answer::Written(count) => print_faces(&faces, count),
+        Answer::Refused(r) => print_refusal(r),
+    }
 }

@@ -1,4 +1,4 @@
--- The last refusal and the largest sizes, computed.
+-- The last refusal, the largest sizes and the smallest, computed.
 use mathlib.Core.Path.{_≡_, refl}
 use mathlib.Core.Bool.{true, false}
 use Rattle.rules.specs.Limits.{sizesOk}
@@ -13,3 +13,12 @@ largest-sizes = refl
 
 pub a-cell-too-many : sizesOk 4096 4097 ≡ false
 a-cell-too-many = refl
+
+pub nothing-at-all : sizesOk 0 0 ≡ true
+nothing-at-all = refl
+
+pub vertices-alone : sizesOk 4096 0 ≡ true
+vertices-alone = refl
+
+pub a-cell-on-no-vertex : sizesOk 0 1 ≡ false
+a-cell-on-no-vertex = refl

@@ -3,12 +3,13 @@
 --   SweepLimits, sweep-limits-are   a sweep's: a shape's of dimension 6, with the steps
 --   ListLimits, list-limits-are     a list's: a shape's of dimension 7, with the axes
 --   MoveLimits, move-limits-are     a move's: axes, vertices, steps
+--   sizes-follow                    sizes that have a vertex where others within the limits have, and no cells where those have none
 -- Assumes nothing.
-use mathlib.Core.Path.{_≡_}
-use mathlib.Core.Bool.{true, false, not, _&&_}
-use Prim.Native.Nat.{ℕ, _≤_}
-use lib.Dec.{leb}
-use borrow.Author.Tests.{leb-true, not-false}
+use mathlib.Core.Path.{_≡_, refl, subst}
+use mathlib.Core.Bool.{true, false, not, _&&_, _||_, or-true}
+use Prim.Native.Nat.{ℕ, zero, suc, _≤_}
+use lib.Dec.{eqb, leb, eqb·suc-zero}
+use borrow.Author.Tests.{leb-true, le-leb, not-false}
 use Rattle.rules.specs.Limits.{maxDimension, maxSource, maxAxes, maxVertices, maxCells, maxSteps, within, axesOk, verticesOk, cellsOk, sizesOk}
 use Rattle.rules.specs.Limits.{stepsOk}
 use Rattle.rules.specs.Shapes.{shapeOk}
@@ -25,8 +26,8 @@ pub record Limits (top d v s : ℕ) : Type 0 where
 shape-limits : (top d v s : ℕ) → shapeOk top d v s ≡ true → Limits top d v s
 shape-limits top d v s e =
     let shape = and-parts (leb d top) (sizesOk v s) e in
-    let sizes = and-parts (verticesOk v) (cellsOk s) (shape .1) in
-    record { dimension = leb-true d top (shape .0); vertices = at-most maxVertices v (sizes .0); cells = at-most maxCells s (sizes .1) }
+    let counts = and-parts (verticesOk v) (cellsOk s) (and-parts (verticesOk v && cellsOk s) (eqb s 0 || leb 1 v) (shape .1) .0) in
+    record { dimension = leb-true d top (shape .0); vertices = leb-true v maxVertices (counts .0); cells = leb-true s maxCells (counts .1) }
 
 pub limits-are : (top d v s : ℕ) → not (shapeOk top d v s) ≡ false → Limits top d v s
 limits-are top d v s e = shape-limits top d v s (not-false (shapeOk top d v s) e)
@@ -64,4 +65,13 @@ pub move-limits-are : (n v h : ℕ) → not (axesOk n && (verticesOk v && stepsO
 move-limits-are n v h e =
     let parts = and-parts (axesOk n) (verticesOk v && stepsOk h) (not-false (axesOk n && (verticesOk v && stepsOk h)) e) in
     let counts = and-parts (verticesOk v) (stepsOk h) (parts .1) in
-    record { axes = at-most maxAxes n (parts .0); vertices = at-most maxVertices v (counts .0); steps = at-most maxSteps h (counts .1) }
+    record { axes = at-most maxAxes n (parts .0); vertices = leb-true v maxVertices (counts .0); steps = at-most maxSteps h (counts .1) }
+
+pub sizes-follow : (v s w t : ℕ) → sizesOk v s ≡ true → w ≤ maxVertices → t ≤ maxCells → (1 ≤ v → 1 ≤ w) → (s ≡ 0 → t ≡ 0) →
+    sizesOk w t ≡ true
+sizes-follow v s w t e few small some none =
+    rw (le-leb w maxVertices few, le-leb t maxCells small) (go s (and-parts (verticesOk v && cellsOk s) (eqb s 0 || leb 1 v) e .1) none)
+  where
+    go : (s : ℕ) → (eqb s 0 || leb 1 v) ≡ true → (s ≡ 0 → t ≡ 0) → (eqb t 0 || leb 1 w) ≡ true
+    go zero e none = rw (none refl) refl
+    go (suc s) e none = rw (le-leb 1 w (some (leb-true 1 v (subst (λ b. (b || leb 1 v) ≡ true) (eqb·suc-zero s) e)))) (or-true (eqb t 0))

@@ -2,11 +2,12 @@
 --   maxDimension      d of a table; read and sweep go to maxSource, since a sweep adds one
 --   maxAxes, maxVertices, maxCells, maxSteps
 --   empty             the wing word for no neighbour, 65535
---   axesOk, verticesOk, cellsOk, stepsOk      one number is within its limits; sizesOk v s, vertex and cell count are
+--   axesOk, verticesOk, cellsOk, stepsOk      one number is within its limits
+--   sizesOk v s       vertex and cell count are; a solid may be without cells, and only then without vertices
 --   sweptVertices     the vertex count of a sweep: v vertices give (h + 1) v in h steps
-use mathlib.Core.Bool.{Bool, _&&_}
+use mathlib.Core.Bool.{Bool, _&&_, _||_}
 use Prim.Native.Nat.{ℕ, suc, _*_}
-use lib.Dec.{leb}
+use lib.Dec.{eqb, leb}
 
 abbrev pub maxDimension : ℕ
 maxDimension = 7
@@ -34,13 +35,13 @@ abbrev pub within : ℕ → ℕ → ℕ → Bool
 within lo hi x = leb lo x && leb x hi
 
 abbrev pub verticesOk : ℕ → Bool
-verticesOk v = within 1 maxVertices v
+verticesOk v = leb v maxVertices
 
 abbrev pub cellsOk : ℕ → Bool
-cellsOk s = within 1 maxCells s
+cellsOk s = leb s maxCells
 
 abbrev pub sizesOk : ℕ → ℕ → Bool
-sizesOk v s = verticesOk v && cellsOk s
+sizesOk v s = (verticesOk v && cellsOk s) && (eqb s 0 || leb 1 v)
 
 abbrev pub axesOk : ℕ → Bool
 axesOk n = within 1 maxAxes n

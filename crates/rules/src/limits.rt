@@ -2,6 +2,8 @@
 use crate::compare::at_most;
 use crate::compare::between;
 use crate::compare::both;
+use crate::compare::either;
+use crate::compare::equal;
 ghost use mathlib.Core.Path.{_≡_};
 ghost use Prim.Native.Nat.{_≤_};
 ghost use Rattle.rules.specs.Limits.{axesOk, verticesOk, cellsOk, sizesOk, stepsOk, maxVertices, maxSteps, sweptVertices};
@@ -28,13 +30,13 @@ pub fn axes_ok(n: usize) -> bool
 pub fn vertices_ok(v: usize) -> bool
     ensures { λ r. ⌜ r ≡ verticesOk v ⌝ }
 {
-    between(1, Shape::MAX_VERTICES, v)
+    at_most(v, Shape::MAX_VERTICES)
 }
 
 pub fn cells_ok(s: usize) -> bool
     ensures { λ r. ⌜ r ≡ cellsOk s ⌝ }
 {
-    between(1, Shape::MAX_CELLS, s)
+    at_most(s, Shape::MAX_CELLS)
 }
 
 pub fn steps_ok(h: usize) -> bool
@@ -43,10 +45,12 @@ pub fn steps_ok(h: usize) -> bool
     between(1, Shape::MAX_STEPS, h)
 }
 
+// A solid may be without cells, and only then without vertices.
 pub fn sizes_ok(v: usize, s: usize) -> bool
     ensures { λ r. ⌜ r ≡ sizesOk v s ⌝ }
 {
-    both(vertices_ok(v), cells_ok(s))
+    let counts = both(vertices_ok(v), cells_ok(s));
+    both(counts, either(equal(s, 0), at_most(1, v)))
 }
 
 // Vertices of a sweep in h steps.

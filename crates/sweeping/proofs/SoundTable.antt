@@ -3,18 +3,19 @@
 --   sound-ready           what the writer of a sweep goes by
 -- Assumes nothing.
 use mathlib.Core.Path.{_≡_, sym, ap, _∙_}
-use mathlib.Core.Bool.{true, _&&_}
+use mathlib.Core.Bool.{not, true, _&&_}
 use mathlib.Core.List.{List, [], _∷_}
 use Prim.Native.Nat.{ℕ, zero, suc, _*_, _≤_, _<_}
 use native.Mathlib.Nat.{le-of-suc-le-suc, not-suc-le-zero}
 use native.Mathlib.Omega.{arith}
-use lib.Dec.{eqb, leb}
+use lib.Dec.{eqb}
 use lib.ListN.{length, getD, take, length-map}
 use lib.Seq.{length-take-le}
-use borrow.Author.Tests.{eqb-true, leb-true}
+use borrow.Author.Tests.{eqb-true}
 use Rattle.words.specs.Records.{part}
-use Rattle.rules.specs.Limits.{maxSource, maxVertices, maxCells, maxDimension, within, sizesOk, verticesOk, sweptVertices}
+use Rattle.rules.specs.Limits.{maxSource, maxVertices, maxCells, maxDimension, sweptVertices}
 use Rattle.rules.specs.Shapes.{shapeOk}
+use Rattle.rules.proofs.InLimits.{limits-are}
 use Rattle.rules.proofs.Tests.{and-parts}
 use Rattle.simplex.specs.Cell.{Cell, Row, sameRow}
 use Rattle.simplex.specs.Order.{ascending}
@@ -81,11 +82,8 @@ sound-solid d v s ws e =
     long : length ws ≡ tableLength d s
     long = eqb-true (length ws) (tableLength d s) (rest .0)
 
-    sizes : (verticesOk v ≡ true) × (within 1 maxCells s ≡ true)
-    sizes = and-parts (verticesOk v) (within 1 maxCells s) (and-parts (leb d maxDimension) (sizesOk v s) (parts .0) .1)
-
     cells-small : s ≤ maxCells
-    cells-small = leb-true s maxCells (and-parts (leb 1 s) (leb s maxCells) (sizes .1) .1)
+    cells-small = limits-are maxDimension d v s (ap not (parts .0)) .cells
 
     solid : Solid v cs × All (Long (suc d)) cs
     solid = accepted-solid l (own-long d s ws long) (own .0)

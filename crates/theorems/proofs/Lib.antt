@@ -7,3 +7,4 @@ pub mod Refusals
 pub mod Deciding
 pub mod Stacked
 pub mod NeverUnsound
+pub mod NoCells

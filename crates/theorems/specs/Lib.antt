@@ -1,4 +1,4 @@
--- Statements about the whole: the marked keys, and further examples. Their proofs compute both sides, but for NeverUnsound.
+-- Statements about the whole: the marked keys, and further examples. Their proofs compute both sides, but for NeverUnsound and laws in NoCells.
 pub mod Shorthand
 pub mod MarkedKeys
 pub mod Figures
@@ -6,3 +6,4 @@ pub mod Refusals
 pub mod Deciding
 pub mod Stacked
 pub mod NeverUnsound
+pub mod NoCells

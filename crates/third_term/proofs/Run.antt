@@ -6,13 +6,14 @@ use native.Mathlib.Omega.{arith}
 use lib.ListN.{length, length-map}
 use borrow.Author.Tests.{eq-eqb, le-leb, le-ltb, leb-true}
 use lib.Dec.{leb}
-use native.Mathlib.Nat.{mul-pos, suc-mul}
-use mathlib.Core.Bool.{true}
+use native.Mathlib.Nat.{mul-zero, suc-mul, zero-mul}
+use mathlib.Core.Bool.{not, true}
 use Rattle.words.specs.Records.{part}
 use Rattle.words.proofs.Records.{tabulate-length}
 use Rattle.rules.specs.Calls.{accepted, written}
-use Rattle.rules.specs.Limits.{maxCells, maxDimension, maxSource, maxSteps, maxVertices, sizesOk, sweptVertices, verticesOk, within}
+use Rattle.rules.specs.Limits.{maxDimension, maxSource, maxSteps, sizesOk, sweptVertices}
 use Rattle.rules.specs.Shapes.{shapeOk}
+use Rattle.rules.proofs.InLimits.{Limits, limits-are, sizes-follow}
 use Rattle.rules.proofs.Tests.{and-parts}
 use Rattle.rules.proofs.Accepting.{front-of}
 use Rattle.simplex.specs.Cell.{Cell}
@@ -72,20 +73,14 @@ module _ (d v h : ℕ) (x : Sitting) (u : Unrefused d v h x) where
   entries-are : entriesOf d (x .s) (tableWritten d v h x) ≡ tableOf cs
   entries-are = ap₂ {C = List Entry} (λ n ws. entriesOf d n ws) (sym count) table-is ∙ entries-of-words d v cs is-solid is-long
 
-  numbers : (1 ≤ v) × (1 ≤ x .s) × (x .s ≤ maxCells) × (d ≤ maxSource) × (1 ≤ h)
-  numbers =
-      let s1 = and-parts (leb d maxSource) (sizesOk v (x .s)) (sweep-facts .shape) in
-      let s2 = and-parts (verticesOk v) (within 1 maxCells (x .s)) (s1 .1) in
-      let vs = and-parts (leb 1 v) (leb v maxVertices) (s2 .0) in
-      let ss = and-parts (leb 1 (x .s)) (leb (x .s) maxCells) (s2 .1) in
-      let hs = and-parts (leb 1 h) (leb h maxSteps) (sweep-facts .steps) in
-      (leb-true 1 v (vs .0), leb-true 1 (x .s) (ss .0), leb-true (x .s) maxCells (ss .1), leb-true d maxSource (s1 .0), leb-true 1 h (hs .0))
+  limits : Limits maxSource d v (x .s)
+  limits = limits-are maxSource d v (x .s) (ap not (sweep-facts .shape))
 
   pub some-steps : 0 < h
-  some-steps = numbers .4
+  some-steps = leb-true 1 h (and-parts (leb 1 h) (leb h maxSteps) (sweep-facts .steps) .0)
 
   small : length cs ≤ empty
-  small = omega (arith, count, numbers .2)
+  small = omega (arith, count, limits .cells)
 
   swept-count : length T ≡ sweptCells d (x .s) h
   swept-count = len-sweep v (suc d) h cs is-long ∙ ap (λ n. h * (n * suc d)) count
@@ -125,16 +120,14 @@ module _ (d v h : ℕ) (x : Sitting) (u : Unrefused d v h x) where
       ∙ entries-of-words (suc d) (sweptVertices v h) T swept-is-solid swept-is-long)
       ∙ boundary-own (sweptVertices v h) (suc d) T swept-is-solid swept-is-long swept-small
 
+  -- a sweep has vertices where its solid has, and is without cells where that is
   swept-shape : shapeOk maxDimension (suc d) (sweptVertices v h) (sweptCells d (x .s) h) ≡ true
   swept-shape =
-      let cells-some : 0 < h * (x .s * suc d) = mul-pos (numbers .4) (mul-pos (numbers .1) (omega arith)) in
-      rw (
-        le-leb (suc d) maxDimension (omega (arith, numbers .3)),
-        le-leb 1 (sweptVertices v h) (omega (arith, numbers .0, suc-mul h v)),
-        le-leb (sweptVertices v h) maxVertices (sweep-facts .vertices),
-        le-leb 1 (sweptCells d (x .s) h) cells-some,
-        le-leb (sweptCells d (x .s) h) maxCells (sweep-facts .cells),
-      ) refl
+      rw (le-leb (suc d) maxDimension (omega (arith, limits .dimension)))
+      (sizes-follow v (x .s) (sweptVertices v h) (sweptCells d (x .s) h) (and-parts (leb d maxSource) (sizesOk v (x .s)) (sweep-facts .shape) .1)
+      (sweep-facts .vertices) (sweep-facts .cells)
+      (λ some. omega (arith, some, suc-mul h v))
+      (λ none. ap (λ n. h * (n * suc d)) none ∙ ap (λ n. h * n) (zero-mul (suc d)) ∙ mul-zero h))
 
   swept-length-is : length (sweptWritten d v h x) ≡ tableLength (suc d) (sweptCells d (x .s) h)
   swept-length-is =
