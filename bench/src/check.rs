@@ -50,7 +50,11 @@ fn sphere(random: &mut Random, d: usize) -> (Vec<Cell>, usize) {
     ((0..least).map(cell).collect(), d + 2)
 }
 
+/// A solid, one in twenty without cells.
 fn solid(random: &mut Random, d: usize) -> (Vec<Cell>, usize) {
+    if random.chance(5) {
+        return (vec![], random.pick(&[0, 0, 1, 7, 64, 2048, 4096]));
+    }
     let s = if random.below(60) == 0 { random.pick(&[300, 585, 1024, 2048, 4000, 4095, 4096]) } else { 1 + random.below(14) };
     let (cells, v) = match random.below(8) {
         0 => scattered(random, d, s),
@@ -80,7 +84,7 @@ fn case(random: &mut Random, both: &mut Both) -> (Job, Vec<u8>) {
     if random.chance(30) {
         v = random.pick(&[v, v + 1, 2048, 4096]).max(v).min(4096);
     }
-    let faults = random.pick(&[0, 0, 1, 1, 2]);
+    let faults = if s == 0 { 0 } else { random.pick(&[0, 0, 1, 1, 2]) };
     if call == Call::Wing || random.chance(10) {
         (0..faults).for_each(|_| spoil_list(random, v, &mut cells));
     }
@@ -90,7 +94,7 @@ fn case(random: &mut Random, both: &mut Both) -> (Job, Vec<u8>) {
         (0..faults).for_each(|_| spoil_table(random, d, v, s, &mut input));
     }
     // Often as many steps as the limits allow, or one more.
-    let most = (4096 / v).saturating_sub(1).min(4096 / (s * (d + 1))).min(64);
+    let most = (4096 / v.max(1)).saturating_sub(1).min(4096 / (s.max(1) * (d + 1))).min(64);
     let h = if random.chance(60) { 1 + random.below(4) } else { most + random.below(2) };
     let mut job = Job::new(call, d, v, s, h);
     if random.chance(8) {

@@ -55,6 +55,21 @@ fn refusals() {
     assert_eq!(Refusal::CrowdedFace.to_string(), "refused 10: a face is in three or more cells");
 }
 
+#[test]
+fn no_cells() -> Result<(), Refusal> {
+    for d in 0..=6 {
+        for v in [0, 1, 5] {
+            let swept = sweep(d, v, 0, 2, &wing(d, v, 0, &[])?)?;
+            assert_eq!(faces(d + 1, 3 * v, 0, &swept)?, []);
+            let levels = move_points(1, v, 2, Step::Slide { axis: 0, amount: 1.0 }, &vec![0.5; v as usize])?;
+            let text = listed(d + 1, 1, 3 * v, 0, &swept, &levels)?;
+            assert!(text.starts_with(&format!("key {} 1 {} 0\n", d + 1, 3 * v)) && text.lines().count() == 1 + 3 * v as usize);
+        }
+        assert_eq!(wing(d, 0, 1, &vec![0; d as usize + 2]), Err(Refusal::OutsideLimits));
+    }
+    Ok(())
+}
+
 /// A sample's bytes and its key.
 fn sample(name: &str) -> (Vec<u8>, String) {
     let folder = concat!(env!("CARGO_MANIFEST_DIR"), "/../examples/");
@@ -64,7 +79,7 @@ fn sample(name: &str) -> (Vec<u8>, String) {
 
 #[test]
 fn a_file_to_its_key() -> Result<(), Refusal> {
-    for name in ["series/3-cube", "series/1-segment"] {
+    for name in ["series/3-cube", "series/1-segment", "empty/vertices", "empty/dimension-6"] {
         let (bytes, text) = sample(name);
         let f = read(&bytes)?;
         let swept = sweep(f.d, f.v, f.s, f.h, &wing(f.d, f.v, f.s, &f.cells)?)?;

@@ -58,7 +58,7 @@ def check_usage():
     answers("key -", run([COMMAND, "-"], K1.read_bytes()), 0, key_of(K1))
     for words in ([], ["a", "b"], ["--no-such-option"], ["no such file"], [ROOT]):
         answers(f"key {words}", run([COMMAND, *words]), 2, b"", b"try key --help")
-    for word, start in (("--help", b"usage: key FILE"), ("--version", b"key 1.1")):
+    for word, start in (("--help", b"usage: key FILE"), ("--version", b"key 1.2")):
         said = run([COMMAND, word])
         check(f"key {word}", said.returncode == 0 and said.stdout.startswith(start) and said.stderr == b"")
 
@@ -66,9 +66,10 @@ def check_usage():
 def check_reasons():
     """A refusal is told in the words of docs/refusals.txt."""
     for file in sorted((ROOT / "examples" / "refused").glob("*.wng")):
-        line = f"refused {int(file.stem)}"
+        number = int(file.stem[:2])
+        line = f"refused {number}"
         said = run([COMMAND, file])
-        told = f"key: {file}: {line}: {REASONS[str(int(file.stem))]}\n".encode()
+        told = f"key: {file}: {line}: {REASONS[str(number)]}\n".encode()
         check(f"key on {line}: {said}", (said.returncode, said.stdout, said.stderr) == (1, f"{line}\n".encode(), told))
 
 

@@ -11,6 +11,7 @@ import math
 import os
 import random
 import resource
+import struct
 import subprocess
 import sys
 
@@ -70,6 +71,18 @@ def check_halves():
         check(f"halves on side {side} above {('even', 'odd')[lower]} thousandths: {len(some)}", len(some) >= 4)
 
 
+def check_empty():
+    """Among the samples are nothing at all in each dimension, vertices alone, a cell without a vertex, and a lesson."""
+    sizes = {file: struct.unpack_from("<BBHH", file.read_bytes(), 5) for file in FILES if len(file.read_bytes()) >= 40}
+    accepted = {file: size for file, size in sizes.items() if key_of(file).startswith(b"key")}
+    check("nothing at all in each dimension", {d for d, _, v, s in accepted.values() if v == s == 0} == set(range(7)))
+    check("vertices without cells", any(v > 0 and s == 0 for _, _, v, s in accepted.values()))
+    check("a cell without a vertex", [key_of(file) for file, (_, _, v, s) in sizes.items() if v == 0 < s] == [b"refused 2\n"])
+    lesson = [size for file, size in sorted(sizes.items()) if file.name.startswith("lesson")]
+    check("a lesson that begins with nothing", lesson[0][2:] == (0, 0) and lesson[1][2] > 0 == lesson[1][3])
+    check("a lesson that adds to it", all(a[3] < b[3] for a, b in zip(lesson[1:], lesson[2:])) and len(lesson) >= 4)
+
+
 def check_pieces():
     check("a byte at a time", in_pieces(K1.read_bytes(), 1) == key_of(K1))
     long = ROOT / "examples" / "series" / "4-four-cube.wng"
@@ -119,6 +132,7 @@ def check_stack():
 def main():
     check_samples()
     check_halves()
+    check_empty()
     check_pieces()
     check_endless()
     check_failures()

@@ -314,6 +314,8 @@ def check_program_and_c():
     check("c wing", ref.c_wing(2, 3, 1, cells, 14), (7, table))
     check("c wing odd room", ref.c_wing(2, 3, 1, cells, 13), (-15, b""))
     check("c wing odd input", [ref.c_wing(d, 3, 1, cells + b"\0", 14)[0] for d in (2, 8)], [-3, -2])
+    check("c odd input, no cells", [call(2, 3, 0, *h, b"\0", 14)[0] for call, h in
+                                    ((ref.c_wing, ()), (ref.c_sweep, (1,)), (ref.c_faces, ()))], [-3, -3, -3])
     check("c faces", ref.c_faces(2, 3, 1, table, 18)[0], 9)
     check("c sweep", ref.c_sweep(2, 3, 1, 1, table, 54)[0], 27)
     check("c sweep short", ref.c_sweep(2, 3, 1, 1, table, 53), (-15, b""))

@@ -373,8 +373,8 @@ def key(data):
 
 # The calls as C has them.
 def words_of(data):
-    """Little-endian words; an odd length gives an empty list, which row 3 refuses."""
-    return list(struct.unpack(f"<{len(data) // 2}H", data)) if len(data) % 2 == 0 else []
+    """Little-endian words; an odd length gives more words than any list or table has, so that row 3 refuses them."""
+    return list(struct.unpack(f"<{len(data) // 2}H", data)) if len(data) % 2 == 0 else range(2**20)
 
 def c_result(answer):
     """The count of words and their bytes, or minus the refusal and no bytes."""

@@ -41,8 +41,9 @@ macro_rules! by_dimension {
     };
 }
 
+/// Whether the numbers are within the limits; without vertices there are no cells.
 fn within(d: usize, greatest: usize, v: usize, s: usize) -> bool {
-    d <= greatest && (1..=MOST).contains(&v) && (1..=MOST).contains(&s)
+    d <= greatest && v <= MOST && s <= MOST && (v > 0 || s == 0)
 }
 
 impl Default for Reference {

@@ -10,8 +10,8 @@ use mathlib.Core.Bool.{true, false, not, _&&_, _||_, or-true}
 use Prim.Native.Nat.{ℕ, zero, suc, _≤_}
 use lib.Dec.{eqb, leb, eqb·suc-zero}
 use borrow.Author.Tests.{leb-true, le-leb, not-false}
-use Rattle.rules.specs.Limits.{maxDimension, maxSource, maxAxes, maxVertices, maxCells, maxSteps, within, axesOk, verticesOk, cellsOk, sizesOk}
-use Rattle.rules.specs.Limits.{stepsOk}
+use Rattle.rules.specs.Limits.{maxDimension, maxSource, maxAxes, maxVertices, maxCells, maxSteps, within}
+use Rattle.rules.specs.Limits.{axesOk, verticesOk, cellsOk, sizesOk, stepsOk}
 use Rattle.rules.specs.Shapes.{shapeOk}
 use Rattle.rules.proofs.Tests.{and-parts}
 
@@ -67,8 +67,8 @@ move-limits-are n v h e =
     let counts = and-parts (verticesOk v) (stepsOk h) (parts .1) in
     record { axes = at-most maxAxes n (parts .0); vertices = leb-true v maxVertices (counts .0); steps = at-most maxSteps h (counts .1) }
 
-pub sizes-follow : (v s w t : ℕ) → sizesOk v s ≡ true → w ≤ maxVertices → t ≤ maxCells → (1 ≤ v → 1 ≤ w) → (s ≡ 0 → t ≡ 0) →
-    sizesOk w t ≡ true
+pub sizes-follow : (v s w t : ℕ) → sizesOk v s ≡ true → w ≤ maxVertices → t ≤ maxCells →
+    (1 ≤ v → 1 ≤ w) → (s ≡ 0 → t ≡ 0) → sizesOk w t ≡ true
 sizes-follow v s w t e few small some none =
     rw (le-leb w maxVertices few, le-leb t maxCells small) (go s (and-parts (verticesOk v && cellsOk s) (eqb s 0 || leb 1 v) e .1) none)
   where

@@ -1,27 +1,190 @@
--- The calls take the solid without cells, at every dimension and vertex count: each test is one of the limits, or of nothing.
+-- The calls take the solid without cells, at every dimension and vertex count: each test is of a limit, or of nothing.
 -- And no other solid's sweep is without boundary, by the third term.
-use mathlib.Core.Path.{_≡_, refl, sym, ap, subst, subst₂, _∙_}
+use mathlib.Core.Path.{_≡_, refl, sym, ap, ap₂, subst₂, _∙_}
 use mathlib.Core.Logic.{_↔_}
-use mathlib.Core.Bool.{true}
+use mathlib.Core.Bool.{true, false, not, _&&_, and-false}
 use mathlib.Core.List.{List, [], _∷_, _++_, append-nil}
 use Prim.Native.Nat.{ℕ, zero, suc, _*_, _≤_}
 use native.Mathlib.Nat.{mul-zero, zero-mul, suc-mul}
 use native.Mathlib.Omega.{arith}
+use lib.Dec.{leb, eqb·suc-zero}
 use lib.ListN.{length}
 use lib.Ieee.{Float}
 use borrow.Author.Tests.{le-leb, le-ltb, eq-eqb}
 use Rattle.words.specs.Records.{allOf, tabulate, concat}
-use Rattle.rules.specs.Limits.{maxDimension, maxSource, maxVertices, axesOk, stepsOk, sweptVertices}
+use Rattle.rules.specs.Limits.{maxCells, maxDimension, maxSource, maxVertices, axesOk, stepsOk, sweptVertices}
+use Rattle.rules.specs.Shapes.{shapeOk}
 use Rattle.rules.specs.Calls.{accepted, refused}
-use Rattle.simplex.specs.Cell.{Cell, times, sameRow}
+use Rattle.rules.proofs.InLimits.{Limits, limits-are}
+use Rattle.simplex.specs.Cell.{Cell, one}
 use Rattle.simplex.specs.Chain.{Same}
-use Rattle.records.specs.Layout.{listSize, recordSize}
-use Rattle.wing.specs.Wing.{wingInput, wingOutcome}
-use Rattle.sweep.specs.Sweep.{sweepInput, sweepOutcome}
-use Rattle.boundary.specs.Faces.{facesInput, facesOutcome}
-use Rattle.theorems.specs.NoCells.{NoCells, noCells}
+use Rattle.simplex.proofs.Rows.{sameRow-refl}
+use Rattle.simplex.proofs.Signs.{times-self}
+use Rattle.records.specs.Layout.{entriesOf, faceSize, listSize, recordSize}
+use Rattle.prism.specs.Swept.{sweptCells}
+use Rattle.solids.proofs.Computing.{computing as solids-computing}
+use Rattle.solids.specs.Table.{tableOfList}
+use Rattle.wing.specs.Wing.{wingInput, wingRules, wingOutcome, wingBuffer}
+use Rattle.sweep.specs.Sweep.{sweepInput, sweptLength, sweepRules, sweepOutcome}
+use Rattle.boundary.specs.Boundary.{boundaryOf}
+use Rattle.boundary.specs.Faces.{facesInput, facesRules, facesOutcome}
+use Rattle.points.specs.declared.step.Step.{Step}
+use Rattle.points.specs.Step.{inRange, stepFits, stepFloats}
+use Rattle.points.specs.Levels.{levelOf}
+use Rattle.motion.specs.Move.{moveInput, moveOutcome, moveRules, movedLevels}
+use Rattle.listing.specs.Lines.{firstLine, vertexLines, keyText}
+use Rattle.list.specs.List.{listInput, listText, listOutcome, listRules}
+use Rattle.third_term.specs.ThirdTerm.{Sitting, Unrefused, boundary, solid, sweptWritten, tableWritten, toSweep}
+use Rattle.third_term.specs.Pairs.{circle}
+use Rattle.third_term.proofs.Acceptance.{Swept, swept-is}
+use Rattle.third_term.proofs.Run.{count}
+use Rattle.third_term.proofs.ThirdTerm.{third-term}
+use Rattle.theorems.specs.NoCells.{NoCells, EmptyKeys, noCells}
 use Rattle.theorems.proofs.Computing.{computing}
+
+no-words : (d : ℕ) → 0 * recordSize d ≡ 0
+no-words d = zero-mul (recordSize d)
+
+no-swept : (d h : ℕ) → sweptCells d 0 h ≡ 0
+no-swept d h = ap (λ n. h * n) (zero-mul (suc d)) ∙ mul-zero h
 
 winged : (d v : ℕ) → d ≤ maxDimension → v ≤ maxVertices → wingOutcome (wingInput d v 0 [] 0) ≡ accepted 0
 unfolding computing
-winged d v hd hv = rw (le-leb d maxDimension hd, le-leb v maxVertices hv, zero-mul (listSize d), zero-mul (recordSize d)) refl
+winged d v hd hv = rw (le-leb d maxDimension hd, le-leb v maxVertices hv, zero-mul (listSize d), no-words d) refl
+
+swept : (d v h : ℕ) → d ≤ maxSource → stepsOk h ≡ true → sweptVertices v h ≤ maxVertices →
+    sweepOutcome (sweepInput d v 0 h [] 0) ≡ accepted 0
+unfolding computing
+swept d v h hd hh few =
+    rw (
+      le-leb d maxSource hd,
+      le-leb d maxDimension (omega (arith, hd)),
+      le-leb v maxVertices (omega (arith, few, suc-mul h v)),
+      hh,
+      le-ltb maxVertices (sweptVertices v h) few,
+      no-words d,
+      no-swept d h,
+      no-words (suc d),
+    ) refl
+
+faceless : (d v : ℕ) → d ≤ maxDimension → v ≤ maxVertices → facesOutcome (facesInput d v 0 [] 0) ≡ accepted 0
+unfolding computing
+faceless d v hd hv = rw (le-leb d maxDimension hd, le-leb v maxVertices hv, no-words d, zero-mul (faceSize d)) refl
+
+concat-none : (n : ℕ) (f : ℕ → List Float) → ((i : ℕ) → f i ≡ []) → concat (tabulate n f) ≡ []
+concat-none zero f e = refl
+concat-none (suc n) f e = rw (e zero) (concat-none n (λ i. f (suc i)) (λ i. e (suc i)))
+
+no-level : (step : Step) (n i : ℕ) → levelOf step n 0 [] i ≡ []
+no-level step n zero = refl
+no-level step n (suc i) = refl
+
+moved : (n h : ℕ) (step : Step) → axesOk n ≡ true → stepsOk h ≡ true → allOf inRange (stepFloats step) ≡ true →
+    stepFits n step ≡ true → moveOutcome (moveInput n 0 h step [] 0) ≡ accepted 0
+unfolding moveOutcome moveRules movedLevels
+moved n h step hn hh floats fits =
+    rw (hn, hh, mul-zero (suc h), zero-mul n, floats, fits, concat-none (suc h) (levelOf step n 0 []) (no-level step n)) refl
+
+text : (d n v room : ℕ) (ps : List Float) → listText (listInput d n v 0 [] ps room) ≡ firstLine d n v 0 ++ vertexLines n v ps
+unfolding listText keyText
+text d n v room ps = ap (λ t. firstLine d n v 0 ++ t) (append-nil (vertexLines n v ps))
+
+listed : (d n v room : ℕ) (ps : List Float) → d ≤ maxDimension → axesOk n ≡ true → v ≤ maxVertices →
+    length ps ≡ v * n → allOf inRange ps ≡ true → length (firstLine d n v 0 ++ vertexLines n v ps) ≤ room →
+    listOutcome (listInput d n v 0 [] ps room) ≡ accepted (length (firstLine d n v 0 ++ vertexLines n v ps))
+unfolding listOutcome listRules solids-computing
+listed d n v room ps hd hn hv long inside fits =
+    rw (
+      le-leb d maxDimension hd,
+      hn,
+      le-leb v maxVertices hv,
+      no-words d,
+      eq-eqb (length ps) (v * n) long,
+      inside,
+      text d n v room ps,
+      le-ltb room (length (firstLine d n v 0 ++ vertexLines n v ps)) fits,
+    ) refl
+
+-- no cells of a shape without vertices
+no-shape : (top d s : ℕ) → shapeOk top d 0 (suc s) ≡ false
+no-shape top d s = rw (eqb·suc-zero s, and-false (leb (suc s) maxCells)) (and-false (leb d top))
+
+no-vertex : (d s h n room : ℕ) (ws : List ℕ) (ps : List Float) →
+    (wingOutcome (wingInput d 0 (suc s) ws room) ≡ refused 2) × (sweepOutcome (sweepInput d 0 (suc s) h ws room) ≡ refused 2)
+    × (facesOutcome (facesInput d 0 (suc s) ws room) ≡ refused 2) × (listOutcome (listInput d n 0 (suc s) ws ps room) ≡ refused 2)
+unfolding wingOutcome wingRules sweepOutcome sweepRules facesOutcome facesRules listOutcome listRules
+no-vertex d s h n room ws ps =
+    (rw (no-shape maxDimension d s) refl, rw (no-shape maxSource d s) refl, rw (no-shape maxDimension d s) refl, rw (no-shape maxDimension d s) refl)
+
+-- a sitting without cells: nothing is winged, nothing swept, and the boundary is empty
+no-table : (d v h : ℕ) → d ≤ maxDimension → v ≤ maxVertices → tableWritten d v h noCells ≡ []
+unfolding wingBuffer tableOfList
+no-table d v h hd hv = rw (winged d v hd hv, no-words d) refl
+
+no-boundary : (d v h : ℕ) (x : Sitting) → x .s ≡ 0 → boundary d v h x ≡ []
+no-boundary d v h x e = ap (λ n. boundaryOf (entriesOf (suc d) n (sweptWritten d v h x))) (ap (λ n. sweptCells d n h) e ∙ no-swept d h)
+
+unrefused : (d v h : ℕ) (x : Sitting) → Unrefused d v h x → Unrefused d v h noCells
+unrefused d v h x u =
+    record {
+      winged = winged d v d-small (l .vertices) ∙ ap accepted (sym (no-words d));
+      swept =
+          ap (λ ws. sweepOutcome (sweepInput d v 0 h ws 0)) (no-table d v h d-small (l .vertices))
+          ∙ swept d v h (l .dimension) (facts .steps) (facts .vertices)
+          ∙ ap accepted (sym (ap (λ n. n * recordSize (suc d)) (no-swept d h) ∙ no-words (suc d)));
+    }
+  where
+    facts : Swept (toSweep d v h x)
+    facts = swept-is (toSweep d v h x) (sweptLength (toSweep d v h x)) (u .swept)
+
+    l : Limits maxSource d v (x .s)
+    l = limits-are maxSource d v (x .s) (ap not (facts .shape))
+
+    d-small : d ≤ maxDimension
+    d-small = omega (arith, l .dimension)
+
+-- a list that is equal to the empty one, list order aside, is empty
+same-none : (cs : List Cell) → Same cs [] → cs ≡ []
+same-none [] e = refl
+same-none (c ∷ cs) e =
+    absurd (omega (arith, e (c .sign) (c .row), ap one (ap₂ _&&_ (times-self (c .sign)) (sameRow-refl (c .row)))))
+
+alone : (d v h : ℕ) (x : Sitting) → Unrefused d v h x → (boundary d v h x ≡ []) ↔ (x .s ≡ 0)
+alone d v h x u = (
+  (λ e. sym (count d v h x u)
+      ∙ ap length (same-none (solid d v h x)
+      (third-term d v h x noCells u (unrefused d v h x u) .decides .1
+      (subst₂ Same (sym e) (sym (no-boundary d v h noCells refl)) (λ s w. refl))))),
+  no-boundary d v h x,
+)
+
+-- the ring has the segment from 0 to 1 with plus, and so has the bottom of its sweep
+different : (Same (solid 1 3 1 circle) (solid 1 3 1 noCells) → ⊥) × (Same (boundary 1 3 1 circle) (boundary 1 3 1 noCells) → ⊥)
+unfolding computing
+different = (
+  (λ e. let z : _≡_ {A = ℕ} 1 0 = e true (0 ∷ 1 ∷ []) in omega arith),
+  (λ e. let z : _≡_ {A = ℕ} 1 0 = e true (0 ∷ 1 ∷ []) in omega arith),
+)
+
+pub no-cells : NoCells
+unfolding computing
+no-cells =
+    record {
+      winged = winged;
+      swept = swept;
+      faceless = faceless;
+      moved = moved;
+      text = text;
+      listed = listed;
+      no-vertex = no-vertex;
+      unrefused = unrefused;
+      alone = alone;
+      own = λ t. let z : _≡_ {A = ℕ} 3 0 = t circle (record { winged = refl; swept = refl }) .0 refl in omega arith;
+      different = different;
+      equal = ((λ s w. refl), (λ s w. refl));
+      without-vertices = (record { winged = refl; swept = refl }, refl);
+    }
+
+pub empty-keys : EmptyKeys
+unfolding computing
+empty-keys = record { nothing = refl; six = refl; vertices = refl; cell = refl }

@@ -1,4 +1,5 @@
 -- The solid without cells: every call takes it in every dimension, and the third term tells it from every other. Paper, section 2.
+--   NoCells               the laws; EmptyKeys, what is printed for small files
 --   noCells               a sitting without cells, lent no room
 --   emptyFile d n         a file without vertices and cells, slid once
 --   vertexFile            the file of K1 without its cell
@@ -17,6 +18,7 @@ use Rattle.rules.specs.Calls.{accepted, refused}
 use Rattle.simplex.specs.Chain.{Same}
 use Rattle.wing.specs.Wing.{wingInput, wingOutcome}
 use Rattle.sweep.specs.Sweep.{sweepInput, sweepOutcome}
+use Rattle.boundary.specs.Boundary.{ownBoundary}
 use Rattle.boundary.specs.Faces.{facesInput, facesOutcome}
 use Rattle.points.specs.declared.step.Step.{Step}
 use Rattle.points.specs.Step.{inRange, stepFits, stepFloats}
@@ -57,15 +59,20 @@ pub record NoCells : Type 0 where
   pub no-vertex : (d s h n room : ℕ) (ws : List ℕ) (ps : List Float) →
       (wingOutcome (wingInput d 0 (suc s) ws room) ≡ refused 2) × (sweepOutcome (sweepInput d 0 (suc s) h ws room) ≡ refused 2)
       × (facesOutcome (facesInput d 0 (suc s) ws room) ≡ refused 2) × (listOutcome (listInput d n 0 (suc s) ws ps room) ≡ refused 2)
-  -- what the program prints
-  pub nothing : (printed (emptyFile 0 1) ≡ ascii "key 1 1 0 0\n") × (printed (emptyFile 6 8) ≡ ascii "key 7 8 0 0\n")
-  pub vertices : printed vertexFile ≡ ascii "key 1 1 2 0\nv 0 0.500\nv 1 1.500\n"
-  pub cell : printed cellFile ≡ ascii "refused 2\n"
   -- the third term speaks of it wherever it speaks of a solid
   pub unrefused : (d v h : ℕ) (x : Sitting) → Unrefused d v h x → Unrefused d v h noCells
   -- its sweep has no boundary, and no other's has none
   pub alone : (d v h : ℕ) (x : Sitting) → Unrefused d v h x → (boundary d v h x ≡ []) ↔ (x .s ≡ 0)
+  -- false: told by the solid's own boundary, which a ring has none of either
+  pub own : ((x : Sitting) → Unrefused 1 3 1 x → (ownBoundary (solid 1 3 1 x) ≡ []) ↔ (x .s ≡ 0)) → ⊥
   -- computed: on either side of the third term's `decides`
   pub different : (Same (solid 1 3 1 circle) (solid 1 3 1 noCells) → ⊥) × (Same (boundary 1 3 1 circle) (boundary 1 3 1 noCells) → ⊥)
   pub equal : Same (solid 1 3 1 (sitting 0 [])) (solid 1 3 1 noCells) × Same (boundary 1 3 1 (sitting 0 [])) (boundary 1 3 1 noCells)
   pub without-vertices : Unrefused 6 0 64 noCells × (boundary 6 0 64 noCells ≡ [])
+
+-- what the program prints
+pub record EmptyKeys : Type 0 where
+  pub nothing : printed (emptyFile 0 1) ≡ ascii "key 1 1 0 0\n"
+  pub six : printed (emptyFile 6 8) ≡ ascii "key 7 8 0 0\n"
+  pub vertices : printed vertexFile ≡ ascii "key 1 1 2 0\nv 0 0.500\nv 1 1.500\n"
+  pub cell : printed cellFile ≡ ascii "refused 2\n"

@@ -59,7 +59,7 @@ module _ (d v h : ℕ) (x : Sitting) (u : Unrefused d v h x) where
   pub is-long : All (Long (suc d)) cs
   is-long = accepted-solid (list d v h x) (wing-facts .size) (wing-facts .cells) .1
 
-  count : length cs ≡ x .s
+  pub count : length cs ≡ x .s
   count = length-map (listedCells (list d v h x)) ascending ∙ tabulate-length (x .s) (λ p. cellOf (part (listSize d) p (x .cells)))
 
   -- wing writes the table of the solid
