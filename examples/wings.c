@@ -2,10 +2,10 @@
  *
  *     wings V [H] <CELLS
  *
- * A line of the input is a cell on V vertices: + or -, and its vertex numbers; no line at all is the solid without cells,
- * taken as one of points. Printed are the table of the cells, or of
- * their sweep in H steps, and the boundary. A line of the table: the cell's number, its sign and vertices, its wings, with
- * a point for the empty wing. A line of the boundary is a face. A refused call is told by the line "refused N". */
+ * A line of the input is a cell on V vertices: + or -, and its vertex numbers; where there is no line, the solid is
+ * without cells, of dimension 0. Printed are the table of the cells, or of their sweep in H steps, and the boundary. A line
+ * of the table: the cell's number, its sign and vertices, its wings, with a point for the empty wing. A line of the boundary
+ * is a face. A refused call is told by the line "refused N". */
 #include <inttypes.h>
 #include <stdio.h>
 #include <stdlib.h>

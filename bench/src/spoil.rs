@@ -64,5 +64,5 @@ pub fn spoil_numbers(random: &mut Random, job: &mut Job) {
 /// A longer or shorter input.
 pub fn spoil_length(random: &mut Random, input: &mut Vec<u8>) {
     let n = input.len();
-    input.resize(random.pick(&[n - 1, n + 1, n - 2, n + 2, 0, 1, n / 2, 2 * n]), 1);
+    input.resize(random.pick(&[n.saturating_sub(1), n + 1, n.saturating_sub(2), n + 2, 0, 1, n / 2, 2 * n]), 1);
 }

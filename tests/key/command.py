@@ -15,7 +15,7 @@ import sys
 import tempfile
 import time
 
-from common import K1, ROOT, SIX, check, key_of, run, tally
+from common import K1, NOTHING, ROOT, SIX, check, key_of, run, tally
 
 COMMAND = ROOT / "key"
 REASONS = dict(line.split("\t") for line in (ROOT / "docs" / "refusals.txt").read_text().splitlines())
@@ -55,6 +55,7 @@ def limited(what, size):
 
 def check_usage():
     answers("key FILE", run([COMMAND, K1]), 0, key_of(K1))
+    answers("key FILE without cells", run([COMMAND, NOTHING]), 0, key_of(NOTHING))
     answers("key -", run([COMMAND, "-"], K1.read_bytes()), 0, key_of(K1))
     for words in ([], ["a", "b"], ["--no-such-option"], ["no such file"], [ROOT]):
         answers(f"key {words}", run([COMMAND, *words]), 2, b"", b"try key --help")
@@ -146,19 +147,21 @@ def check_cut_keys(folder):
     """A program that stops half-way, or prints a key that lacks a part of it."""
     command = beside(folder, '#!/bin/sh\n. "$(dirname "$0")/does"\n')
     text, does = folder / "text", folder / "target" / "bin" / "does"
-    whole = key_of(K1)
+    whole, empty = key_of(K1), key_of(NOTHING)
     does.write_text(f"cat '{text}'\n")
-    cuts = {f"cut to {n} bytes": whole[:n] for n in range(len(whole))}
+    cuts = {f"{len(key)} bytes cut to {n}": key[:n] for key in (whole, empty) for n in range(len(key))}
     others = {
         "a line more": whole + b"+ 1\n", "a vertex more": whole.replace(b"v 1", b"v 1 0.000\nv 2"), "no key": b"hello\n",
         "a face less": whole.replace(b"+ 1\n", b""), "a face first": b"key 1 1 2 2\n+ 1\n- 0\nv 0 0.500\nv 1 1.500\n",
+        "nothing, and a face": empty + b"+ 1\n", "nothing, and a vertex": empty + b"v 0 0.500\n",
         "half a refusal": b"refused \n", "a refusal without an end": b"refused 9", "two refusals": b"refused 9\nrefused 9\n",
     }
     for name, cut in {**cuts, **others}.items():
         text.write_bytes(cut)
         answers(name, run([command, K1]), 3, b"", b"did not print a key with all its lines")
-    text.write_bytes(whole)
-    answers("a whole key", run([command, K1]), 0, whole)
+    for key in (empty, whole):
+        text.write_bytes(key)
+        answers(f"a whole key of {len(key)} bytes", run([command, K1]), 0, key)
     ends = {"kill -KILL $$": b"signal KILL", "kill -SEGV $$": b"signal SEGV", "exit 1": b"exit status 1", "echo no >&2": b"text: no\n"}
     for end, part in ends.items():
         does.write_text(f"cat '{text}'\n{end}\n")

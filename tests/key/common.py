@@ -12,6 +12,7 @@ from tally import Tally  # noqa: E402
 
 PROGRAM = sys.argv[1] if len(sys.argv) > 1 else str(ROOT / "target" / "bin" / "key")
 K1 = ROOT / "examples" / "marked" / "k1.wng"
+NOTHING = ROOT / "examples" / "empty" / "dimension-0.wng"
 SIX = ROOT / "examples" / "high" / "six.wng"
 
 tally = Tally()

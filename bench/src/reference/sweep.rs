@@ -9,6 +9,9 @@ impl Reference {
         self.read_sound::<N>(v, s, table)?;
         let words = s * N * (2 * N + 3);
         refuse_if(out.len() / 2 < h * words, 15)?;
+        if s == 0 {
+            return Ok(0);
+        }
         let swept = &mut out[..2 * h * words];
         for (p, column) in swept[..2 * words].chunks_exact_mut(2 * N * (2 * N + 3)).enumerate() {
             self.put_column::<N>(v, p, column);

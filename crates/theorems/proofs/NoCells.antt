@@ -7,7 +7,7 @@ use mathlib.Core.List.{List, [], _∷_, _++_, append-nil}
 use Prim.Native.Nat.{ℕ, zero, suc, _*_, _≤_}
 use native.Mathlib.Nat.{mul-zero, zero-mul, suc-mul}
 use native.Mathlib.Omega.{arith}
-use lib.Dec.{leb, eqb·suc-zero}
+use lib.Dec.{leb, ltb, eqb·suc-zero}
 use lib.ListN.{length}
 use lib.Ieee.{Float}
 use borrow.Author.Tests.{le-leb, le-ltb, eq-eqb}
@@ -25,13 +25,13 @@ use Rattle.prism.specs.Swept.{sweptCells}
 use Rattle.solids.proofs.Computing.{computing as solids-computing}
 use Rattle.solids.specs.Table.{tableOfList}
 use Rattle.wing.specs.Wing.{wingInput, wingRules, wingOutcome, wingBuffer}
-use Rattle.sweep.specs.Sweep.{sweepInput, sweptLength, sweepRules, sweepOutcome}
+use Rattle.sweep.specs.Sweep.{sweepInput, sweptLength, sweptWords, sweepRules, sweepOutcome, sweepBuffer}
 use Rattle.boundary.specs.Boundary.{boundaryOf}
-use Rattle.boundary.specs.Faces.{facesInput, facesRules, facesOutcome}
+use Rattle.boundary.specs.Faces.{boundaryCells, facesInput, facesRules, facesOutcome, facesBuffer}
 use Rattle.points.specs.declared.step.Step.{Step}
 use Rattle.points.specs.Step.{inRange, stepFits, stepFloats}
-use Rattle.points.specs.Levels.{levelOf}
-use Rattle.motion.specs.Move.{moveInput, moveOutcome, moveRules, movedLevels}
+use Rattle.points.specs.Levels.{levelOf, levels}
+use Rattle.motion.specs.Move.{moveInput, moveOutcome, moveRules, movedLevels, moveBuffer}
 use Rattle.listing.specs.Lines.{firstLine, vertexLines, keyText}
 use Rattle.list.specs.List.{listInput, listText, listOutcome, listRules}
 use Rattle.third_term.specs.ThirdTerm.{Sitting, Unrefused, boundary, solid, sweptWritten, tableWritten, toSweep}
@@ -48,14 +48,19 @@ no-words d = zero-mul (recordSize d)
 no-swept : (d h : ℕ) → sweptCells d 0 h ≡ 0
 no-swept d h = ap (λ n. h * n) (zero-mul (suc d)) ∙ mul-zero h
 
-winged : (d v : ℕ) → d ≤ maxDimension → v ≤ maxVertices → wingOutcome (wingInput d v 0 [] 0) ≡ accepted 0
-unfolding computing
-winged d v hd hv = rw (le-leb d maxDimension hd, le-leb v maxVertices hv, zero-mul (listSize d), no-words d) refl
+-- row 15 does not apply to what needs no room
+any-room : (room : ℕ) → ltb room 0 ≡ false
+any-room room = le-ltb room 0 (omega arith)
 
-swept : (d v h : ℕ) → d ≤ maxSource → stepsOk h ≡ true → sweptVertices v h ≤ maxVertices →
-    sweepOutcome (sweepInput d v 0 h [] 0) ≡ accepted 0
-unfolding computing
-swept d v h hd hh few =
+wing-accepts : (d v room : ℕ) → d ≤ maxDimension → v ≤ maxVertices → wingOutcome (wingInput d v 0 [] room) ≡ accepted 0
+unfolding wingOutcome wingRules solids-computing
+wing-accepts d v room hd hv =
+    rw (le-leb d maxDimension hd, le-leb v maxVertices hv, zero-mul (listSize d), no-words d, any-room room) refl
+
+sweep-accepts : (d v h room : ℕ) → d ≤ maxSource → stepsOk h ≡ true → sweptVertices v h ≤ maxVertices →
+    sweepOutcome (sweepInput d v 0 h [] room) ≡ accepted 0
+unfolding sweepOutcome sweepRules solids-computing
+sweep-accepts d v h room hd hh few =
     rw (
       le-leb d maxSource hd,
       le-leb d maxDimension (omega (arith, hd)),
@@ -65,25 +70,53 @@ swept d v h hd hh few =
       no-words d,
       no-swept d h,
       no-words (suc d),
+      any-room room,
     ) refl
 
-faceless : (d v : ℕ) → d ≤ maxDimension → v ≤ maxVertices → facesOutcome (facesInput d v 0 [] 0) ≡ accepted 0
-unfolding computing
-faceless d v hd hv = rw (le-leb d maxDimension hd, le-leb v maxVertices hv, no-words d, zero-mul (faceSize d)) refl
+faces-accepts : (d v room : ℕ) → d ≤ maxDimension → v ≤ maxVertices → facesOutcome (facesInput d v 0 [] room) ≡ accepted 0
+unfolding facesOutcome facesRules boundaryCells solids-computing
+faces-accepts d v room hd hv =
+    rw (le-leb d maxDimension hd, le-leb v maxVertices hv, no-words d, zero-mul (faceSize d), any-room room) refl
 
-concat-none : (n : ℕ) (f : ℕ → List Float) → ((i : ℕ) → f i ≡ []) → concat (tabulate n f) ≡ []
+concat-none {ℓ} : {A : Type ℓ} (n : ℕ) (f : ℕ → List A) → ((i : ℕ) → f i ≡ []) → concat (tabulate n f) ≡ []
 concat-none zero f e = refl
 concat-none (suc n) f e = rw (e zero) (concat-none n (λ i. f (suc i)) (λ i. e (suc i)))
 
-no-level : (step : Step) (n i : ℕ) → levelOf step n 0 [] i ≡ []
-no-level step n zero = refl
-no-level step n (suc i) = refl
+no-levels : (step : Step) (n h : ℕ) → levels step n 0 h [] ≡ []
+no-levels step n h = concat-none (suc h) (levelOf step n 0 []) level
+  where
+    level : (i : ℕ) → levelOf step n 0 [] i ≡ []
+    level zero = refl
+    level (suc i) = refl
 
-moved : (n h : ℕ) (step : Step) → axesOk n ≡ true → stepsOk h ≡ true → allOf inRange (stepFloats step) ≡ true →
-    stepFits n step ≡ true → moveOutcome (moveInput n 0 h step [] 0) ≡ accepted 0
+move-accepts : (n h room : ℕ) (step : Step) → axesOk n ≡ true → stepsOk h ≡ true → allOf inRange (stepFloats step) ≡ true →
+    stepFits n step ≡ true → moveOutcome (moveInput n 0 h step [] room) ≡ accepted 0
 unfolding moveOutcome moveRules movedLevels
-moved n h step hn hh floats fits =
-    rw (hn, hh, mul-zero (suc h), zero-mul n, floats, fits, concat-none (suc h) (levelOf step n 0 []) (no-level step n)) refl
+move-accepts n h room step hn hh floats fits =
+    rw (hn, hh, mul-zero (suc h), zero-mul n, floats, fits, no-levels step n h, any-room room) refl
+
+winged : (d v : ℕ) (out : List ℕ) → d ≤ maxDimension → v ≤ maxVertices →
+    let i = wingInput d v 0 [] (length out) in (wingOutcome i ≡ accepted 0) × (wingBuffer i out ≡ out)
+unfolding wingBuffer tableOfList
+winged d v out hd hv = let e = wing-accepts d v (length out) hd hv in (e, rw e refl)
+
+swept : (d v h : ℕ) (out : List ℕ) → d ≤ maxSource → stepsOk h ≡ true → sweptVertices v h ≤ maxVertices →
+    let i = sweepInput d v 0 h [] (length out) in (sweepOutcome i ≡ accepted 0) × (sweepBuffer i out ≡ out)
+unfolding sweepBuffer sweptWords
+swept d v h out hd hh few =
+    let e = sweep-accepts d v h (length out) hd hh few in (e, rw (e, concat-none h (λ i. []) (λ i. refl)) refl)
+
+faceless : (d v : ℕ) (out : List ℕ) → d ≤ maxDimension → v ≤ maxVertices →
+    let i = facesInput d v 0 [] (length out) in (facesOutcome i ≡ accepted 0) × (facesBuffer i out ≡ out)
+unfolding facesBuffer boundaryCells
+faceless d v out hd hv = let e = faces-accepts d v (length out) hd hv in (e, rw e refl)
+
+moved : (n h : ℕ) (step : Step) (out : List Float) → axesOk n ≡ true → stepsOk h ≡ true →
+    allOf inRange (stepFloats step) ≡ true → stepFits n step ≡ true →
+    let i = moveInput n 0 h step [] (length out) in (moveOutcome i ≡ accepted 0) × (moveBuffer i out ≡ out)
+unfolding moveBuffer movedLevels
+moved n h step out hn hh floats fits =
+    let e = move-accepts n h (length out) step hn hh floats fits in (e, rw (e, no-levels step n h) refl)
 
 text : (d n v room : ℕ) (ps : List Float) → listText (listInput d n v 0 [] ps room) ≡ firstLine d n v 0 ++ vertexLines n v ps
 unfolding listText keyText
@@ -119,7 +152,7 @@ no-vertex d s h n room ws ps =
 -- a sitting without cells: nothing is winged, nothing swept, and the boundary is empty
 no-table : (d v h : ℕ) → d ≤ maxDimension → v ≤ maxVertices → tableWritten d v h noCells ≡ []
 unfolding wingBuffer tableOfList
-no-table d v h hd hv = rw (winged d v hd hv, no-words d) refl
+no-table d v h hd hv = rw (wing-accepts d v 0 hd hv, no-words d) refl
 
 no-boundary : (d v h : ℕ) (x : Sitting) → x .s ≡ 0 → boundary d v h x ≡ []
 no-boundary d v h x e = ap (λ n. boundaryOf (entriesOf (suc d) n (sweptWritten d v h x))) (ap (λ n. sweptCells d n h) e ∙ no-swept d h)
@@ -127,10 +160,10 @@ no-boundary d v h x e = ap (λ n. boundaryOf (entriesOf (suc d) n (sweptWritten 
 unrefused : (d v h : ℕ) (x : Sitting) → Unrefused d v h x → Unrefused d v h noCells
 unrefused d v h x u =
     record {
-      winged = winged d v d-small (l .vertices) ∙ ap accepted (sym (no-words d));
+      winged = wing-accepts d v 0 d-small (l .vertices) ∙ ap accepted (sym (no-words d));
       swept =
           ap (λ ws. sweepOutcome (sweepInput d v 0 h ws 0)) (no-table d v h d-small (l .vertices))
-          ∙ swept d v h (l .dimension) (facts .steps) (facts .vertices)
+          ∙ sweep-accepts d v h 0 (l .dimension) (facts .steps) (facts .vertices)
           ∙ ap accepted (sym (ap (λ n. n * recordSize (suc d)) (no-swept d h) ∙ no-words (suc d)));
     }
   where

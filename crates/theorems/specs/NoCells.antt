@@ -16,13 +16,13 @@ use Rattle.words.specs.Text.{ascii}
 use Rattle.rules.specs.Limits.{maxDimension, maxSource, maxVertices, axesOk, stepsOk, sweptVertices}
 use Rattle.rules.specs.Calls.{accepted, refused}
 use Rattle.simplex.specs.Chain.{Same}
-use Rattle.wing.specs.Wing.{wingInput, wingOutcome}
-use Rattle.sweep.specs.Sweep.{sweepInput, sweepOutcome}
+use Rattle.wing.specs.Wing.{wingInput, wingOutcome, wingBuffer}
+use Rattle.sweep.specs.Sweep.{sweepInput, sweepOutcome, sweepBuffer}
 use Rattle.boundary.specs.Boundary.{ownBoundary}
-use Rattle.boundary.specs.Faces.{facesInput, facesOutcome}
+use Rattle.boundary.specs.Faces.{facesInput, facesOutcome, facesBuffer}
 use Rattle.points.specs.declared.step.Step.{Step}
 use Rattle.points.specs.Step.{inRange, stepFits, stepFloats}
-use Rattle.motion.specs.Move.{moveInput, moveOutcome}
+use Rattle.motion.specs.Move.{moveInput, moveOutcome, moveBuffer}
 use Rattle.listing.specs.Lines.{firstLine, vertexLines}
 use Rattle.list.specs.List.{listInput, listText, listOutcome}
 use Rattle.page.specs.Key.{printed}
@@ -43,13 +43,16 @@ abbrev pub cellFile : List ℕ
 cellFile = take 7 k1File ++ (0 ∷ 0 ∷ take 31 (drop 9 k1File) ++ drop 48 k1File)
 
 pub record NoCells : Type 0 where
-  -- every call takes it, lent no words and no floats
-  pub winged : (d v : ℕ) → d ≤ maxDimension → v ≤ maxVertices → wingOutcome (wingInput d v 0 [] 0) ≡ accepted 0
-  pub swept : (d v h : ℕ) → d ≤ maxSource → stepsOk h ≡ true → sweptVertices v h ≤ maxVertices →
-      sweepOutcome (sweepInput d v 0 h [] 0) ≡ accepted 0
-  pub faceless : (d v : ℕ) → d ≤ maxDimension → v ≤ maxVertices → facesOutcome (facesInput d v 0 [] 0) ≡ accepted 0
-  pub moved : (n h : ℕ) (step : Step) → axesOk n ≡ true → stepsOk h ≡ true → allOf inRange (stepFloats step) ≡ true →
-      stepFits n step ≡ true → moveOutcome (moveInput n 0 h step [] 0) ≡ accepted 0
+  -- every call takes it, whatever room it is lent, and writes nothing
+  pub winged : (d v : ℕ) (out : List ℕ) → d ≤ maxDimension → v ≤ maxVertices →
+      let i = wingInput d v 0 [] (length out) in (wingOutcome i ≡ accepted 0) × (wingBuffer i out ≡ out)
+  pub swept : (d v h : ℕ) (out : List ℕ) → d ≤ maxSource → stepsOk h ≡ true → sweptVertices v h ≤ maxVertices →
+      let i = sweepInput d v 0 h [] (length out) in (sweepOutcome i ≡ accepted 0) × (sweepBuffer i out ≡ out)
+  pub faceless : (d v : ℕ) (out : List ℕ) → d ≤ maxDimension → v ≤ maxVertices →
+      let i = facesInput d v 0 [] (length out) in (facesOutcome i ≡ accepted 0) × (facesBuffer i out ≡ out)
+  pub moved : (n h : ℕ) (step : Step) (out : List Float) → axesOk n ≡ true → stepsOk h ≡ true →
+      allOf inRange (stepFloats step) ≡ true → stepFits n step ≡ true →
+      let i = moveInput n 0 h step [] (length out) in (moveOutcome i ≡ accepted 0) × (moveBuffer i out ≡ out)
   -- its key is a first line and the lines of the vertices
   pub text : (d n v room : ℕ) (ps : List Float) → listText (listInput d n v 0 [] ps room) ≡ firstLine d n v 0 ++ vertexLines n v ps
   pub listed : (d n v room : ℕ) (ps : List Float) → d ≤ maxDimension → axesOk n ≡ true → v ≤ maxVertices →
