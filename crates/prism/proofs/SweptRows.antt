@@ -1,10 +1,10 @@
--- The rows of swept cells, by number, and their faces, by position.
+-- The rows of swept cells, by number, and their faces, by position. No cells give none.
 use mathlib.Core.Path.{_≡_, refl, sym, ap, ap₂, _∙_}
 use mathlib.Core.Bool.{Bool, true, false, cond}
 use mathlib.Core.List.{List, [], _∷_, _++_, append-nil}
 use Prim.Native.Nat.{ℕ, zero, suc, _+_, _*_, _-_, _≤_, _<_}
 use native.Mathlib.Omega.{arith}
-use native.Mathlib.Nat.{suc-mul, zero-mul, mul-le-mul-right, le-of-suc-le-suc, not-suc-le-zero}
+use native.Mathlib.Nat.{suc-mul, zero-mul, mul-zero, mul-le-mul-right, le-of-suc-le-suc, not-suc-le-zero}
 use native.Mathlib.Decide.{ℕ-discrete}
 use lib.Dec.{ltb}
 use lib.ListN.{length, take, drop, length-append, length-map, length-drop, List·getD-append}
@@ -20,6 +20,7 @@ use Rattle.solids.proofs.Solid.{rowAt}
 use Rattle.solids.proofs.Tables.{cellAt}
 use Rattle.prism.specs.Cells.{level, prism, prismCell, sweepOf}
 use Rattle.prism.specs.Sides.{sideCell, sidePosition}
+use Rattle.prism.specs.Swept.{sweptCells}
 use Rattle.prism.proofs.Level.{raised}
 
 -- cell k over a row
@@ -169,3 +170,6 @@ module _ (nv n : ℕ) where
 
   pub num-lt : (h S i p k : ℕ) → i < h → p < S → k < n → numberOf S i p k < h * (S * n)
   num-lt h S i p k hi hp hk = omega (arith, in-level S p k hp hk, mul-le-mul-right {m = suc i} {n = h} (S * n) hi)
+
+pub none-swept : (d h : ℕ) → sweptCells d 0 h ≡ 0
+none-swept d h = ap (λ n. h * n) (zero-mul (suc d)) ∙ mul-zero h

@@ -3,10 +3,11 @@
 --   SweepLimits, sweep-limits-are   a sweep's: a shape's of dimension 6, with the steps
 --   ListLimits, list-limits-are     a list's: a shape's of dimension 7, with the axes
 --   MoveLimits, move-limits-are     a move's: axes, vertices, steps
+--   no-shape                        cells without vertices are of no shape
 --   sizes-follow                    sizes that have a vertex where others within the limits have, and no cells where those have none
 -- Assumes nothing.
 use mathlib.Core.Path.{_≡_, refl, subst}
-use mathlib.Core.Bool.{true, false, not, _&&_, _||_, or-true}
+use mathlib.Core.Bool.{true, false, not, _&&_, _||_, and-false, or-true}
 use Prim.Native.Nat.{ℕ, zero, suc, _≤_}
 use lib.Dec.{eqb, leb, eqb·suc-zero}
 use borrow.Author.Tests.{leb-true, le-leb, not-false}
@@ -66,6 +67,9 @@ move-limits-are n v h e =
     let parts = and-parts (axesOk n) (verticesOk v && stepsOk h) (not-false (axesOk n && (verticesOk v && stepsOk h)) e) in
     let counts = and-parts (verticesOk v) (stepsOk h) (parts .1) in
     record { axes = at-most maxAxes n (parts .0); vertices = leb-true v maxVertices (counts .0); steps = at-most maxSteps h (counts .1) }
+
+pub no-shape : (top d s : ℕ) → shapeOk top d 0 (suc s) ≡ false
+no-shape top d s = rw (eqb·suc-zero s, and-false (leb (suc s) maxCells)) (and-false (leb d top))
 
 pub sizes-follow : (v s w t : ℕ) → sizesOk v s ≡ true → w ≤ maxVertices → t ≤ maxCells →
     (1 ≤ v → 1 ≤ w) → (s ≡ 0 → t ≡ 0) → sizesOk w t ≡ true

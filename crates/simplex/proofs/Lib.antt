@@ -3,6 +3,7 @@
 --   Up Insert Sorting Swaps Ascending   rows that ascend, sorting, exchanges of neighbours, orientation
 --   Places Faces                        where each vertex of the sorted row stood; the faces by position
 --   Sums Counts Cancel FaceCounts       sums over signed cells and over faces; faces that cancel
+--   Chains                              lists compared, list order aside
 --   Pairs Sunk Sinking                  one entry sinks to its place
 --   Front Eight Ordered                 the first entries of a row of eight put in order
 --   Examples                            two signs, computed
@@ -20,6 +21,7 @@ pub mod Sums
 pub mod Counts
 pub mod Cancel
 pub mod FaceCounts
+pub mod Chains
 pub mod Pairs
 pub mod Sunk
 pub mod Sinking

@@ -1,27 +1,26 @@
 -- The calls take the solid without cells, at every dimension and vertex count: each test is of a limit, or of nothing.
 -- And no other solid's sweep is without boundary, by the third term.
-use mathlib.Core.Path.{_≡_, refl, sym, ap, ap₂, subst₂, _∙_}
+use mathlib.Core.Path.{_≡_, refl, sym, ap, subst₂, _∙_}
 use mathlib.Core.Logic.{_↔_}
-use mathlib.Core.Bool.{true, false, not, _&&_, and-false}
+use mathlib.Core.Bool.{true, false, not}
 use mathlib.Core.List.{List, [], _∷_, _++_, append-nil}
-use Prim.Native.Nat.{ℕ, zero, suc, _*_, _≤_}
+use Prim.Native.Nat.{ℕ, suc, _*_, _≤_}
 use native.Mathlib.Nat.{mul-zero, zero-mul, suc-mul}
 use native.Mathlib.Omega.{arith}
-use lib.Dec.{leb, ltb, eqb·suc-zero}
+use lib.Dec.{ltb}
 use lib.ListN.{length}
 use lib.Ieee.{Float}
 use borrow.Author.Tests.{le-leb, le-ltb, eq-eqb}
-use Rattle.words.specs.Records.{allOf, tabulate, concat}
-use Rattle.rules.specs.Limits.{maxCells, maxDimension, maxSource, maxVertices, axesOk, stepsOk, sweptVertices}
-use Rattle.rules.specs.Shapes.{shapeOk}
+use Rattle.words.specs.Records.{allOf}
+use Rattle.words.proofs.Records.{concat-none}
+use Rattle.rules.specs.Limits.{maxDimension, maxSource, maxVertices, axesOk, stepsOk, sweptVertices}
 use Rattle.rules.specs.Calls.{accepted, refused}
-use Rattle.rules.proofs.InLimits.{Limits, limits-are}
-use Rattle.simplex.specs.Cell.{Cell, one}
+use Rattle.rules.proofs.InLimits.{Limits, limits-are, no-shape}
 use Rattle.simplex.specs.Chain.{Same}
-use Rattle.simplex.proofs.Rows.{sameRow-refl}
-use Rattle.simplex.proofs.Signs.{times-self}
+use Rattle.simplex.proofs.Chains.{same-none}
 use Rattle.records.specs.Layout.{entriesOf, faceSize, listSize, recordSize}
 use Rattle.prism.specs.Swept.{sweptCells}
+use Rattle.prism.proofs.SweptRows.{none-swept}
 use Rattle.solids.proofs.Computing.{computing as solids-computing}
 use Rattle.solids.specs.Table.{tableOfList}
 use Rattle.wing.specs.Wing.{wingInput, wingRules, wingOutcome, wingBuffer}
@@ -30,7 +29,7 @@ use Rattle.boundary.specs.Boundary.{boundaryOf}
 use Rattle.boundary.specs.Faces.{boundaryCells, facesInput, facesRules, facesOutcome, facesBuffer}
 use Rattle.points.specs.declared.step.Step.{Step}
 use Rattle.points.specs.Step.{inRange, stepFits, stepFloats}
-use Rattle.points.specs.Levels.{levelOf, levels}
+use Rattle.points.proofs.LevelLaws.{levels-none}
 use Rattle.motion.specs.Move.{moveInput, moveOutcome, moveRules, movedLevels, moveBuffer}
 use Rattle.listing.specs.Lines.{firstLine, vertexLines, keyText}
 use Rattle.list.specs.List.{listInput, listText, listOutcome, listRules}
@@ -44,9 +43,6 @@ use Rattle.theorems.proofs.Computing.{computing}
 
 no-words : (d : ℕ) → 0 * recordSize d ≡ 0
 no-words d = zero-mul (recordSize d)
-
-no-swept : (d h : ℕ) → sweptCells d 0 h ≡ 0
-no-swept d h = ap (λ n. h * n) (zero-mul (suc d)) ∙ mul-zero h
 
 -- row 15 does not apply to what needs no room
 any-room : (room : ℕ) → ltb room 0 ≡ false
@@ -68,7 +64,7 @@ sweep-accepts d v h room hd hh few =
       hh,
       le-ltb maxVertices (sweptVertices v h) few,
       no-words d,
-      no-swept d h,
+      none-swept d h,
       no-words (suc d),
       any-room room,
     ) refl
@@ -78,22 +74,11 @@ unfolding facesOutcome facesRules boundaryCells solids-computing
 faces-accepts d v room hd hv =
     rw (le-leb d maxDimension hd, le-leb v maxVertices hv, no-words d, zero-mul (faceSize d), any-room room) refl
 
-concat-none {ℓ} : {A : Type ℓ} (n : ℕ) (f : ℕ → List A) → ((i : ℕ) → f i ≡ []) → concat (tabulate n f) ≡ []
-concat-none zero f e = refl
-concat-none (suc n) f e = rw (e zero) (concat-none n (λ i. f (suc i)) (λ i. e (suc i)))
-
-no-levels : (step : Step) (n h : ℕ) → levels step n 0 h [] ≡ []
-no-levels step n h = concat-none (suc h) (levelOf step n 0 []) level
-  where
-    level : (i : ℕ) → levelOf step n 0 [] i ≡ []
-    level zero = refl
-    level (suc i) = refl
-
 move-accepts : (n h room : ℕ) (step : Step) → axesOk n ≡ true → stepsOk h ≡ true → allOf inRange (stepFloats step) ≡ true →
     stepFits n step ≡ true → moveOutcome (moveInput n 0 h step [] room) ≡ accepted 0
 unfolding moveOutcome moveRules movedLevels
 move-accepts n h room step hn hh floats fits =
-    rw (hn, hh, mul-zero (suc h), zero-mul n, floats, fits, no-levels step n h, any-room room) refl
+    rw (hn, hh, mul-zero (suc h), zero-mul n, floats, fits, levels-none step n h, any-room room) refl
 
 winged : (d v : ℕ) (out : List ℕ) → d ≤ maxDimension → v ≤ maxVertices →
     let i = wingInput d v 0 [] (length out) in (wingOutcome i ≡ accepted 0) × (wingBuffer i out ≡ out)
@@ -116,7 +101,7 @@ moved : (n h : ℕ) (step : Step) (out : List Float) → axesOk n ≡ true → s
     let i = moveInput n 0 h step [] (length out) in (moveOutcome i ≡ accepted 0) × (moveBuffer i out ≡ out)
 unfolding moveBuffer movedLevels
 moved n h step out hn hh floats fits =
-    let e = move-accepts n h (length out) step hn hh floats fits in (e, rw (e, no-levels step n h) refl)
+    let e = move-accepts n h (length out) step hn hh floats fits in (e, rw (e, levels-none step n h) refl)
 
 text : (d n v room : ℕ) (ps : List Float) → listText (listInput d n v 0 [] ps room) ≡ firstLine d n v 0 ++ vertexLines n v ps
 unfolding listText keyText
@@ -138,10 +123,6 @@ listed d n v room ps hd hn hv long inside fits =
       le-ltb room (length (firstLine d n v 0 ++ vertexLines n v ps)) fits,
     ) refl
 
--- no cells of a shape without vertices
-no-shape : (top d s : ℕ) → shapeOk top d 0 (suc s) ≡ false
-no-shape top d s = rw (eqb·suc-zero s, and-false (leb (suc s) maxCells)) (and-false (leb d top))
-
 no-vertex : (d s h n room : ℕ) (ws : List ℕ) (ps : List Float) →
     (wingOutcome (wingInput d 0 (suc s) ws room) ≡ refused 2) × (sweepOutcome (sweepInput d 0 (suc s) h ws room) ≡ refused 2)
     × (facesOutcome (facesInput d 0 (suc s) ws room) ≡ refused 2) × (listOutcome (listInput d n 0 (suc s) ws ps room) ≡ refused 2)
@@ -155,7 +136,7 @@ unfolding wingBuffer tableOfList
 no-table d v h hd hv = rw (wing-accepts d v 0 hd hv, no-words d) refl
 
 no-boundary : (d v h : ℕ) (x : Sitting) → x .s ≡ 0 → boundary d v h x ≡ []
-no-boundary d v h x e = ap (λ n. boundaryOf (entriesOf (suc d) n (sweptWritten d v h x))) (ap (λ n. sweptCells d n h) e ∙ no-swept d h)
+no-boundary d v h x e = ap (λ n. boundaryOf (entriesOf (suc d) n (sweptWritten d v h x))) (ap (λ n. sweptCells d n h) e ∙ none-swept d h)
 
 unrefused : (d v h : ℕ) (x : Sitting) → Unrefused d v h x → Unrefused d v h noCells
 unrefused d v h x u =
@@ -164,7 +145,7 @@ unrefused d v h x u =
       swept =
           ap (λ ws. sweepOutcome (sweepInput d v 0 h ws 0)) (no-table d v h d-small (l .vertices))
           ∙ sweep-accepts d v h 0 (l .dimension) (facts .steps) (facts .vertices)
-          ∙ ap accepted (sym (ap (λ n. n * recordSize (suc d)) (no-swept d h) ∙ no-words (suc d)));
+          ∙ ap accepted (sym (ap (λ n. n * recordSize (suc d)) (none-swept d h) ∙ no-words (suc d)));
     }
   where
     facts : Swept (toSweep d v h x)
@@ -175,12 +156,6 @@ unrefused d v h x u =
 
     d-small : d ≤ maxDimension
     d-small = omega (arith, l .dimension)
-
--- a list that is equal to the empty one, list order aside, is empty
-same-none : (cs : List Cell) → Same cs [] → cs ≡ []
-same-none [] e = refl
-same-none (c ∷ cs) e =
-    absurd (omega (arith, e (c .sign) (c .row), ap one (ap₂ _&&_ (times-self (c .sign)) (sameRow-refl (c .row)))))
 
 alone : (d v h : ℕ) (x : Sitting) → Unrefused d v h x → (boundary d v h x ≡ []) ↔ (x .s ≡ 0)
 alone d v h x u = (

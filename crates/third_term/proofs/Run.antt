@@ -6,7 +6,7 @@ use native.Mathlib.Omega.{arith}
 use lib.ListN.{length, length-map}
 use borrow.Author.Tests.{eq-eqb, le-leb, le-ltb, leb-true}
 use lib.Dec.{leb}
-use native.Mathlib.Nat.{mul-zero, suc-mul, zero-mul}
+use native.Mathlib.Nat.{suc-mul}
 use mathlib.Core.Bool.{not, true}
 use Rattle.words.specs.Records.{part}
 use Rattle.words.proofs.Records.{tabulate-length}
@@ -30,7 +30,7 @@ use Rattle.solids.proofs.Solid.{Solid}
 use Rattle.prism.specs.Cells.{sweepOf}
 use Rattle.prism.specs.Swept.{sweptCells, sweptTable}
 use Rattle.sweep.specs.Sweep.{sweepBuffer, sweptLength, sweptWords}
-use Rattle.prism.proofs.SweptRows.{len-sweep}
+use Rattle.prism.proofs.SweptRows.{len-sweep, none-swept}
 use Rattle.prism.proofs.SweptSolid.{swept-long, swept-solid}
 use Rattle.prism.proofs.SweptTable.{swept-table}
 use Rattle.boundary.specs.Boundary.{boundaryOf, ownBoundary}
@@ -127,7 +127,7 @@ module _ (d v h : ℕ) (x : Sitting) (u : Unrefused d v h x) where
       (sizes-follow v (x .s) (sweptVertices v h) (sweptCells d (x .s) h) (and-parts (leb d maxSource) (sizesOk v (x .s)) (sweep-facts .shape) .1)
       (sweep-facts .vertices) (sweep-facts .cells)
       (λ some. omega (arith, some, suc-mul h v))
-      (λ none. ap (λ n. h * (n * suc d)) none ∙ ap (λ n. h * n) (zero-mul (suc d)) ∙ mul-zero h))
+      (λ none. ap (λ n. sweptCells d n h) none ∙ none-swept d h))
 
   swept-length-is : length (sweptWritten d v h x) ≡ tableLength (suc d) (sweptCells d (x .s) h)
   swept-length-is =

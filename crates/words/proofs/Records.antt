@@ -2,6 +2,7 @@
 --   EachLong n xss        each list has n elements
 --   record-fits, record-next      where a record ends
 --   part-tabulated, length-tabulated      record k of tabulated lists of one length; how long they are
+--   concat-none           lists without elements, one after the other
 --   read-front, read-take         a part of a front part
 use mathlib.Core.Path.{_≡_, refl, sym, ap, ap₂, _∙_}
 use mathlib.Core.List.{List, [], _∷_, _++_, map}
@@ -63,14 +64,20 @@ module _ {ℓ} {A : Type ℓ} where
   each-long n (suc m) f h = (h 0 (omega arith), each-long n m (λ i. f (suc i)) (λ i l. h (suc i) (omega arith)))
 
   -- the same of tabulated lists
-  pub part-tabulated : (n m k : ℕ) (f : ℕ → List A) → ((i : ℕ) → i < m → length (f i) ≡ n) → k < m → part n k (concat (tabulate m f)) ≡ f k
+  pub part-tabulated : (n m k : ℕ) (f : ℕ → List A) → ((i : ℕ) → i < m → length (f i) ≡ n) → k < m →
+      part n k (concat (tabulate m f)) ≡ f k
   part-tabulated n m k f each h =
       part-concat n k (tabulate m f) (each-long n m f each) (omega (arith, tabulate-length m f)) ∙ tabulate-at m f k [] h
 
-  pub length-tabulated : (n m : ℕ) (f : ℕ → List A) → ((i : ℕ) → i < m → length (f i) ≡ n) → length (concat (tabulate m f)) ≡ m * n
+  pub length-tabulated : (n m : ℕ) (f : ℕ → List A) → ((i : ℕ) → i < m → length (f i) ≡ n) →
+      length (concat (tabulate m f)) ≡ m * n
   length-tabulated n m f each = concat-length n (tabulate m f) (each-long n m f each) ∙ ap (λ (k : ℕ). k * n) (tabulate-length m f)
 
   -- a part of the first of two lists
+  pub concat-none : (n : ℕ) (f : ℕ → List A) → ((i : ℕ) → f i ≡ []) → concat (tabulate n f) ≡ []
+  concat-none zero f e = refl
+  concat-none (suc n) f e = rw (e zero) (concat-none n (λ i. f (suc i)) (λ i. e (suc i)))
+
   pub read-front : (xs ys : List A) (a n : ℕ) → a + n ≤ length xs → take n (drop a (xs ++ ys)) ≡ take n (drop a xs)
   read-front xs ys a n l =
       let inside : a ≤ length xs = omega arith in
@@ -80,8 +87,10 @@ module _ {ℓ} {A : Type ℓ} where
   -- a part of a front part is that part of the whole
   pub read-take : (w : ℕ) (d : List A) (a n : ℕ) → w ≤ length d → a + n ≤ w → take n (drop a (take w d)) ≡ take n (drop a d)
   read-take w d a n h l =
-      sym (read-front (take w d) (drop w d) a n (omega (arith, length-take-le w d h))) ∙ ap (λ (x : List A). take n (drop a x)) (take-append-drop w d)
+      sym (read-front (take w d) (drop w d) a n (omega (arith, length-take-le w d h)))
+      ∙ ap (λ (x : List A). take n (drop a x)) (take-append-drop w d)
 
-pub tabulate-map {ℓ κ} : {A : Type ℓ} {B : Type κ} (f : A → B) (n : ℕ) (g : ℕ → A) → map f (tabulate n g) ≡ tabulate n (λ i. f (g i))
+pub tabulate-map {ℓ κ} : {A : Type ℓ} {B : Type κ} (f : A → B) (n : ℕ) (g : ℕ → A) →
+    map f (tabulate n g) ≡ tabulate n (λ i. f (g i))
 tabulate-map f zero g = refl
 tabulate-map {B = B} f (suc n) g = ap {B = List B} (λ r. f (g zero) ∷ r) (tabulate-map f n (λ i. g (suc i)))
