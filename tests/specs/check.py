@@ -2,8 +2,9 @@
 and what these rest on.
 
 It follows the imports from there, and must never enter a folder `Inner`, which holds what serves contracts inside the
-library and proofs alone; and a definition that is never reached must stand there. With --list it names the modules of
-definitions that are not reached, a crate and a module a line. Last line: 'N passed, M failed'.
+library and proofs alone; and a file of definitions that is never reached must stand there. A definition that nothing
+names must not be at all. With --list it names the modules of definitions that are not reached, a crate and a module a
+line. Last line: 'N passed, M failed'.
 """
 
 import pathlib
@@ -18,6 +19,8 @@ from tally import Tally  # noqa: E402
 THEOREMS = {"third_term", "theorems"}
 IMPORT = re.compile(r"^(?:ghost )?use Rattle·(\w+)(?:·specs)?\.specs\.([\w.]+?)(?:\.\{([^}]*)\}| as [\w-]+);?$", re.M)
 FUNCTION = re.compile(r'^ *pub (?:extern "C" )?fn (\w+)(.*?)^ *\{', re.M | re.S)
+# A definition, up to the empty line behind it.
+DEFINITION = re.compile(r"^ *(?:abbrev|unfoldable) pub ([\w·'-]+)[^\n]* :.*?(?:\n\n|\Z)", re.M | re.S)
 # In the promises: names, and the file that has them in brackets.
 NAMED = re.compile(r"((?:`[^`]+`, )*`[^`]+`) \((\w+/proofs/\w+)\)")
 
@@ -75,6 +78,30 @@ def reached(specs):
     return seen
 
 
+def names_in(text):
+    return re.findall(r"[\w·'-]+", text)
+
+
+def named():
+    """The definitions that some file imports: crate, module and name."""
+    found = set()
+    for file in (ROOT / "crates").glob("*/*/**/*"):
+        if file.suffix in (".antt", ".rt"):
+            for crate, module, items in IMPORT.findall(file.read_text()):
+                found |= {(crate, module, name) for name in names_in(items)}
+    return found
+
+
+def unnamed(specs):
+    """For each file the definitions that nothing names, neither another file nor another definition of it."""
+    imported = named()
+    for (crate, module), file in specs.items():
+        text = "\n".join(line for line in file.read_text().split("\n") if not line.startswith("--"))
+        yield crate, module, [
+            own[1] for own in DEFINITION.finditer(text)
+            if (crate, module, own[1]) not in imported and names_in(text).count(own[1]) == names_in(own[0]).count(own[1])]
+
+
 def main():
     specs = modules()
     seen = reached(specs)
@@ -88,6 +115,8 @@ def main():
         tally.check(f"{crate}/specs/{module}: a call, a theorem or a law rests on it, so it is not in Inner", not module.startswith("Inner."))
     for crate, module in sorted(unreached):
         tally.check(f"{crate}/specs/{module}: no call, theorem or law rests on it, so it is in Inner", module.startswith("Inner."))
+    for crate, module, names in unnamed(specs):
+        tally.check(f"{crate}/specs/{module}: nothing names {', '.join(names)}", not names)
     return tally.finish()
 
 

@@ -1,7 +1,6 @@
 -- The limits on the numbers that a call is told. Paper, section 9.
 --   maxDimension      d of a table; read and sweep go to maxSource, since a sweep adds one
 --   maxAxes, maxVertices, maxCells, maxSteps
---   empty             the wing word for no neighbour, 65535
 --   axesOk, verticesOk, cellsOk, stepsOk      one number is within its limits
 --   sizesOk v s       vertex and cell count are; a solid may be without cells, and only then without vertices
 --   sweptVertices     the vertex count of a sweep: v vertices give (h + 1) v in h steps
@@ -26,9 +25,6 @@ maxCells = 4096
 
 abbrev pub maxSteps : ℕ
 maxSteps = 64
-
-abbrev pub empty : ℕ
-empty = 65535
 
 -- lo ≤ x ≤ hi
 abbrev pub within : ℕ → ℕ → ℕ → Bool

@@ -2,7 +2,6 @@
 --   word16 b at       the 16-bit number whose bytes stand at `at` and `at + 1`
 --   word64 b at       the 64-bit number of the 8 bytes from `at`
 --   float64 b at      the float with these 64 bits
---   bytes16 w         a 16-bit number as two bytes
 --   words16 b         all 16-bit numbers of a list of bytes; a last odd byte is left out
 --   bytesOf ws        the bytes of a list of 16-bit numbers
 --   wordsFrom b at m  the m 16-bit numbers that stand one after the other from `at`
@@ -24,9 +23,6 @@ word64 = number 8
 
 abbrev pub float64 : List ℕ → ℕ → Float
 float64 b at = ofBits binary64 (word64 b at)
-
-abbrev pub bytes16 : ℕ → List ℕ
-bytes16 w = (w % 256) ∷ (w / 256 % 256) ∷ []
 
 abbrev pub words16 : List ℕ → List ℕ
 words16 [] = []
