@@ -113,12 +113,16 @@ def parse(text):
             step = parse_step(words, line)
         elif head == "v":
             points.append([decimal(w, line) for w in words[1:]])
-            if not points[-1] or len(points[-1]) != len(points[0]):
+            if not points[-1]:
+                raise Bad("a vertex takes at least one coordinate", line)
+            if len(points[-1]) != len(points[0]):
                 raise Bad(f"a vertex takes as many coordinates as the first, {len(points[0])}", line)
             found.setdefault("axes", (len(points[0]), line))
         elif head in "+-" and len(head) == 1:
             cells.append((head, [whole(w, line) for w in words[1:]]))
-            if not cells[-1][1] or len(cells[-1][1]) != len(cells[0][1]):
+            if not cells[-1][1]:
+                raise Bad("a cell takes at least one vertex", line)
+            if len(cells[-1][1]) != len(cells[0][1]):
                 raise Bad(f"a cell takes as many vertices as the first, {len(cells[0][1])}", line)
             found.setdefault("dimension", (len(cells[0][1]) - 1, line))
         else:

@@ -24,6 +24,8 @@ BAD = [
     (GOOD + "x 1\n", "line 6: 'x' begins no line"),
     (GOOD + "v 1\n", "line 6: a vertex takes as many coordinates as the first, 2"),
     (GOOD + "+ 1\n", "line 6: a cell takes as many vertices as the first, 2"),
+    (GOOD + "v\n", "line 6: a vertex takes at least one coordinate"),
+    (EMPTY + "+\n", "line 5: a cell takes at least one vertex"),
     (GOOD + "+ 1 b\n", "line 6: 'b' is no whole number"),
     (GOOD + "+ 1 65536\n", "line 6: '65536' is no whole number"),
     (GOOD + "steps 2\n", "line 6: one line 'steps COUNT'"),
