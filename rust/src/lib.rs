@@ -3,8 +3,8 @@
 //!
 //! Words are 16 bits. A list of cells holds a sign word (0 plus, 1 minus) and d + 1 vertices a cell; a table
 //! holds a sign word, d + 1 ascending vertices and d + 1 wings a cell, 65535 for none; a face is a sign word
-//! and d vertices. Points are floats, n for each vertex. A solid may be without cells, and then without vertices: its
-//! lists are empty.
+//! and d vertices. Points are floats, n for each vertex. A solid may be without cells, and only then without vertices.
+//! Its list and its table are then empty.
 //!
 //! ```
 //! // a segment from vertex 0 to vertex 1, swept in one step, and the boundary of that square

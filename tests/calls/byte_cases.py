@@ -89,13 +89,11 @@ def reads():
         solid = Solid(kind=kind, axes=axes).set(floats=list(bits))
         solid.points[0] = MINUS_ZERO
         yield read(f"kind {kind} by bytes", 0, 0, 0, 0, solid)
-    for d in range(7):
-        for v, n in itertools.product((0, 2), {d + 1, 8}):
-            for header, cells, points in ((0, 0, 0), (0, 1, 7), (-1, 0, 0), (-40, 0, 0), (0, 0, -1)):
-                row = 15 if header < 0 or v and points < 0 else 0
-                if v or points >= 0:
-                    solid = Solid(d=d, n=n, v=v, s=0)
-                    yield read(f"no cells: d {d} n {n} v {v}, {header}, {cells}, {points} bytes over", header, cells, points, row, solid)
+    for d, v in itertools.product(range(7), (0, 2)):
+        solid = Solid(d=d, n=d + 1, v=v, s=0)
+        for header, cells, points in ((0, 0, 0), (0, 1, 7), (-1, 0, 0), (-40, 0, 0), *[(0, 0, -1)] * (v > 0)):
+            row = 15 if min(header, points) < 0 else 0
+            yield read(f"no cells: d {d} v {v}, {header}, {cells}, {points} bytes over", header, cells, points, row, solid)
     yield read("no header's room, and a vertex too high", -1, 0, 0, 7, bad_vertex())
 
 

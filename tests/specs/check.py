@@ -3,8 +3,8 @@ and what these rest on.
 
 It follows the imports from there, and must never enter a folder `Inner`, which holds what serves contracts inside the
 library and proofs alone; and a file of definitions that is never reached must stand there. A definition that nothing
-names must not be at all. With --list it names the modules of definitions that are not reached, a crate and a module a
-line. Last line: 'N passed, M failed'.
+names must not be at all, and a law that nothing cites must be promised, or be an example for an edit. With --list it
+names the modules of definitions that are not reached, a crate and a module a line. Last line: 'N passed, M failed'.
 """
 
 import pathlib
@@ -17,10 +17,12 @@ from contracts.calls import CALLS  # noqa: E402
 from tally import Tally  # noqa: E402
 
 THEOREMS = {"third_term", "theorems"}
+EXAMPLES = ("Examples.antt", "FirstOfTwo.antt")
 IMPORT = re.compile(r"^(?:ghost )?use Rattle·(\w+)(?:·specs)?\.specs\.([\w.]+?)(?:\.\{([^}]*)\}| as [\w-]+);?$", re.M)
 FUNCTION = re.compile(r'^ *pub (?:extern "C" )?fn (\w+)(.*?)^ *\{', re.M | re.S)
-# A definition, up to the empty line behind it.
-DEFINITION = re.compile(r"^ *(?:abbrev|unfoldable) pub ([\w·'-]+)[^\n]* :.*?(?:\n\n|\Z)", re.M | re.S)
+ANY_IMPORT = re.compile(r"^(?:ghost )?use Rattle·(\w+)(?:·\w+)?\.(specs|proofs)\.([\w.]+?)\.\{([^}]*)\};?$", re.M)
+# A definition or a law, up to the empty line behind it; a field of a record has no equation.
+DECLARED = re.compile(r"^( *)(?:abbrev |unfoldable )?pub ([\w·'-]+)[^\n]* :(?:(?!\n\n).)*?\n\1\2(?![\w·'-])(?:(?!\n\n).)*", re.M | re.S)
 # In the promises: names, and the file that has them in brackets.
 NAMED = re.compile(r"((?:`[^`]+`, )*`[^`]+`) \((\w+/proofs/\w+)\)")
 
@@ -82,24 +84,25 @@ def names_in(text):
     return re.findall(r"[\w·'-]+", text)
 
 
-def named():
-    """The definitions that some file imports: crate, module and name."""
+def imported():
+    """What some file imports: crate, specs or proofs, module and name."""
     found = set()
     for file in (ROOT / "crates").glob("*/*/**/*"):
         if file.suffix in (".antt", ".rt"):
-            for crate, module, items in IMPORT.findall(file.read_text()):
-                found |= {(crate, module, name) for name in names_in(items)}
+            for *module, items in ANY_IMPORT.findall(file.read_text()):
+                found |= {(*module, name) for name in names_in(items)}
     return found
 
 
-def unnamed(specs):
-    """For each file the definitions that nothing names, neither another file nor another definition of it."""
-    imported = named()
-    for (crate, module), file in specs.items():
-        text = "\n".join(line for line in file.read_text().split("\n") if not line.startswith("--"))
-        yield crate, module, [
-            own[1] for own in DEFINITION.finditer(text)
-            if (crate, module, own[1]) not in imported and names_in(text).count(own[1]) == names_in(own[0]).count(own[1])]
+def unnamed():
+    """For each file the definitions or laws that nothing names, neither another file nor another declaration of it."""
+    known = imported()
+    for file in sorted((ROOT / "crates").glob("*/*/**/*.antt")):
+        crate, kind, *path = file.relative_to(ROOT / "crates").with_suffix("").parts
+        text = "\n".join(line for line in file.read_text().split("\n") if not line.lstrip().startswith("--"))
+        yield file, kind, [
+            own[2] for own in DECLARED.finditer(text)
+            if (crate, kind, ".".join(path), own[2]) not in known and names_in(text).count(own[2]) == names_in(own[0]).count(own[2])]
 
 
 def main():
@@ -115,8 +118,12 @@ def main():
         tally.check(f"{crate}/specs/{module}: a call, a theorem or a law rests on it, so it is not in Inner", not module.startswith("Inner."))
     for crate, module in sorted(unreached):
         tally.check(f"{crate}/specs/{module}: no call, theorem or law rests on it, so it is in Inner", module.startswith("Inner."))
-    for crate, module, names in unnamed(specs):
-        tally.check(f"{crate}/specs/{module}: nothing names {', '.join(names)}", not names)
+    promises = set(re.findall(r"`([^`]+)`", (ROOT / "docs" / "PROMISES.md").read_text()))
+    for file, kind, names in unnamed():
+        if kind == "proofs" and file.name not in EXAMPLES:
+            names = [name for name in names if name not in promises and not name.endswith("-spec")]
+        if kind == "specs" or file.name not in EXAMPLES:
+            tally.check(f"{file.relative_to(ROOT)}: nothing names {', '.join(names)}", not names)
     return tally.finish()
 
 

@@ -9,14 +9,11 @@ impl Reference {
         self.read_sound::<N>(v, s, table)?;
         let words = s * N * (2 * N + 3);
         refuse_if(out.len() / 2 < h * words, 15)?;
-        if s == 0 {
-            return Ok(0);
-        }
         let swept = &mut out[..2 * h * words];
         for (p, column) in swept[..2 * words].chunks_exact_mut(2 * N * (2 * N + 3)).enumerate() {
             self.put_column::<N>(v, p, column);
         }
-        raise_levels::<N>(v, s, swept);
+        raise_levels::<N>(v, s, h, swept);
         join_levels::<N>(s, swept);
         Ok(h * words)
     }
@@ -54,7 +51,7 @@ impl Reference {
 }
 
 /// Each level is the one below with its vertices and cells raised; empty wings, being 65535, stay so.
-fn raise_levels<const N: usize>(v: usize, s: usize, swept: &mut [u8]) {
+fn raise_levels<const N: usize>(v: usize, s: usize, h: usize, swept: &mut [u8]) {
     let (size, level) = (2 * N + 3, 2 * s * N * (2 * N + 3));
     // What is added to eight records.
     let mut added = [0u16; 8 * 17];
@@ -62,9 +59,9 @@ fn raise_levels<const N: usize>(v: usize, s: usize, swept: &mut [u8]) {
         record[1..N + 2].fill(v as u16);
         record[N + 2..].fill((s * N) as u16);
     }
-    for at in (level..swept.len()).step_by(level) {
-        let (below, here) = swept.split_at_mut(at);
-        for (from, to) in below[at - level..].chunks(16 * size).zip(here[..level].chunks_mut(16 * size)) {
+    for i in 1..h {
+        let (below, here) = swept.split_at_mut(i * level);
+        for (from, to) in below[(i - 1) * level..].chunks(16 * size).zip(here[..level].chunks_mut(16 * size)) {
             for ((x, y), n) in from.as_chunks::<2>().0.iter().zip(to.as_chunks_mut::<2>().0).zip(&added) {
                 *y = u16::from_le_bytes(*x).saturating_add(*n).to_le_bytes();
             }

@@ -11,10 +11,11 @@ use borrow.Author.Tests.{eqb-true, eqb-false, eq-eqb, ne-eqb, lt-ltb}
 use Rattle.records.specs.Layout.{empty}
 use Rattle.simplex.specs.Cell.{Cell, Row, Sign, cell, filled, one}
 use Rattle.simplex.specs.Chain.{total}
-use Rattle.simplex.specs.Faces.{allFaces, faces, facets, keep}
+use Rattle.simplex.specs.Faces.{allFaces, faces, keep}
 use Rattle.simplex.proofs.Cancel.{loneIn}
 use Rattle.simplex.proofs.Counts.{All}
-use Rattle.simplex.proofs.FaceCounts.{All-both, All-keep, All-map, all-in, faces-filled, facets-same, keep-all, keep-append, keep-ext, total-faces}
+use Rattle.simplex.proofs.FaceCounts.{All-both, All-keep, All-map, all-in, faces-filled, facets-none, facets-same, keep-all, keep-append}
+use Rattle.simplex.proofs.FaceCounts.{keep-ext, total-faces, two-long}
 use Rattle.simplex.proofs.Rows.{Long}
 use Rattle.solids.specs.Table.{entriesFrom, tableOf}
 use Rattle.solids.specs.Wings.{hasFace, neighbourFrom, wingsOf}
@@ -34,7 +35,8 @@ faces-have s v l =
     (All-both (λ w. 0 < total w (faces s v)) (λ w. filled w ≡ true) (faces s v) (all-in (faces s v)) (faces-filled s v l))
 
 module _ (nv : ℕ) (all : List Cell) (s : Solid nv all) (two : All (λ v. 2 ≤ length v) all) (small : length all ≤ empty) where
-  lone-eq : (p : ℕ) (w : Row) → p < length all → hasFace w (rowAt all p) ≡ true → eqb (neighbourFrom p 0 w all) 65535 ≡ loneIn (allFaces all) w
+  lone-eq : (p : ℕ) (w : Row) → p < length all → hasFace w (rowAt all p) ≡ true →
+      eqb (neighbourFrom p 0 w all) 65535 ≡ loneIn (allFaces all) w
   lone-eq p w hp hf = go (eqb (neighbourFrom p 0 w all) 65535) refl
     where
       count : othersWith p 0 w all + 1 ≡ total w (allFaces all)
@@ -91,16 +93,8 @@ points-none all p (c ∷ cs) a =
         go false = refl
     one-point s (x ∷ (y ∷ v)) ws e = absurd (omega arith)
 
-points-facets : (cs : List Cell) → All (Long 1) cs → facets cs ≡ []
-points-facets [] a = refl
-points-facets (c ∷ cs) a = one-point (c .sign) (c .row) (a .0) (points-facets cs (a .1))
-  where
-    one-point : (s : Sign) (v : Row) → length v ≡ 1 → facets cs ≡ [] → keep (λ f. filled (f .row)) (faces s v ++ allFaces cs) ≡ []
-    one-point s [] e k = k
-    one-point s (x ∷ []) e k = k
-    one-point s (x ∷ (y ∷ v)) e k = absurd (omega arith)
-
 -- for every dimension
-pub boundary-own : (nv d : ℕ) (cs : List Cell) → Solid nv cs → All (Long (suc d)) cs → length cs ≤ empty → boundaryOf (tableOf cs) ≡ ownBoundary cs
-boundary-own nv zero cs s long small = points-none cs 0 cs long ∙ sym (ap (λ F. keep (λ c. loneIn F (c .row)) F) (points-facets cs long))
-boundary-own nv (suc d) cs s long small = boundary-told nv cs s (All-map (Long (suc (suc d))) (λ v. 2 ≤ length v) cs (λ w e. omega arith) long) small
+pub boundary-own : (nv d : ℕ) (cs : List Cell) → Solid nv cs → All (Long (suc d)) cs → length cs ≤ empty →
+    boundaryOf (tableOf cs) ≡ ownBoundary cs
+boundary-own nv zero cs s long small = points-none cs 0 cs long ∙ sym (ap (λ F. keep (λ c. loneIn F (c .row)) F) (facets-none cs long))
+boundary-own nv (suc d) cs s long small = boundary-told nv cs s (two-long d cs long) small

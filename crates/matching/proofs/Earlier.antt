@@ -5,22 +5,22 @@
 use mathlib.Core.Path.{_≡_, refl, sym, ap, subst, subst⁻¹, _∙_}
 use mathlib.Core.Logic.{⊎-elim, _⊎_, inl, inr}
 use mathlib.Core.Bool.{Bool, true, false, cond}
-use mathlib.Core.List.{List}
 use Prim.Native.Nat.{ℕ, zero, suc, _≤_, _<_}
 use native.Mathlib.Nat.{lt-suc-self, lt-trans, ne-of-lt, eq-or-lt-of-le, le-of-suc-le-suc, not-suc-le-zero}
 use native.Mathlib.Omega.{arith}
 use lib.Dec.{eqb}
 use borrow.Author.Tests.{eqb-true, eqb-false, eq-eqb, ne-eqb}
 use Rattle.simplex.specs.Cell.{Row, sameRow}
-use Rattle.simplex.proofs.Rows.{sameRow-true, sameRow-refl}
-use Rattle.matching.specs.Inner.Matching.{keyRow, lastBelow, earlier}
+use Rattle.simplex.proofs.Rows.{sameRow-true}
+use Rattle.matching.specs.Inner.Matching.{lastBelow}
 use Rattle.matching.specs.Inner.Buckets.{bucketOf, lastIn}
 
 abbrev pub from : (ℕ → Bool) → ℕ → ℕ
 from q x = cond (eqb x 65535) 65535 (lastBelow q (suc x))
 
 -- where the weaker test r fails so does q: `lastBelow q` may start where r passed last
-pub skip : (q r : ℕ → Bool) → ((i : ℕ) → r i ≡ false → q i ≡ false) → (m : ℕ) → m ≤ 65535 → lastBelow q m ≡ from q (lastBelow r m)
+pub skip : (q r : ℕ → Bool) → ((i : ℕ) → r i ≡ false → q i ≡ false) → (m : ℕ) → m ≤ 65535 →
+    lastBelow q m ≡ from q (lastBelow r m)
 skip q r weaker zero l = refl
 skip q r weaker (suc m) l = go (skip q r weaker m (omega arith)) (r m) refl
   where
@@ -107,7 +107,8 @@ module _ (key : ℕ → Row) (g : ℕ) where
   pub walk-end : (f : ℕ) → Walk f → f ≡ 65535 → lastBelow same g ≡ 65535
   walk-end f h e = h .0 ∙ ap (λ (t : Bool). cond t 65535 (lastBelow same (suc f))) (eq-eqb f 65535 e)
 
-  pub walk-next : (f x : ℕ) → g < 65535 → Walk f → (f ≡ 65535 → ⊥) → same f ≡ false → x ≡ lastIn key (bucketOf (key f)) f → Walk x
+  pub walk-next : (f x : ℕ) → g < 65535 → Walk f → (f ≡ 65535 → ⊥) → same f ≡ false →
+      x ≡ lastIn key (bucketOf (key f)) f → Walk x
   unfolding lastIn
   walk-next f x l h n s e =
       let b = walk-below f h n in
@@ -115,21 +116,3 @@ module _ (key : ℕ → Row) (g : ℕ) where
         h .0 ∙ from-at same f n ∙ ap (λ (t : Bool). cond t f (lastBelow same f)) s ∙ skip same near far f (omega (arith, b .0)),
         ⊎-elim (λ i. inl i) (λ i. inr (lt-trans (i .0) (b .0), eqb-true _ _ (i .1))) (last-passes near f),
       )
-
--- what `earlier` says of keys
-module _ (rows : List ℕ) (k w first g : ℕ) where
-  -- there is none, or it is an earlier key with the same row
-  pub earlier-same : (earlier rows k w first g ≡ 65535)
-      ⊎ ((earlier rows k w first g < g) × (keyRow rows k w first (earlier rows k w first g) ≡ keyRow rows k w first g))
-  unfolding earlier
-  earlier-same =
-      ⊎-elim (λ h. inl h) (λ h. inr (h .0, sameRow-true _ _ (h .1)))
-      (last-passes (λ f. sameRow (keyRow rows k w first f) (keyRow rows k w first g)) g)
-
-  -- an earlier key with the same row is at most that one
-  pub earlier-last : (f : ℕ) → f < g → keyRow rows k w first f ≡ keyRow rows k w first g →
-      (earlier rows k w first g < g) × (f ≤ earlier rows k w first g)
-  unfolding earlier
-  earlier-last f h e =
-      last-bounds (λ f. sameRow (keyRow rows k w first f) (keyRow rows k w first g)) g f h
-      (subst (λ (v : Row). sameRow (keyRow rows k w first f) v ≡ true) e (sameRow-refl (keyRow rows k w first f)))

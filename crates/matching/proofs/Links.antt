@@ -4,7 +4,7 @@ use mathlib.Core.Logic.{⊎-elim}
 use mathlib.Core.Bool.{Bool, true, false, cond}
 use mathlib.Core.List.{List}
 use Prim.Native.Nat.{ℕ, _+_, _*_, _/_, _%_, _<_, _≤_}
-use native.Mathlib.Nat.{zero-add, div-one, eq-or-lt-of-le, le-of-suc-le-suc, not-suc-le-zero, ne-of-lt, ne-of-gt, mul-le-mul-right}
+use native.Mathlib.Nat.{div-one, eq-or-lt-of-le, le-of-suc-le-suc, not-suc-le-zero, ne-of-lt, ne-of-gt, mul-le-mul-right}
 use native.Mathlib.Numerals.{add-one}
 use native.Mathlib.Omega.{arith}
 use lib.Dec.{eqb}
@@ -89,10 +89,7 @@ module _ (p i w : ℕ) (h : i < w) where
   pub key-below : p < 4096 → p * w + i < 4096 * w
   key-below l = omega (arith, mul-le-mul-right {m = p} {n = 4095} w (omega arith))
 
--- a key of the faces, and one of the whole cells
-pub face-key : (rows : List ℕ) (k p i : ℕ) → i < k → keyRow rows k k 0 (p * k + i) ≡ without i (cellRow rows k p)
-face-key rows k p i h = key-is p i k h rows k 0 ∙ ap (λ (a : ℕ). without a (cellRow rows k p)) (zero-add i)
-
+-- a key of the whole cells
 pub whole-key : (rows : List ℕ) (k p : ℕ) → keyRow rows k 1 k p ≡ cellRow rows k p
 whole-key rows k p = take-past k (k + p % 1) (part 8 (p / 1) rows) (omega arith) ∙ ap (cellRow rows k) (div-one p)
 

@@ -16,14 +16,8 @@ use lib.Dec.{ltb}
 use lib.ListN.{length, getD, length-append, List·getD-append}
 use borrow.Author.Tests.{lt-ltb, le-ltb, le-leb}
 use Rattle.words.specs.Records.{allOf}
-use Rattle.words.specs.Text.{ascii}
 use Rattle.printing.specs.Decimal.{digit, digitsUpTo, digits}
 use Rattle.printing.specs.Reading.{isDigit, valueOf}
-
--- the largest 64-bit number has 20 digits
-pub digits-of-largest : digits 18446744073709551615 ≡ ascii "18446744073709551615"
-unfolding digits
-digits-of-largest = refl
 
 value-snoc : (bs : List ℕ) (b n : ℕ) → valueOf (bs ++ b ∷ []) n ≡ valueOf bs n * 10 + (b - 48)
 value-snoc [] b n = refl
@@ -110,7 +104,8 @@ unfolding digits
 digits-are-digits n = up-to-are-digits 19 n
 
 -- a digit more to spare changes nothing
-spare-next : (k n : ℕ) → digitsUpTo (suc k) (n / 10) ≡ digitsUpTo k (n / 10) → Dec (n < 10) → digitsUpTo (suc (suc k)) n ≡ digitsUpTo (suc k) n
+spare-next : (k n : ℕ) → digitsUpTo (suc k) (n / 10) ≡ digitsUpTo k (n / 10) → Dec (n < 10) →
+    digitsUpTo (suc (suc k)) n ≡ digitsUpTo (suc k) n
 spare-next k n e (yes p) = one-digit (suc (suc k)) n p ∙ sym (one-digit (suc k) n p)
 spare-next k n e (no p) =
     more-digits (suc k) n (omega arith) ∙ ap (λ (bs : List ℕ). bs ++ digit n ∷ []) e ∙ sym (more-digits k n (omega arith))

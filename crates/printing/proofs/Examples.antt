@@ -13,6 +13,11 @@ pub six-digits : digits 123456 ≡ ascii "123456"
 unfolding digits
 six-digits = refl
 
+-- the largest 64-bit number
+pub twenty-digits : digits 18446744073709551615 ≡ ascii "18446744073709551615"
+unfolding digits
+twenty-digits = refl
+
 -- 0.0625 and 0.1875, by their bits: 62.5 and 187.5 thousandths
 pub half-downwards : thousandths (ofBits binary64 0x3fb0000000000000) ≡ 62
 unfolding ofBits thousandths

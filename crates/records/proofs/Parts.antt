@@ -2,15 +2,14 @@
 --   inside            word j of record p is inside s records
 --   part-at           it is word p n + j of them all
 --   part-within, part-long    record p has n words
---   part-lent         record p as it is lent, from its first word to behind its last
 --   default-free      inside a list the element for outside does not matter
 -- Assumes nothing.
-use mathlib.Core.Path.{_≡_, refl, ap, _∙_}
+use mathlib.Core.Path.{_≡_, refl, _∙_}
 use mathlib.Core.List.{List, [], _∷_}
 use Prim.Native.Nat.{ℕ, zero, suc, _+_, _-_, _*_, _≤_, _<_}
 use native.Mathlib.Nat.{suc-mul, mul-le-mul-right, le-of-suc-le-suc, not-suc-le-zero}
 use native.Mathlib.Omega.{arith}
-use lib.ListN.{length, getD, take, drop, length-drop}
+use lib.ListN.{length, getD, drop, length-drop}
 use lib.Seq.{getD-take, getD-drop, length-take-le}
 use Rattle.words.specs.Records.{part}
 
@@ -33,6 +32,3 @@ module _ {A : Type 0} where
 
   pub part-long : (n p s : ℕ) (ws : List A) → p < s → length ws ≡ s * n → length (part n p ws) ≡ n
   part-long n p s ws h e = part-within n p s ws h (omega arith)
-
-  pub part-lent : (n p : ℕ) (ws : List A) → take (p * n + n - p * n) (drop (p * n) ws) ≡ part n p ws
-  part-lent n p ws = let whole : p * n + n - p * n ≡ n = omega arith in ap (λ m. take m (drop (p * n) ws)) whole

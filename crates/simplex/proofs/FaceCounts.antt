@@ -33,7 +33,8 @@ without-filled zero (x ∷ y ∷ v) h l = refl
 without-filled (suc j) (x ∷ y ∷ v) h l = refl
 
 -- the position of a face
-pub countFaces-find : (q : Row → Bool) (v : Row) → 1 ≤ countFaces (λ y. one (q y)) v → (b : ℕ) × (b < length v) × (q (without b v) ≡ true)
+pub countFaces-find : (q : Row → Bool) (v : Row) → 1 ≤ countFaces (λ y. one (q y)) v →
+    (b : ℕ) × (b < length v) × (q (without b v) ≡ true)
 countFaces-find q [] h = absurd (not-suc-le-zero h)
 countFaces-find q (x ∷ v) h = go (q v) refl h (countFaces-find (λ y. q (x ∷ y)) v)
   where
@@ -102,6 +103,19 @@ keep-ext R q r (c ∷ L) a h = ap₂ {C = List Cell} (λ t l. cond t (c ∷ l) l
 pub All-map : (R Q : Row → Type 0) (L : List Cell) → ((w : Row) → R w → Q w) → All R L → All Q L
 All-map R Q [] h a = tt
 All-map R Q (c ∷ L) h a = (h (c .row) (a .0), All-map R Q L h (a .1))
+
+-- cells of dimension 1 and above have two vertices at least; those of dimension 0 have no faces
+pub two-long : (d : ℕ) (cs : List Cell) → All (Long (suc (suc d))) cs → All (λ v. 2 ≤ length v) cs
+two-long d cs long = All-map (Long (suc (suc d))) (λ v. 2 ≤ length v) cs (λ w e. omega arith) long
+
+pub facets-none : (cs : List Cell) → All (Long 1) cs → facets cs ≡ []
+facets-none [] long = refl
+facets-none (c ∷ cs) long = go (c .row) (long .0) (facets-none cs (long .1))
+  where
+    go : (w : Row) → length w ≡ 1 → facets cs ≡ [] → keep (λ c. filled (c .row)) (faces (c .sign) w ++ allFaces cs) ≡ []
+    go [] e k = absurd (omega arith)
+    go (x ∷ []) e k = k
+    go (x ∷ (y ∷ w)) e k = absurd (omega arith)
 
 pub all-in : (L : List Cell) → All (λ w. 0 < total w L) L
 all-in [] = tt

@@ -3,16 +3,16 @@
 use mathlib.Core.Path.{_≡_, refl, sym, ap, _∙_, subst}
 use mathlib.Core.Bool.{true}
 use mathlib.Core.List.{List, [], _∷_, _++_}
-use Prim.Native.Nat.{ℕ, zero, suc, _+_, _*_, _/_, _%_, _≤_, _<_}
+use Prim.Native.Nat.{ℕ, zero, suc, _+_, _*_, _/_, _%_, _<_}
 use native.Mathlib.Omega.{arith}
 use native.Mathlib.Nat.{zero-mul, zero-add, suc-mul, div-add-mod', mod-lt, div-lt-iff-lt-mul, le-of-suc-le-suc, not-suc-le-zero, mul-le-mul-right}
 use lib.ListN.{length, take, length-append, List·getD-append}
 use lib.Seq.{getD-append-add}
 use Rattle.words.specs.Records.{part}
-use Rattle.simplex.specs.Cell.{Cell, Row, cell, filled, sameRow}
-use Rattle.simplex.specs.Faces.{allFaces, face, faces, facets, keep, without}
+use Rattle.simplex.specs.Cell.{Cell, cell, sameRow}
+use Rattle.simplex.specs.Faces.{allFaces, face, faces, facets, without}
 use Rattle.simplex.proofs.Counts.{All}
-use Rattle.simplex.proofs.FaceCounts.{All-map, facets-same}
+use Rattle.simplex.proofs.FaceCounts.{facets-none, facets-same, two-long}
 use Rattle.simplex.proofs.Faces.{face-at, faces-length}
 use Rattle.simplex.proofs.Rows.{Long}
 use Rattle.matching.specs.Inner.Matching.{earlier, keyRow}
@@ -39,7 +39,8 @@ allFaces-length n (c ∷ cs) long =
     )
 
 -- face a of cell p
-face-cell : (n : ℕ) (cs : List Cell) → All (Long n) cs → (p a : ℕ) → p < length cs → a < n → cellAt (allFaces cs) (p * n + a) ≡ face a (cellAt cs p)
+face-cell : (n : ℕ) (cs : List Cell) → All (Long n) cs → (p a : ℕ) → p < length cs → a < n →
+    cellAt (allFaces cs) (p * n + a) ≡ face a (cellAt cs p)
 face-cell n [] long p a hp ha = absurd (not-suc-le-zero hp)
 face-cell n (c ∷ cs) long zero a hp ha =
     rw (zero-mul n, zero-add a)
@@ -56,25 +57,13 @@ face-cell n (c ∷ cs) long (suc p) a hp ha =
 pub key-inside : (n s p a : ℕ) → p < s → a < n → p * n + a < s * n
 key-inside n s p a h l = omega (arith, suc-mul p n, mul-le-mul-right {m = suc p} {n = s} n h)
 
-no-facets : (cs : List Cell) → All (Long 1) cs → facets cs ≡ []
-no-facets [] long = refl
-no-facets (c ∷ cs) long = go (c .row) (long .0) (no-facets cs (long .1))
-  where
-    go : (w : Row) → length w ≡ 1 → facets cs ≡ [] → keep (λ c. filled (c .row)) (faces (c .sign) w ++ allFaces cs) ≡ []
-    go [] e k = absurd (omega arith)
-    go (x ∷ []) e k = k
-    go (x ∷ (y ∷ w)) e k = absurd (omega arith)
-
-two-long : (d : ℕ) (cs : List Cell) → All (Long (suc (suc d))) cs → All (λ v. 2 ≤ length v) cs
-two-long d cs long = All-map (Long (suc (suc d))) (λ v. 2 ≤ length v) cs (λ w e. omega arith) long
-
 pub facets-length : (d : ℕ) (cs : List Cell) → All (Long (suc d)) cs → length (facets cs) ≡ faceCount d (length cs)
-facets-length zero cs long = ap length (no-facets cs long)
+facets-length zero cs long = ap length (facets-none cs long)
 facets-length (suc d) cs long = ap length (facets-same cs (two-long d cs long)) ∙ allFaces-length (suc (suc d)) cs long
 
 pub facet-cell : (d : ℕ) (cs : List Cell) → All (Long (suc d)) cs → (g : ℕ) → g < length (facets cs) →
     (g / suc d < length cs) × (cellAt (facets cs) g ≡ face (g % suc d) (cellAt cs (g / suc d)))
-facet-cell zero cs long g h = absurd (not-suc-le-zero (subst (λ L. g < length L) (no-facets cs long) h))
+facet-cell zero cs long g h = absurd (not-suc-le-zero (subst (λ L. g < length L) (facets-none cs long) h))
 facet-cell (suc d) cs long g h =
     let n = suc (suc d) in
     let l : g < length cs * n = subst (λ m. g < m) (facets-length (suc d) cs long) h in

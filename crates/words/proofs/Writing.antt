@@ -11,7 +11,7 @@
 --   left-fits, left-item-fits, left-record-fits     the piece has room
 --   left-ahead, left-before           ahead and before `at` the buffer is as it was
 --   left-read                         and what is written is read
---   put-nothing, put-as               nothing put; the same told of equal places and buffers
+--   put-nothing                       nothing put
 --   put-first                         put at the start: the list, and the buffer's rest
 --   put-part                          put into a part that was lent to a call
 -- Assumes nothing.
@@ -31,9 +31,6 @@ use Rattle.words.proofs.Placed.{placed-first, placed-none, placed-lengt
 module _ {A : Type 0} where
   pub put-nothing : (at : ℕ) (old : List A) → Put at [] old at old
   put-nothing at old = record { place = sym (add-zero at); content = sym (placed-none at old) }
-
-  pub put-as : {at cur next : ℕ} {xs old buf new : List A} → Put at xs old cur buf → next ≡ cur → new ≡ buf → Put at xs old next new
-  put-as p e f = record { place = e ∙ p .place; content = f ∙ p .content }
 
   -- one list behind another, and one behind an element
   pub put-then : {at cur next : ℕ} {xs ys old buf new : List A} → Put at xs old cur buf → Put cur ys buf next new → cur ≤ length old →
@@ -67,10 +64,6 @@ module _ {A : Type 0} where
 
   pub left-starts : (at : ℕ) (all old : List A) → at + length all ≤ length old → Left at all old at all old
   left-starts at all old h = record { done = []; parts = refl; put = put-nothing at old; room = h; same = refl }
-
-  pub left-as : {at cur next : ℕ} {all old rest buf new : List A} → Left at all old cur rest buf → next ≡ cur → new ≡ buf →
-      Left at all old next rest new
-  left-as l e f = rw (e, f) l
 
   pub left-ends : {at : ℕ} {all old : List A} {cur : ℕ} {buf : List A} → Left at all old cur [] buf → Put at all old cur buf
   left-ends l = rw (sym (l .parts) ∙ append-nil (l .done)) (l .put)
