@@ -64,11 +64,13 @@ module _ (rows : List ℕ) (k p : ℕ) (long : length rows ≡ 32768) (l : k ≤
       (λ n. ap length (take-past k a (part 8 p rows) n) ∙ cell-length)
 
   -- vertex j of those left stands at j before position a, and one further after it
-  pub key-at : (a j : ℕ) → j < cond (ltb a k) (k - 1) k → getD (without a (cellRow rows k p)) j 0 ≡ getD rows (p * 8 + cond (ltb j a) j (j + 1)) 0
+  pub key-at : (a j : ℕ) → j < cond (ltb a k) (k - 1) k →
+      getD (without a (cellRow rows k p)) j 0 ≡ getD rows (p * 8 + cond (ltb j a) j (j + 1)) 0
   key-at a j b =
       by-ltb (λ t. getD (without a (cellRow rows k p)) j 0 ≡ getD rows (p * 8 + cond t j (j + 1)) 0) j a
       (λ y. before-at a j (cellRow rows k p) y ∙ cell-at rows k p j l (omega (arith, most)))
-      (λ n. after-at a j (cellRow rows k p) n ∙ ap (λ (i : ℕ). getD (cellRow rows k p) i 0) (sym (add-one j)) ∙ cell-at rows k p (j + 1) l (less n))
+      (λ n. after-at a j (cellRow rows k p) n ∙ ap (λ (i : ℕ). getD (cellRow rows k p) i 0) (sym (add-one j))
+      ∙ cell-at rows k p (j + 1) l (less n))
     where
       most : j < k
       most = by-ltb (λ t. j < cond t (k - 1) k → j < k) a k (λ y b. omega arith) (λ n b. b) b
@@ -76,14 +78,14 @@ module _ (rows : List ℕ) (k p : ℕ) (long : length rows ≡ 32768) (l : k ≤
       less : a ≤ j → j + 1 < k
       less n = by-ltb (λ t. j < cond t (k - 1) k → j + 1 < k) a k (λ y b. omega arith) (λ z b. omega arith) b
 
-pub kept-below : (k a j : ℕ) → k ≤ 8 → j < cond (ltb a k) (k - 1) k → j < 8
-kept-below k a j l b = by-ltb (λ t. j < cond t (k - 1) k → j < 8) a k (λ y b. omega arith) (λ n b. omega arith) b
+pub kept-few : (k a : ℕ) → k ≤ 8 → cond (ltb a k) (k - 1) k ≤ 8
+kept-few k a l = by-ltb (λ t. cond t (k - 1) k ≤ 8) a k (λ y. omega arith) (λ n. l)
 
 -- where vertex j stands is in the record
 pub stands-below : (k a j : ℕ) → k ≤ 8 → j < cond (ltb a k) (k - 1) k → cond (ltb j a) j (j + 1) < 8
 stands-below k a j l b =
     by-ltb (λ t. cond t j (j + 1) < 8) j a
-    (λ y. kept-below k a j l b)
+    (λ y. omega (arith, b, kept-few k a l))
     (λ n. by-ltb (λ t. j < cond t (k - 1) k → j + 1 < 8) a k (λ y b. omega arith) (λ z b. omega arith) b)
 
 pub same-false : (v w : Row) → (v ≡ w → ⊥) → sameRow v w ≡ false
@@ -104,7 +106,8 @@ module _ (rows : List ℕ) (k p a q b : ℕ) (long : length rows ≡ 32768) (mos
   abbrev other : Row
   other = without b (cellRow rows k q)
 
-  pub other-length : (m n : ℕ) → m ≡ cond (ltb a k) (k - 1) k → n ≡ cond (ltb b k) (k - 1) k → (n ≡ m → ⊥) → sameRow one other ≡ false
+  pub other-length : (m n : ℕ) → m ≡ cond (ltb a k) (k - 1) k → n ≡ cond (ltb b k) (k - 1) k → (n ≡ m → ⊥) →
+      sameRow one other ≡ false
   other-length m n em en differ =
       same-false one other
       (λ e. differ (en ∙ sym (key-length rows k q long most hq b) ∙ ap length (sym e) ∙ key-length rows k p long most hp a ∙ sym em))

@@ -9,7 +9,7 @@ ghost use lib.ListN.{length, getD};
 ghost use Rattle.simplex.specs.Cell.{sameRow};
 ghost use Rattle.simplex.specs.Faces.{without};
 ghost use Rattle.matching.specs.Inner.Matching.{Keyed, cellRow, keyRow, earlier, Behind};
-ghost use Rattle.matching.specs.Inner.Buckets.{term, weight, bucketOf, Linked, Linking};
+ghost use Rattle.matching.specs.Inner.Buckets.{term, weight, Linked, Linking};
 
 fn wide(x: u16) -> u64
     ensures { λ r. ⌜ (r ≡ x) × (r < 65536) ⌝ }
@@ -25,28 +25,39 @@ fn term(x: u16) -> u64
     v * (v * (v + 5903) + 12421)
 }
 
-// The weight of the row of cell p.
-fn weigh(k: usize, p: usize, rows: &[u16; 32768]) -> u64
-    requires { ⌜ (k ≤ 8) × (p < 4096) ⌝ }
-    ensures { λ r. ⌜ r ≡ weight (cellRow (now (rows .entry)) k p) ⌝ }
-{
-    let mut sum: u64 = 0;
-    let mut j: usize = 0;
-    while j < k {
-        sum += term(rows[p * 8 + j]);
-        j += 1;
-    }
-    sum
+// The weights of a cell's vertices, and of its row.
+struct Terms {
+    each: [u64; 8],
+    sum: u64,
 }
 
-// The bucket of the row of cell p, of that weight, less position a.
-fn bucket(k: usize, p: usize, a: usize, sum: u64, rows: &[u16; 32768]) -> usize
+// Those of cell p. There are always eight turns, which the compiler writes out.
+fn weigh(k: usize, p: usize, rows: &[u16; 32768]) -> Terms
     requires { ⌜ (k ≤ 8) × (p < 4096) ⌝ }
-    requires { ⌜ sum ≡ weight (cellRow (now rows) k p) ⌝ }
-    ensures { λ r. ⌜ (r ≡ bucketOf (without a (cellRow (now (rows .entry)) k p))) × (r < 32768) ⌝ }
+    ensures terms { λ r. ⌜ ((a : ℕ) → a < k → getD (r .each) a 0 ≡ term (getD (now (rows .entry)) (p * 8 + a) 0)) ⌝ }
+    ensures sum { λ r. ⌜ r .sum ≡ weight (cellRow (now (rows .entry)) k p) ⌝ }
+{
+    let mut terms = [0u64; 8];
+    let mut sum: u64 = 0;
+    let mut j: usize = 0;
+    while j < 8 {
+        if j < k {
+            let t = term(rows[p * 8 + j]);
+            terms[j] = t;
+            sum += t;
+        }
+        j += 1;
+    }
+    Terms { each: terms, sum }
+}
+
+// The bucket of a row of that weight, less position a, whose vertices have these weights.
+fn bucket(k: usize, a: usize, sum: u64, terms: &[u64; 8]) -> usize
+    requires { ⌜ (k ≤ 8) × (a < k → getD (now terms) a 0 ≤ sum) ⌝ }
+    ensures { λ r. ⌜ (r ≡ cond (ltb a k) (sum - getD (now (terms .entry)) a 0) sum % 32749) × (r < 32768) ⌝ }
 {
     if a < k {
-        ((sum - term(rows[p * 8 + a])) % 32749) as usize
+        ((sum - terms[a]) % 32749) as usize
     } else {
         (sum % 32749) as usize
     }
@@ -67,7 +78,8 @@ fn stands(a: usize, j: usize) -> usize
     if j < a { j } else { j + 1 }
 }
 
-// Whether the row of cell p less position a is that of cell q less position b.
+// Whether the row of cell p less position a is that of cell q less position b. The loop's bound is a number, so that the
+// compiler writes it out.
 fn same_key(k: usize, rows: &[u16; 32768], p: usize, a: usize, q: usize, b: usize) -> bool
     requires { ⌜ (length (now rows) ≡ 32768) × (k ≤ 8) × (p < 4096) × (q < 4096) ⌝ }
     ensures { λ r. ⌜ r ≡ sameRow (without a (cellRow (now (rows .entry)) k p)) (without b (cellRow (now (rows .entry)) k q)) ⌝ }
@@ -77,7 +89,10 @@ fn same_key(k: usize, rows: &[u16; 32768], p: usize, a: usize, q: usize, b: usiz
         return false;
     }
     let mut j: usize = 0;
-    while j < m {
+    while j < 8 {
+        if m <= j {
+            return true;
+        }
         if rows[p * 8 + stands(a, j)] != rows[q * 8 + stands(b, j)] {
             return false;
         }
@@ -120,10 +135,12 @@ fn link_cell(
     ensures { λ _. ⌜ Linking (keyRow (now (rows .entry)) k w first) (now (head .exit)) (now (prev .exit)) (p * w + w) ⌝ }
     ensures { λ _. ⌜ Behind (p * w + w) (now (prev .exit)) (now (prev .entry)) ⌝ }
 {
-    let sum = weigh(k, p, rows);
+    let weighed = weigh(k, p, rows);
+    let terms = weighed.each;
+    let sum = weighed.sum;
     let mut i: usize = 0;
     while i < w {
-        let b = bucket(k, p, first + i, sum, rows);
+        let b = bucket(k, first + i, sum, &terms);
         let g = p * w + i;
         prev[g] = head[b];
         head[b] = g as u16;

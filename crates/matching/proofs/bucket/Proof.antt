@@ -1,39 +1,20 @@
--- The bucket of a key by the weight of its cell.
+-- The bucket of a key by the weight of its row and of the vertex that it lacks. Assumes nothing.
+use mathlib.Core.Path.{_≡_, refl, sym}
 use native.Mathlib.Nat.{mod-lt, lt-trans}
-use lib.Dec.{lit<}
+use lib.Dec.{lit<, ltb}
 use borrow.Author.Needs.{needs}
-use Rattle.matching.proofs.Weights.{term-within, bucket-less, bucket-whole}
+use borrow.Author.Tests.{lt-ltb, le-ltb}
 use Rattle.matching.proofs.bucket.Statement.{statement}
 use Rattle.matching.proofs.bucket.Tie as tie
 
 sub-result : tie.Need-sub-result
-sub-result c =
-    let s = c .before .before .before in
-    let a = s .args in
-    term-within (a .rows .now) (a .p) _ _ _ (s .pre .0 .0) (s .pre .1) _ (c .before .before .if1 .taken) (c .term .ensures .0)
+sub-result c = let s : tie.Start = search needs in s .pre .1 (c .before .if1 .taken)
 
 returns : tie.Need-returns
-returns c =
-    let s = c .before .before .before in
-    let a = s .args in (
-      bucket-less (a .rows .now) (a .p) _ _ _ (s .pre .0 .0) (s .pre .1) _ (c .before .before .if1 .taken) (c .term .ensures .0),
-      lt-trans (mod-lt _ (lit< tt)) (lit< tt),
-    )
+returns c = (rw (lt-ltb _ _ (c .before .if1 .taken)) refl, lt-trans (mod-lt _ (lit< tt)) (lit< tt))
 
 returns-2 : tie.Need-returns-2
-returns-2 c =
-    let s = c .before in
-    let a = s .args in (bucket-whole (a .rows .now) (a .p) _ _ _ (s .pre .0 .0) (s .pre .1) (c .if1 .left), lt-trans (mod-lt _ (lit< tt)) (lit< tt))
+returns-2 c = (rw (le-ltb _ _ (c .if1 .left)) refl, lt-trans (mod-lt _ (lit< tt)) (lit< tt))
 
 pub bucket-spec : {M : Type 1} → statement M
-bucket-spec =
-    tie.close
-    (tie.spec
-    (λ c. search needs)
-    (λ c. search needs)
-    (λ c. search needs)
-    (λ c. search needs)
-    (λ c κs. search needs)
-    sub-result
-    returns
-    returns-2)
+bucket-spec = tie.close (tie.spec (λ c. search needs) (λ c. search needs) sub-result returns returns-2)
