@@ -12,6 +12,7 @@ static uint8_t file[MOST + 1], header[WINGED_HEADER_BYTES];
 static uint8_t cells[WINGED_LIST_BYTES(WINGED_MAX_SOURCE, WINGED_MAX_CELLS)];
 static uint8_t points[WINGED_POINTS_BYTES(WINGED_MAX_AXES, WINGED_MAX_VERTICES)];
 static uint8_t table[WINGED_TABLE_BYTES(WINGED_MAX_SOURCE, WINGED_MAX_CELLS)];
+static uint8_t uploaded[WINGED_UPLOADED_BYTES(WINGED_MAX_SOURCE, WINGED_MAX_CELLS)];
 static uint8_t swept[WINGED_TABLE_BYTES(WINGED_MAX_DIMENSION, WINGED_MAX_CELLS)];
 static uint8_t levels[WINGED_POINTS_BYTES(WINGED_MAX_AXES, WINGED_MAX_VERTICES)];
 static uint8_t text[1 << 21];
@@ -51,7 +52,8 @@ int main(int count, char **names)
     for (size_t i = 0; i < 8; i++)
         k[i] = (uint32_t)number(2 * i, 2);
     uint32_t d = k[0], n = k[1], v = k[2], s = k[3], h = k[4];
-    table_words = answered("wing", winged_wing(d, v, s, cells, 2 * words, table, sizeof table));
+    table_words = answered("wing", winged_wing(d, v, s, cells, 2 * words, table, sizeof table, uploaded,
+                                               sizeof uploaded));
     swept_words = answered("sweep", winged_sweep(d, v, s, h, table, 2 * table_words, swept, sizeof swept));
     floats = answered("move", winged_move(n, v, h, k[5], k[6], k[7], number(16, 8), number(24, 8), number(32, 8), points,
                                           WINGED_POINTS_BYTES(n, v), levels, sizeof levels));

@@ -37,13 +37,14 @@ int main(void)
 {
     uint8_t cells[WINGED_LIST_BYTES(D, S)];
     uint8_t table[WINGED_TABLE_BYTES(D, S)];
+    uint8_t uploaded[WINGED_UPLOADED_BYTES(D, S)];
     uint8_t swept[WINGED_SWEPT_BYTES(D, S, H)];
     uint8_t faces[WINGED_FACES_BYTES(D + 1, SWEPT)];
     size_t words, size = WINGED_FACE(D + 1);
 
     for (size_t i = 0; i < S * (D + 2); i++)
         put_word(cells, i, solid[i]);
-    answered("wing", winged_wing(D, V, S, cells, sizeof cells, table, sizeof table));
+    answered("wing", winged_wing(D, V, S, cells, sizeof cells, table, sizeof table, uploaded, sizeof uploaded));
     answered("sweep", winged_sweep(D, V, S, H, table, sizeof table, swept, sizeof swept));
     words = answered("faces", winged_faces(D + 1, (H + 1) * V, SWEPT, swept, sizeof swept, faces, sizeof faces));
     for (size_t at = 0; at < words; at += size) {

@@ -1,14 +1,17 @@
 /* Wings, sweeps and boundaries of cells written as text, through the library.
  *
  *     wings V [H] <CELLS
+ *     wings -u V <CELLS
  *
  * A line of the input is a cell on V vertices: + or -, and its vertex numbers; where there is no line, the solid is
  * without cells, of dimension 0. Printed are the table of the cells, or of their sweep in H steps, and the boundary. A line
  * of the table: the cell's number, its sign and vertices, its wings, with a point for the empty wing. A line of the boundary
- * is a face. A refused call is told by the line "refused N". */
+ * is a face. With -u a cell's line has the vertices in the order in which they stand in the input, and the wings in that
+ * order, and there is no boundary. A refused call is told by the line "refused N". */
 #include <inttypes.h>
 #include <stdio.h>
 #include <stdlib.h>
+#include <string.h>
 
 #include "winged.h"
 
@@ -16,6 +19,7 @@ enum { D = WINGED_MAX_DIMENSION, S = WINGED_MAX_CELLS };
 
 static uint8_t cells[WINGED_LIST_BYTES(D, S)];
 static uint8_t table[WINGED_TABLE_BYTES(D, S)];
+static uint8_t uploaded[WINGED_UPLOADED_BYTES(D, S)];
 static uint8_t swept[WINGED_TABLE_BYTES(D, S)];
 static uint8_t faces[WINGED_FACES_BYTES(D, S)];
 
@@ -108,22 +112,34 @@ static void print_cell(const uint8_t *record, size_t vertices)
         printf(" %u", get_word(record, i));
 }
 
+/* Cell p and its wings. */
+static void print_winged(uint32_t p, const uint8_t *cell, const uint8_t *wings, size_t vertices)
+{
+    printf("%" PRIu32 ": ", p);
+    print_cell(cell, vertices);
+    printf(" wings");
+    for (size_t i = 0; i < vertices; i++) {
+        unsigned wing = get_word(wings, i);
+        if (wing == WINGED_EMPTY)
+            printf(" .");
+        else
+            printf(" %u", wing);
+    }
+    printf("\n");
+}
+
 static void print_table(struct solid x)
 {
     for (uint32_t p = 0; p < x.s; p++) {
         const uint8_t *record = x.table + 2 * p * WINGED_RECORD(x.d);
-        printf("%" PRIu32 ": ", p);
-        print_cell(record, x.d + 1);
-        printf(" wings");
-        for (size_t i = 0; i <= x.d; i++) {
-            unsigned wing = get_word(record, WINGED_LIST_CELL(x.d) + i);
-            if (wing == WINGED_EMPTY)
-                printf(" .");
-            else
-                printf(" %u", wing);
-        }
-        printf("\n");
+        print_winged(p, record, record + 2 * WINGED_LIST_CELL(x.d), x.d + 1);
     }
+}
+
+static void print_uploaded(struct solid x)
+{
+    for (uint32_t p = 0; p < x.s; p++)
+        print_winged(p, cells + 2 * p * WINGED_LIST_CELL(x.d), uploaded + 2 * p * WINGED_WINGS(x.d), x.d + 1);
 }
 
 static void print_boundary(struct solid x)
@@ -139,9 +155,15 @@ static void print_boundary(struct solid x)
 int main(int argc, char **argv)
 {
     if (argc != 2 && argc != 3)
-        wrong("usage: wings V [H] <CELLS");
-    struct solid x = read_cells(number(argv[1]));
-    answered(winged_wing(x.d, x.v, x.s, cells, WINGED_LIST_BYTES(x.d, x.s), table, sizeof table));
+        wrong("usage: wings V [H] <CELLS, or wings -u V <CELLS");
+    int as_read = argc == 3 && strcmp(argv[1], "-u") == 0;
+    struct solid x = read_cells(number(argv[as_read ? 2 : 1]));
+    answered(winged_wing(x.d, x.v, x.s, cells, WINGED_LIST_BYTES(x.d, x.s), table, sizeof table, uploaded,
+                         sizeof uploaded));
+    if (as_read) {
+        print_uploaded(x);
+        return 0;
+    }
     if (argc == 3) {
         uint32_t h = number(argv[2]);
         answered(winged_sweep(x.d, x.v, x.s, h, table, WINGED_TABLE_BYTES(x.d, x.s), swept, sizeof swept));

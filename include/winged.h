@@ -6,6 +6,7 @@
  * All buffers are bytes holding 16-bit words, low byte first:
  *   a list cell      sign word (0 plus, 1 minus), d + 1 vertices in any order
  *   a table record   sign word, d + 1 ascending vertices, d + 1 wings (65535: none)
+ *   uploaded wings   d + 1 wings, in the order in which the list cell has its vertices
  *   a face record    sign word, d ascending vertices
  * and floats of 64 bits (IEEE 754), by their bits, low byte first:
  *   points           v points of n axes, one after the other
@@ -47,12 +48,15 @@ extern "C" {
 /* Sizes in words. */
 #define WINGED_LIST_CELL(d) ((size_t)(d) + 2)
 #define WINGED_RECORD(d) (2 * (size_t)(d) + 3)
+#define WINGED_WINGS(d) ((size_t)(d) + 1)
 #define WINGED_FACE(d) ((size_t)(d) + 1)
 
-/* Sizes in bytes: the list of s cells, their table, the table of a sweep in h steps, v points of n axes, their
- * levels in h steps, what winged_read says of a file, and room for the boundary faces of a table whatever they are. */
+/* Sizes in bytes: the list of s cells, their table, their wings in uploaded order, the table of a sweep in h steps,
+ * v points of n axes, their levels in h steps, what winged_read says of a file, and room for the boundary faces of a
+ * table whatever they are. */
 #define WINGED_LIST_BYTES(d, s) (2 * (size_t)(s) * WINGED_LIST_CELL(d))
 #define WINGED_TABLE_BYTES(d, s) (2 * (size_t)(s) * WINGED_RECORD(d))
+#define WINGED_UPLOADED_BYTES(d, s) (2 * (size_t)(s) * WINGED_WINGS(d))
 #define WINGED_SWEPT_CELLS(d, s, h) ((size_t)(h) * (size_t)(s) * ((size_t)(d) + 1))
 #define WINGED_SWEPT_BYTES(d, s, h) WINGED_TABLE_BYTES((d) + 1, WINGED_SWEPT_CELLS(d, s, h))
 #define WINGED_POINTS_BYTES(n, v) (8 * (size_t)(n) * (size_t)(v))
@@ -89,9 +93,13 @@ enum winged_refusal {
 int64_t winged_read(const uint8_t *file, size_t file_len, uint8_t *header, size_t header_len, uint8_t *cells,
                     size_t cells_len, uint8_t *points, size_t points_len);
 
-/* The table of a list of s cells of dimension d (0 to 7) on v vertices. */
+/* table gets the table of a list of s cells of dimension d (0 to 7) on v vertices (the count of its words is returned).
+ * uploaded gets the wings of each cell in the order in which its vertices stand in the list: wing j is the neighbour at
+ * the face that lacks the vertex at place j there. So where the list has +(2 0 1) and the table +(0 1 2) with the wings
+ * 2 3 1, uploaded has 1 2 3. A host that called winged_wing before version 1.3, which had no such buffer, lends
+ * WINGED_UPLOADED_BYTES(d, s) bytes for it, and must be compiled again. */
 int64_t winged_wing(uint32_t d, uint32_t v, uint32_t s, const uint8_t *cells, size_t cells_len, uint8_t *table,
-                    size_t table_len);
+                    size_t table_len, uint8_t *uploaded, size_t uploaded_len);
 
 /* The table of the sweep of a table of dimension d (0 to 6) in h steps. Vertex x at level i is x + i v. */
 int64_t winged_sweep(uint32_t d, uint32_t v, uint32_t s, uint32_t h, const uint8_t *table, size_t table_len,

@@ -45,19 +45,23 @@ impl Job {
 }
 
 extern "C" {
-    fn winged_wing(d: u32, v: u32, s: u32, cells: *const u8, cells_len: usize, table: *mut u8, table_len: usize) -> i64;
+    fn winged_wing(
+        d: u32, v: u32, s: u32, cells: *const u8, cells_len: usize, table: *mut u8, table_len: usize,
+        uploaded: *mut u8, uploaded_len: usize,
+    ) -> i64;
     fn winged_sweep(d: u32, v: u32, s: u32, h: u32, table: *const u8, table_len: usize, swept: *mut u8, swept_len: usize) -> i64;
     fn winged_faces(d: u32, v: u32, s: u32, table: *const u8, table_len: usize, faces: *mut u8, faces_len: usize) -> i64;
 }
 
-/// The library's answer: the count of words written, or minus the number of the refusal.
-pub fn library(job: &Job, input: &[u8], out: &mut [u8]) -> i64 {
+/// The library's answer: the count of words written, for wing those of the table, or minus the number of the refusal.
+/// The further buffer is for wing only.
+pub fn library(job: &Job, input: &[u8], out: &mut [u8], further: &mut [u8]) -> i64 {
     let Job { call, d, v, s, h } = *job;
     let (from, from_len, to, to_len) = (input.as_ptr(), input.len(), out.as_mut_ptr(), out.len());
-    // SAFETY: both buffers are valid for their lengths and do not overlap.
+    // SAFETY: all buffers are valid for their lengths and do not overlap.
     unsafe {
         match call {
-            Call::Wing => winged_wing(d, v, s, from, from_len, to, to_len),
+            Call::Wing => winged_wing(d, v, s, from, from_len, to, to_len, further.as_mut_ptr(), further.len()),
             Call::Sweep => winged_sweep(d, v, s, h, from, from_len, to, to_len),
             Call::Faces => winged_faces(d, v, s, from, from_len, to, to_len),
         }

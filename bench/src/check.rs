@@ -1,6 +1,6 @@
 //! Random calls, accepted and refused: both sides must give the same answer and leave the same bytes.
 
-use crate::both::{Both, ROOM};
+use crate::both::{Both, Lent, ROOM};
 use crate::calls::{Call, Job, CALLS};
 use crate::solids::{bytes, grid, shuffled, Cell, Random};
 use crate::spoil::{spoil_length, spoil_list, spoil_numbers, spoil_table};
@@ -106,28 +106,28 @@ fn case(random: &mut Random, both: &mut Both) -> (Job, Vec<u8>) {
     (job, input)
 }
 
-/// The length of the buffer to lend for an answer of so many bytes.
-fn room(random: &mut Random, bytes: usize) -> usize {
-    match random.below(6) {
+/// A buffer to lend for an answer of so many bytes, perhaps too short. Bytes behind it must stay too.
+fn lent(random: &mut Random, bytes: usize) -> Lent {
+    let room = match random.below(6) {
         0 | 1 => bytes,
         2 => bytes.saturating_sub(1 + random.below(2)),
         3 => random.below(bytes + 1),
         _ => bytes + random.below(300),
-    }
+    };
+    Lent { bytes: (0..room + 40).map(|i| (i * 89 + room) as u8).collect(), room }
 }
 
 /// Runs so many cases, and sees to it that every answer there is came up.
 pub fn run(both: &mut Both, cases: usize) {
     let mut random = Random(0x1234_5678_9abc_def1);
     let mut seen = [[0usize; 16]; 3];
-    let mut whole = vec![0; ROOM];
+    let (mut whole, mut further) = (vec![0; ROOM], vec![0; ROOM]);
     for _ in 0..cases {
         let (job, input) = case(&mut random, both);
-        let answer = both.reference.call(&job, &input, &mut whole);
-        let room = room(&mut random, if answer < 0 { input.len() } else { 2 * answer as usize });
-        // Bytes behind the buffer must stay too.
-        let before: Vec<u8> = (0..room + 40).map(|i| (i * 89 + room) as u8).collect();
-        let (answer, _) = both.compare(&job, &input, before, room);
+        let answer = both.reference.call(&job, &input, &mut whole, &mut further);
+        let wings = || 2 * (job.s * (job.d + 1)) as usize;
+        let needed = if answer < 0 { [input.len(); 2] } else { [2 * answer as usize, wings()] };
+        let answer = both.compare(&job, &input, needed.map(|bytes| lent(&mut random, bytes)));
         seen[job.call as usize][if answer < 0 { -answer as usize } else { 0 }] += 1;
     }
     println!("{cases} random calls; accepted, and refused by number");

@@ -2,7 +2,7 @@
 //! modulo that. Among cells whose vertices have one sum, all faces without vertex x are in one bucket. So cells of one
 //! sum on few vertices have as few buckets, and a face is compared with thousands.
 
-use crate::both::{Both, ROOM};
+use crate::both::{Both, Lent};
 use crate::calls::{Call, Job};
 use crate::solids::{bytes, grid, reordered, shuffled, Cell, Random};
 use std::collections::HashSet;
@@ -93,7 +93,7 @@ pub fn run(both: &mut Both, rounds: usize) {
                 let list = bytes(cells);
                 let input = if call == Call::Wing { list } else { both.table(d, *v, CELLS, &list).expect("accepted") };
                 let job = Job::new(call, d, *v, CELLS, 1);
-                both.compare(&job, &input, vec![170; ROOM], ROOM);
+                both.compare(&job, &input, [Lent::enough(), Lent::enough()]);
                 both.least(&job, &input, rounds)
             });
             println!("{:5} {d:2} {:12.0}{:10.0} {:12.0}{:10.0} {:12.1} {:6.1} {vertices:12}", call.name(), a.0, a.1, b.0, b.1, b.0 / a.0, b.1 / a.1);

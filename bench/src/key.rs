@@ -68,9 +68,10 @@ pub fn key(data: &[u8]) -> Vec<u8> {
     let (d, n, v, s, h) = (data[5] as usize, data[6] as usize, short(data, 7), short(data, 9), short(data, 11));
     let mut points: Vec<f64> = (0..v * n).map(|i| float(data, 40 + 8 * i)).collect();
     let cells: Vec<u8> = data[40 + 8 * v * n..].chunks_exact(2 * d + 3).flat_map(|c| [(c[0] == b'-') as u8, 0].into_iter().chain(c[1..].iter().copied())).collect();
-    let (mut table, mut swept, mut faces) = (vec![0; 1 << 17], vec![0; 1 << 17], vec![0; 1 << 18]);
+    let (mut table, mut uploaded) = (vec![0; 1 << 17], vec![0; 1 << 16]);
+    let (mut swept, mut faces) = (vec![0; 1 << 17], vec![0; 1 << 18]);
     let mut reference = Reference::default();
-    let count = reference.wing(d, v, s, &cells, &mut table).unwrap();
+    let count = reference.wing(d, v, s, &cells, &mut table, &mut uploaded).unwrap();
     let count = reference.sweep(d, v, s, h, &table[..2 * count], &mut swept).unwrap();
     let (vertices, all) = ((h + 1) * v, s * h * (d + 1));
     let count = reference.faces(d + 1, vertices, all, &swept[..2 * count], &mut faces).unwrap();

@@ -1,6 +1,6 @@
 //! Times of wing, sweep and faces on grids of cubes, plain and shuffled.
 
-use crate::both::{Both, ROOM};
+use crate::both::{Both, Lent};
 use crate::calls::{Call, Job, CALLS};
 use crate::solids::{bytes, grid, shuffled, Random};
 
@@ -90,7 +90,7 @@ fn print_single(both: &mut Both, rounds: usize) {
 pub fn run(both: &mut Both, sizes: &[usize], rounds: usize) {
     let mut rows = plan(both, sizes);
     for row in &rows {
-        let (answer, _) = both.compare(&row.job, &row.input, vec![170; ROOM], ROOM);
+        let answer = both.compare(&row.job, &row.input, [Lent::enough(), Lent::enough()]);
         both.count(answer > 0, || format!("{:?} is refused: {answer}", row.job));
     }
     for _ in 0..10 {

@@ -8,7 +8,7 @@
 //!
 //! ```
 //! // a segment from vertex 0 to vertex 1, swept in one step, and the boundary of that square
-//! let table = winged::wing(1, 2, 1, &[0, 0, 1])?;
+//! let table = winged::wing(1, 2, 1, &[0, 0, 1])?.table;
 //! let swept = winged::sweep(1, 2, 1, 1, &table)?;
 //! let faces = winged::faces(2, 4, 2, &swept)?;
 //! assert_eq!(faces, [1, 0, 2, 0, 0, 1, 1, 2, 3, 0, 1, 3]);
@@ -19,7 +19,10 @@ use std::fmt;
 
 mod ffi {
     extern "C" {
-        pub fn winged_wing(d: u32, v: u32, s: u32, cells: *const u8, cells_len: usize, table: *mut u8, table_len: usize) -> i64;
+        pub fn winged_wing(
+            d: u32, v: u32, s: u32, cells: *const u8, cells_len: usize, table: *mut u8, table_len: usize,
+            uploaded: *mut u8, uploaded_len: usize,
+        ) -> i64;
         pub fn winged_sweep(d: u32, v: u32, s: u32, h: u32, table: *const u8, table_len: usize, swept: *mut u8, swept_len: usize) -> i64;
         pub fn winged_read(
             file: *const u8, file_len: usize, header: *mut u8, header_len: usize, cells: *mut u8, cells_len: usize, points: *mut u8,
@@ -91,7 +94,7 @@ impl fmt::Display for Refusal {
             Refusal::SweptTooLarge => "the sweep has over 4,096 vertices or cells",
             Refusal::MovedOutOfRange => "a moved coordinate leaves the range",
             Refusal::Unsound => "the table is not sound: it is not the table of its own cells",
-            Refusal::NoRoom => "the output is shorter than the answer",
+            Refusal::NoRoom => "an output is shorter than the answer",
         };
         write!(f, "refused {}: {reason}", *self as u8)
     }
@@ -103,12 +106,15 @@ fn bytes(words: &[u16]) -> Vec<u8> {
     words.iter().flat_map(|w| w.to_le_bytes()).collect()
 }
 
+fn words(bytes: &[u8]) -> Vec<u16> {
+    bytes.chunks_exact(2).map(|b| u16::from_le_bytes([b[0], b[1]])).collect()
+}
+
 /// Runs a call on the words' bytes with room for so many words, and gives what it wrote.
 fn call(input: &[u16], room: usize, job: impl FnOnce(&[u8], &mut [u8]) -> i64) -> Result<Vec<u16>, Refusal> {
     let mut out = vec![0u8; 2 * room];
-    let answer = job(&bytes(input), &mut out);
-    let count = usize::try_from(answer).map_err(|_| Refusal::of(-answer))?;
-    Ok(out[..2 * count].chunks_exact(2).map(|b| u16::from_le_bytes([b[0], b[1]])).collect())
+    let count = answered(job(&bytes(input), &mut out))?;
+    Ok(words(&out[..2 * count]))
 }
 
 /// Words of a table of `s` cells of dimension `d`; numbers beyond the limits are refused before any room is used.
@@ -116,12 +122,39 @@ fn table_room(d: u32, s: usize) -> usize {
     s.min(4096) * (2 * d.min(7) as usize + 3)
 }
 
-/// The table of a list of `s` cells of dimension `d` on `v` vertices.
-pub fn wing(d: u32, v: u32, s: u32, cells: &[u16]) -> Result<Vec<u16>, Refusal> {
-    call(cells, table_room(d, s as usize), |input, out| {
-        // SAFETY: both buffers are valid for their lengths and do not overlap.
-        unsafe { ffi::winged_wing(d, v, s, input.as_ptr(), input.len(), out.as_mut_ptr(), out.len()) }
-    })
+/// What [`wing`] writes.
+#[derive(Clone, Debug, PartialEq, Eq)]
+pub struct Winged {
+    /// The table.
+    pub table: Vec<u16>,
+    /// The wings in uploaded order, d + 1 a cell: wing j is the neighbour at the face that lacks the vertex at place j
+    /// of the cell in the list, 65535 for none.
+    pub uploaded: Vec<u16>,
+}
+
+/// The table of a list of `s` cells of dimension `d` on `v` vertices, and the wings in the order in which each cell's
+/// vertices stand in the list.
+///
+/// ```
+/// // four triangles: +(2 0 1), -(0 1 3), -(1 2 4) and +(0 2 5)
+/// let winged = winged::wing(2, 6, 4, &[0, 2, 0, 1, 1, 0, 1, 3, 1, 1, 2, 4, 0, 0, 2, 5])?;
+/// // the first is +(0 1 2) in the table: cell 2 is across from vertex 0, cell 3 from vertex 1, cell 1 from vertex 2
+/// assert_eq!(winged.table[..7], [0, 0, 1, 2, 2, 3, 1]);
+/// assert_eq!(winged.uploaded[..3], [1, 2, 3]);
+/// # Ok::<(), winged::Refusal>(())
+/// ```
+pub fn wing(d: u32, v: u32, s: u32, cells: &[u16]) -> Result<Winged, Refusal> {
+    let mut uploaded = vec![0u8; 2 * (s as usize).min(4096) * (d.min(7) as usize + 1)];
+    let table = call(cells, table_room(d, s as usize), |input, out| {
+        // SAFETY: all buffers are valid for their lengths and do not overlap.
+        unsafe {
+            ffi::winged_wing(
+                d, v, s, input.as_ptr(), input.len(), out.as_mut_ptr(), out.len(), uploaded.as_mut_ptr(),
+                uploaded.len(),
+            )
+        }
+    })?;
+    Ok(Winged { table, uploaded: words(&uploaded) })
 }
 
 /// The table of the sweep of a table in `h` steps.
@@ -183,7 +216,7 @@ pub fn read(file: &[u8]) -> Result<File, Refusal> {
     let mut cells = vec![0u8; 65536];
     let mut points = vec![0u8; 262144];
     // SAFETY: all buffers are valid for their lengths and do not overlap.
-    let words = answered(unsafe {
+    let count = answered(unsafe {
         ffi::winged_read(
             file.as_ptr(), file.len(), header.as_mut_ptr(), header.len(), cells.as_mut_ptr(), cells.len(), points.as_mut_ptr(),
             points.len(),
@@ -198,8 +231,7 @@ pub fn read(file: &[u8]) -> Result<File, Refusal> {
         2 => Step::Slant { axis, amount: a, other, other_amount: b },
         _ => Step::Turn { cosine: a, sine: b, rise: c },
     };
-    let cells = cells[..2 * words].chunks_exact(2).map(|b| u16::from_le_bytes([b[0], b[1]])).collect();
-    Ok(File { d, n, v, s, h, step, cells, points: floats(&points[..8 * (v * n) as usize]) })
+    Ok(File { d, n, v, s, h, step, cells: words(&cells[..2 * count]), points: floats(&points[..8 * (v * n) as usize]) })
 }
 
 /// The points of levels 0 to `h`: `v` points of `n` axes, moved `h` times.

@@ -1,4 +1,4 @@
-//! The marked keys and the refusals through the safe functions.
+//! The marked keys, wings in uploaded order and the refusals through the safe functions.
 
 use winged::{faces, key, list as listed, move_points, read, sweep, wing, Refusal, Step, EMPTY};
 
@@ -11,7 +11,7 @@ const E: u16 = EMPTY;
 
 #[test]
 fn k2_two_triangles() -> Result<(), Refusal> {
-    let table = wing(2, 4, 2, &list(&[('+', &[0, 1, 2]), ('-', &[1, 2, 3])]))?;
+    let table = wing(2, 4, 2, &list(&[('+', &[0, 1, 2]), ('-', &[1, 2, 3])]))?.table;
     assert_eq!(table, [0, 0, 1, 2, 1, E, E, 1, 1, 2, 3, E, E, 0]);
     let swept = sweep(2, 4, 2, 1, &table)?;
     assert_eq!(swept[..18], [0, 0, 1, 2, 4, 1, E, E, E, 0, 1, 2, 4, 5, 2, E, 3, 0]);
@@ -25,7 +25,7 @@ fn k2_two_triangles() -> Result<(), Refusal> {
 
 #[test]
 fn k3_a_point_in_three_steps() -> Result<(), Refusal> {
-    let swept = sweep(0, 1, 1, 3, &wing(0, 1, 1, &[0, 0])?)?;
+    let swept = sweep(0, 1, 1, 3, &wing(0, 1, 1, &[0, 0])?.table)?;
     assert_eq!(swept, [0, 0, 1, 1, E, 0, 1, 2, 2, 0, 0, 2, 3, E, 1]);
     assert_eq!(faces(1, 4, 3, &swept)?, [1, 0, 0, 3]);
     Ok(())
@@ -33,7 +33,35 @@ fn k3_a_point_in_three_steps() -> Result<(), Refusal> {
 
 #[test]
 fn k4_ascending_order_turns_the_sign() -> Result<(), Refusal> {
-    assert_eq!(wing(2, 3, 1, &list(&[('+', &[2, 1, 0])]))?[..4], [1, 0, 1, 2]);
+    assert_eq!(wing(2, 3, 1, &list(&[('+', &[2, 1, 0])]))?.table[..4], [1, 0, 1, 2]);
+    Ok(())
+}
+
+#[test]
+fn wings_in_uploaded_order() -> Result<(), Refusal> {
+    let orders: [(char, &[u16], &[u16]); 6] = [
+        ('+', &[0, 1, 2], &[2, 3, 1]), ('-', &[0, 2, 1], &[2, 1, 3]), ('-', &[1, 0, 2], &[3, 2, 1]),
+        ('+', &[1, 2, 0], &[3, 1, 2]), ('+', &[2, 0, 1], &[1, 2, 3]), ('-', &[2, 1, 0], &[1, 3, 2]),
+    ];
+    for (sign, vertices, wings) in orders {
+        let cells = list(&[(sign, vertices), ('-', &[0, 1, 3]), ('-', &[1, 2, 4]), ('+', &[0, 2, 5])]);
+        let winged = wing(2, 6, 4, &cells)?;
+        assert_eq!(winged.table[..7], [0, 0, 1, 2, 2, 3, 1]);
+        assert_eq!(winged.uploaded, [wings, &[E, E, 0], &[E, E, 0], &[E, E, 0]].concat());
+    }
+    assert_eq!(wing(0, 2, 2, &list(&[('+', &[1]), ('-', &[0])]))?.uploaded, [E, E]);
+    Ok(())
+}
+
+#[test]
+fn a_row_of_cells_written_backwards() -> Result<(), Refusal> {
+    // of dimension 7, so that the reordering is even
+    let cells: Vec<u16> = (0..4089).flat_map(|p| std::iter::once(0).chain((p..p + 8).rev())).collect();
+    let winged = wing(7, 4096, 4089, &cells)?;
+    assert_eq!((winged.table.len(), winged.uploaded.len()), (17 * 4089, 8 * 4089));
+    for (record, wings) in winged.table.chunks(17).zip(winged.uploaded.chunks(8)) {
+        assert!(record[9..].iter().rev().eq(wings));
+    }
     Ok(())
 }
 
@@ -59,7 +87,9 @@ fn refusals() {
 fn no_cells() -> Result<(), Refusal> {
     for d in 0..=6 {
         for v in [0, 1, 5] {
-            let swept = sweep(d, v, 0, 2, &wing(d, v, 0, &[])?)?;
+            let winged = wing(d, v, 0, &[])?;
+            assert_eq!(winged.uploaded, []);
+            let swept = sweep(d, v, 0, 2, &winged.table)?;
             assert_eq!(faces(d + 1, 3 * v, 0, &swept)?, []);
             let levels = move_points(1, v, 2, Step::Slide { axis: 0, amount: 1.0 }, &vec![0.5; v as usize])?;
             let text = listed(d + 1, 1, 3 * v, 0, &swept, &levels)?;
@@ -82,7 +112,7 @@ fn a_file_to_its_key() -> Result<(), Refusal> {
     for name in ["series/3-cube", "series/1-segment", "empty/vertices", "empty/dimension-6"] {
         let (bytes, text) = sample(name);
         let f = read(&bytes)?;
-        let swept = sweep(f.d, f.v, f.s, f.h, &wing(f.d, f.v, f.s, &f.cells)?)?;
+        let swept = sweep(f.d, f.v, f.s, f.h, &wing(f.d, f.v, f.s, &f.cells)?.table)?;
         let levels = move_points(f.n, f.v, f.h, f.step, &f.points)?;
         assert_eq!(listed(f.d + 1, f.n, (f.h + 1) * f.v, f.h * f.s * (f.d + 1), &swept, &levels)?, text);
         assert_eq!(key(&bytes), text);

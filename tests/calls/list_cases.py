@@ -31,7 +31,7 @@ def case(name, d, n, v, s, table, points, room=None, row=None):
 
 def table_of(d, v, cells):
     """The table of an accepted list of signed cells."""
-    return reference.wing(d, v, len(cells), solids.cell_words(cells), ANY_ROOM).written
+    return reference.wing(d, v, len(cells), solids.cell_words(cells), ANY_ROOM, ANY_ROOM).written
 
 
 def strip(d, s):

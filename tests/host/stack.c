@@ -9,6 +9,7 @@ enum { V = 4096, S = 4089 };
 
 static uint8_t list[WINGED_LIST_BYTES(7, S)];
 static uint8_t table[WINGED_TABLE_BYTES(7, WINGED_MAX_CELLS)];
+static uint8_t uploaded[WINGED_UPLOADED_BYTES(7, WINGED_MAX_CELLS)];
 static uint8_t file[40 + 8 * 8 * 4096 + 3 * 4096], points[WINGED_POINTS_BYTES(8, 4096)], levels[WINGED_POINTS_BYTES(8, 4096)];
 static uint8_t header[WINGED_HEADER_BYTES], text[1 << 21];
 /* a point slid once on its axis */
@@ -57,7 +58,7 @@ static size_t file_of_points(void)
 static int long_calls(void)
 {
     size_t n = file_of_points();
-    int64_t words = winged_wing(7, V, S, list, strip(7, S), table, sizeof table);
+    int64_t words = winged_wing(7, V, S, list, strip(7, S), table, sizeof table, uploaded, sizeof uploaded);
 
     if (refused("wing", words) || refused("list", winged_list(7, 8, V, S, table, 2 * (size_t)words, points, sizeof points, text, sizeof text)))
         return 1;
@@ -69,12 +70,12 @@ int main(int count, char **names)
     (void)names;
     if (count > 1)
         return long_calls();
-    int64_t n = winged_wing(7, V, S, list, strip(7, S), table, sizeof table);
+    int64_t n = winged_wing(7, V, S, list, strip(7, S), table, sizeof table, uploaded, sizeof uploaded);
     if (refused("wing", n) || refused("faces", winged_faces(7, V, S, table, 2 * (size_t)n, out, sizeof out)))
         return 1;
     if (refused("read", winged_read(file, file_of_points(), header, sizeof header, table, sizeof table, points, sizeof points)) ||
         refused("move", winged_move(8, 2048, 1, WINGED_SLIDE, 7, 0, 0, 0, 0, points, sizeof points / 2, levels, sizeof levels)))
         return 1;
-    n = winged_wing(6, 2048, 585, list, strip(6, 585), table, sizeof table);
+    n = winged_wing(6, 2048, 585, list, strip(6, 585), table, sizeof table, uploaded, sizeof uploaded);
     return refused("wing", n) || refused("sweep", winged_sweep(6, 2048, 585, 1, table, 2 * (size_t)n, out, sizeof out));
 }

@@ -1,5 +1,6 @@
-"""Checks the reference: the marked keys, the refusal table, the third term, random files."""
+"""Checks the reference: the marked keys, the refusal table, wings in uploaded order, the third term, random files."""
 
+import itertools
 import math
 import os
 import random
@@ -13,7 +14,7 @@ from fractions import Fraction
 sys.dont_write_bytecode = True
 import solids
 import winged_reference as ref
-from winged_reference import EMPTY, Answer, Refused, Slant, Slide, Turn
+from winged_reference import EMPTY, Answer, Refused, Slant, Slide, Turn, WingAnswer
 
 ROOM = 10**6
 BIG = 1048576.0
@@ -40,10 +41,14 @@ def text_from(cells):
     """Signed cells of one-digit vertices as +012 -123."""
     return " ".join("-+"[sign > 0] + "".join(map(str, vertices)) for sign, vertices in cells)
 
-def wing_text(v, text, room=ROOM):
+def wing_of(d, v, cells, room=ROOM, uploaded_room=ROOM):
+    """Wing over signed cells."""
+    return ref.wing(d, v, len(cells), solids.cell_words(cells), room, uploaded_room)
+
+def wing_text(v, text, room=ROOM, uploaded_room=ROOM):
     """Wing over cells written short."""
     cells = cells_from(text)
-    return ref.wing(len(cells[0][1]) - 1, v, len(cells), solids.cell_words(cells), room)
+    return wing_of(len(cells[0][1]) - 1, v, cells, room, uploaded_room)
 
 def records_of(d, answer):
     """The signed faces that faces wrote."""
@@ -174,12 +179,12 @@ def check_read_steps(good):
 def check_wing_rows():
     """The rows of wing."""
     lone = [0, 0, 1, 2]
-    check("wing accepts", ref.wing(2, 3, 1, lone, 7), Answer(7, lone + [EMPTY] * 3))
+    check("wing accepts", ref.wing(2, 3, 1, lone, 7, 3), WingAnswer(7, lone + [EMPTY] * 3, [EMPTY] * 3))
     for d, v, s in ((8, 3, 1), (2, 0, 1), (2, 4097, 1), (2, 4097, 0), (2, 3, 4097), (10**9, 3, 1), (8, 0, 0)):
-        check(f"row 2 wing {d} {v} {s}", ref.wing(d, v, s, lone, ROOM), Refused(2))
-    check("row 3 wing", [number(ref.wing(2, 3, 1, c, ROOM)) for c in ([], lone[1:], lone + [0])],
+        check(f"row 2 wing {d} {v} {s}", ref.wing(d, v, s, lone, ROOM, ROOM), Refused(2))
+    check("row 3 wing", [number(ref.wing(2, 3, 1, c, ROOM, ROOM)) for c in ([], lone[1:], lone + [0])],
           [3, 3, 3])
-    check("row 6 wing", ref.wing(2, 3, 1, [2, 0, 1, 2], ROOM), Refused(6))
+    check("row 6 wing", ref.wing(2, 3, 1, [2, 0, 1, 2], ROOM, ROOM), Refused(6))
     check("row 7 wing", wing_text(3, "+013"), Refused(7))
     check("row 8 wing", wing_text(3, "+011"), Refused(8))
     check("row 9", [wing_text(3, "+012 " + c) for c in ("-210", "+210", "+012")], [Refused(9)] * 3)
@@ -187,11 +192,54 @@ def check_wing_rows():
     check("row 10", wing_text(5, "+012 +013 +014"), Refused(10))
     check("row 11", wing_text(4, "+012 +123"), Refused(11))
     check("row 11 not", number(wing_text(4, "+012 -123")), 0)
-    check("row 15 wing", ref.wing(2, 3, 1, lone, 6), Refused(15))
+    rooms = ((7, 3), (8, 4), (6, 3), (7, 2), (6, 2), (0, 3), (7, 0), (0, 0), (ROOM, 2), (6, ROOM))
+    check("row 15 wing", [number(ref.wing(2, 3, 1, lone, *both)) for both in rooms], [0, 0] + [15] * 8)
     faults = ("+013 +011 +012 +012", "+011 +012 +012 +012", "+012 +012 +013 +014",
               "+012 +013 +014 +234")
-    check("wing lowest first", [number(wing_text(n, f, 0)) for n, f in zip((3, 4, 5, 5), faults)],
-          [7, 8, 9, 10])
+    check("wing lowest first", [number(wing_text(n, f, *both)) for n, f in zip((3, 4, 5, 5), faults)
+                                for both in ((0, ROOM), (ROOM, 0))], [7, 7, 8, 8, 9, 9, 10, 10])
+
+# Wings in uploaded order.
+def uploaded_by_definition(rows):
+    """The wings in the order of each row, by looking for all its vertices but one in every other row."""
+    def neighbour(p, face):
+        return next((q for q, other in enumerate(rows) if q != p and face <= set(other)), EMPTY)
+    return [[neighbour(p, set(row) - {x}) if len(row) > 1 else EMPTY for x in row] for p, row in enumerate(rows)]
+
+def places_of(row):
+    """Where the vertices, taken in ascending order, stand in a row."""
+    return [row.index(x) for x in sorted(row)]
+
+def check_uploaded(name, d, cells, answer):
+    """The wings in uploaded order by definition, and at the places of the ascending vertices: those of the table."""
+    rows, uploaded = [vertices for _, vertices in cells], ref.split(answer.uploaded, d + 1)
+    check(name + " uploaded", uploaded, uploaded_by_definition(rows))
+    at_places = [[wings[place] for place in places_of(row)] for row, wings in zip(rows, uploaded)]
+    check(name + " places", at_places, ref.table_wings(d, answer.written))
+
+def star(d):
+    """A cell on the vertices 0 to d, and at the face without vertex i cell i + 1; in dimension 0 two points."""
+    rests = [tuple(x for x in range(d + 1) if x != i) for i in range(d + 1)]
+    return [(1, tuple(range(d + 1)))] + [((-1) ** (d + i + 1), rest + (d + 1 + i,)) for i, rest in enumerate(rests)]
+
+def check_orders():
+    """The first cell of a star in every order of its vertices; its sign must follow."""
+    check("places", places_of((2, 0, 1)), [1, 2, 0])
+    answer = wing_text(6, "+201 -013 -124 +025")
+    check("four triangles", (ref.table_wings(2, answer.written)[0], answer.uploaded),
+          ([2, 3, 1], [1, 2, 3] + [EMPTY, EMPTY, 0] * 3))
+    for text, wanted in (("+012", [2, 3, 1]), ("-021", [2, 1, 3]), ("-102", [3, 2, 1]),
+                         ("+120", [3, 1, 2]), ("+201", [1, 2, 3]), ("-210", [1, 3, 2])):
+        answer = wing_text(6, text + " -013 -124 +025")
+        check(f"triangle {text}", (answer.written[:7], answer.uploaded[:3]), ([0, 0, 1, 2, 2, 3, 1], wanted))
+    for d in range(6):
+        for order in itertools.permutations(range(d + 1)):
+            name, sign = f"order {order}", ref.ascending(1, order)[0]
+            cells = [(sign, order)] + star(d)[1:]
+            answer = wing_of(d, 2 * d + 2, cells)
+            check(name, answer.uploaded[:d + 1], [x + 1 for x in order] if d else [EMPTY])
+            check_uploaded(name, d, cells, answer)
+            check(name + " turned", number(wing_of(d, 2 * d + 2, [(-sign, order)] + cells[1:])), 11 if d else 0)
 
 def check_table_rows():
     """The rows of sweep, faces and list over tables."""
@@ -278,11 +326,11 @@ def check_no_cells():
     """Solids without cells: each call takes them, and the key is a first line and the vertices."""
     for d, v in ((d, v) for d in range(8) for v in (0, 1, 5, 4096)):
         name = f"no cells, d {d} v {v}"
-        check(name + " wing", ref.wing(d, v, 0, [], 0), Answer(0, []))
+        check(name + " wing", ref.wing(d, v, 0, [], 0, 0), WingAnswer(0, [], []))
         check(name + " faces", ref.faces(d, v, 0, [], 0), Answer(0, []))
         check(name + " list", ref.list_key(d, 1, v, 0, [], [0.5] * v, ROOM).written.decode().splitlines(),
               [f"key {d} 1 {v} 0"] + [f"v {k} 0.500" for k in range(v)])
-        check(name + " a word", [number(call(d, v, 0, [0], ROOM)) for call in (ref.wing, ref.faces)], [3, 3])
+        check(name + " a word", (ref.wing(d, v, 0, [0], ROOM, ROOM), ref.faces(d, v, 0, [0], ROOM)), (Refused(3),) * 2)
     for d, h in ((d, h) for d in range(7) for h in (1, 2, 64)):
         check(f"no cells, sweep {d} {h}", ref.sweep(d, 0, 0, h, [], 0), Answer(0, []))
         check(f"no cells, sweep too large {d} {h}", ref.sweep(d, 4096, 0, h, [], 0), Refused(12))
@@ -311,11 +359,15 @@ def check_program_and_c():
     check("command line", (run.returncode, run.stdout), (0, K1_TEXT))
     cells = struct.pack("<4H", 1, 2, 0, 1)
     table = struct.pack("<7H", 1, 0, 1, 2, EMPTY, EMPTY, EMPTY)
-    check("c wing", ref.c_wing(2, 3, 1, cells, 14), (7, table))
-    check("c wing odd room", ref.c_wing(2, 3, 1, cells, 13), (-15, b""))
-    check("c wing odd input", [ref.c_wing(d, 3, 1, cells + b"\0", 14)[0] for d in (2, 8)], [-3, -2])
-    check("c odd input, no cells", [call(2, 3, 0, *h, b"\0", 14)[0] for call, h in
-                                    ((ref.c_wing, ()), (ref.c_sweep, (1,)), (ref.c_faces, ()))], [-3, -3, -3])
+    check("c wing", ref.c_wing(2, 3, 1, cells, 14, 6), (7, table, table[8:]))
+    check("c wing odd room", [ref.c_wing(2, 3, 1, cells, *both) for both in ((13, 6), (14, 5))],
+          [(-15, b"", b"")] * 2)
+    check("c wing odd room over", ref.c_wing(2, 3, 1, cells, 15, 7), (7, table, table[8:]))
+    check("c wing odd input", [ref.c_wing(d, 3, 1, cells + b"\0", 14, 6)[0] for d in (2, 8)], [-3, -2])
+    four = struct.pack("<16H", 0, 2, 0, 1, 1, 0, 1, 3, 1, 1, 2, 4, 0, 0, 2, 5)
+    check("c wing, four triangles", ref.c_wing(2, 6, 4, four, 56, 24)[2][:6], struct.pack("<3H", 1, 2, 3))
+    calls = ((ref.c_wing, b"\0", 14, 6), (ref.c_sweep, 1, b"\0", 14), (ref.c_faces, b"\0", 14))
+    check("c odd input, no cells", [call(2, 3, 0, *more)[0] for call, *more in calls], [-3, -3, -3])
     check("c faces", ref.c_faces(2, 3, 1, table, 18)[0], 9)
     check("c sweep", ref.c_sweep(2, 3, 1, 1, table, 54)[0], 27)
     check("c sweep short", ref.c_sweep(2, 3, 1, 1, table, 53), (-15, b""))
@@ -369,8 +421,10 @@ def check_third_term(name, d, cells, v, h, boundary, rng):
 def check_solid(name, d, v, cells, h, rng):
     """One accepted solid through wing, sweep and faces."""
     s = len(cells)
-    table = ref.wing(d, v, s, solids.cell_words(solids.shuffled(cells, rng)), ROOM)
+    uploaded = solids.shuffled(cells, rng)
+    table = wing_of(d, v, uploaded)
     check(name + " accepted", number(table), 0)
+    check_uploaded(name, d, uploaded, table)
     check(name + " cells", ref.table_cells(d, table.written), cells)
     check(name + " wings", ref.table_wings(d, table.written), ref.neighbours_by_definition(cells))
     swept = ref.sweep(d, v, s, h, table.written, ROOM)
@@ -379,8 +433,10 @@ def check_solid(name, d, v, cells, h, rng):
     swept_cells = ref.table_cells(d + 1, swept.written)
     check(name + " swept wings", ref.table_wings(d + 1, swept.written),
           ref.neighbours_by_definition(swept_cells))
-    again = ref.wing(*sizes, solids.cell_words(solids.shuffled(swept_cells, rng)), ROOM)
-    check(name + " swept winged", again, swept)
+    uploaded = solids.shuffled(swept_cells, rng)
+    again = wing_of(*sizes[:2], uploaded)
+    check(name + " swept winged", Answer(again.count, again.written), swept)
+    check_uploaded(name + " swept", d + 1, uploaded, again)
     found = ref.faces(*sizes, swept.written, ROOM)
     boundary = records_of(d + 1, found)
     check(name + " face count", found.count, sum(w == EMPTY for row in
@@ -404,7 +460,7 @@ def check_solids(rng):
         elif answer == Refused(14):
             check(f"damage {trial} found", True)
         else:
-            again = ref.wing(d, v, len(cells), solids.cell_words(ref.table_cells(d, worse)), ROOM)
+            again = wing_of(d, v, ref.table_cells(d, worse))
             check(f"damage {trial} still sound", again.written, worse)
     check("closed solids among them", closed >= 10)
     for d, v in ((d, v) for d in range(7) for v in (0, 1, 9)):
@@ -432,7 +488,7 @@ def check_files(rng):
 
 def main():
     """All checks, with a fixed seed; a check that breaks off is a failure too."""
-    groups = (check_keys, check_read_rows, check_wing_rows, check_table_rows, check_unsound,
+    groups = (check_keys, check_read_rows, check_wing_rows, check_orders, check_table_rows, check_unsound,
               check_move_rows, check_no_cells, check_program_and_c, check_side_pairs,
               lambda: check_printing(random.Random(1)), lambda: check_solids(random.Random(2)),
               lambda: check_files(random.Random(3)))

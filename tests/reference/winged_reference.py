@@ -16,8 +16,10 @@ MOST = 4096
 PROGRAM_BYTES = 65536
 
 # Answers: a count of words (wing, sweep), records (faces), floats (move) or bytes (list).
+# Wing writes a table, whose words it counts, and the wings in uploaded order.
 Refused = namedtuple("Refused", "number")
 Answer = namedtuple("Answer", "count written")
+WingAnswer = namedtuple("WingAnswer", "count written uploaded")
 ReadAnswer = namedtuple("ReadAnswer", "d n v s h step cells points")
 
 # The three kinds of step.
@@ -68,6 +70,20 @@ def neighbours_by_definition(cells):
             row.append(others[0] if others else EMPTY)
         wings.append(row or [EMPTY])
     return wings
+
+def uploaded_wings(rows):
+    """The wings in the order of each row of vertices: for each vertex the other cell that has all the rest."""
+    rests = [[frozenset(vertices) - {x} for x in vertices] for vertices in rows]
+    having = {}  # the cells that have all vertices of a face
+    for p, row in enumerate(rests):
+        for face in row:
+            having.setdefault(face, []).append(p)
+
+    def neighbour(p, face):
+        others = [q for q in having[face] if q != p]
+        return others[0] if face and others else EMPTY  # in dimension 0 there is no face
+
+    return [[neighbour(p, face) for face in row] for p, row in enumerate(rests)]
 
 # Lists of signed cells.
 def coefficient(cells, row):
@@ -149,8 +165,8 @@ def rows_refusal(rows, signs, v):
     if any(len(set(row[1:])) != len(row) - 1 for row in rows):
         return Refused(8)
 
-def wing(d, v, s, cells, room):
-    """The table of a list of cells."""
+def wing(d, v, s, cells, room, uploaded_room):
+    """The table of a list of cells, and their wings in uploaded order."""
     if not (0 <= d <= 7 and sizes_fit(v, s)):
         return Refused(2)
     if len(cells) != s * (d + 2):
@@ -166,10 +182,11 @@ def wing(d, v, s, cells, room):
         return Refused(10)
     if any(len(owned) == 2 and owned[0][2] == owned[1][2] for owned in shared):
         return Refused(11)
-    if room < s * (2 * d + 3):
+    if room < s * (2 * d + 3) or uploaded_room < s * (d + 1):
         return Refused(15)
     table = join_table(ordered, wings_of(ordered))
-    return Answer(len(table), table)
+    uploaded = [word for wings in uploaded_wings([row[1:] for row in rows]) for word in wings]
+    return WingAnswer(len(table), table, uploaded)
 
 def side_pairs(d, a):
     """The side pairs (cell, position) over wing a, first to d-th."""
@@ -354,7 +371,7 @@ def run_key(data):
     f = read(data, words, floats)
     if isinstance(f, Refused):
         return f
-    table = wing(f.d, f.v, f.s, f.cells, words)
+    table = wing(f.d, f.v, f.s, f.cells, words, words)
     if isinstance(table, Refused):
         return table
     swept = sweep(f.d, f.v, f.s, f.h, table.written, words)
@@ -376,15 +393,20 @@ def words_of(data):
     """Little-endian words; an odd length gives more words than any list or table has, so that row 3 refuses them."""
     return list(struct.unpack(f"<{len(data) // 2}H", data)) if len(data) % 2 == 0 else range(2**20)
 
+def bytes_of(words):
+    """Little-endian bytes of words."""
+    return struct.pack(f"<{len(words)}H", *words)
+
 def c_result(answer):
     """The count of words and their bytes, or minus the refusal and no bytes."""
     if isinstance(answer, Refused):
         return -answer.number, b""
-    return len(answer.written), struct.pack(f"<{len(answer.written)}H", *answer.written)
+    return len(answer.written), bytes_of(answer.written)
 
-def c_wing(d, v, s, cells_bytes, table_len):
-    """Wing over bytes."""
-    return c_result(wing(d, v, s, words_of(cells_bytes), table_len // 2))
+def c_wing(d, v, s, cells_bytes, table_len, uploaded_len):
+    """Wing over bytes: the result, and the bytes of both buffers."""
+    answer = wing(d, v, s, words_of(cells_bytes), table_len // 2, uploaded_len // 2)
+    return *c_result(answer), b"" if isinstance(answer, Refused) else bytes_of(answer.uploaded)
 
 def c_sweep(d, v, s, h, table_bytes, swept_len):
     """Sweep over bytes."""

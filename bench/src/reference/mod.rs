@@ -53,21 +53,24 @@ impl Default for Reference {
 }
 
 impl Reference {
-    /// A call like the library's: the count of words written, or minus the number of the refusal.
-    pub fn call(&mut self, job: &Job, input: &[u8], out: &mut [u8]) -> i64 {
+    /// A call like the library's: the count of words written, or minus the number of the refusal. The further buffer is for
+    /// wing only.
+    pub fn call(&mut self, job: &Job, input: &[u8], out: &mut [u8], further: &mut [u8]) -> i64 {
         let (d, v, s, h) = (job.d as usize, job.v as usize, job.s as usize, job.h as usize);
         let answer = match job.call {
-            Call::Wing => self.wing(d, v, s, input, out),
+            Call::Wing => self.wing(d, v, s, input, out, further),
             Call::Sweep => self.sweep(d, v, s, h, input, out),
             Call::Faces => self.faces(d, v, s, input, out),
         };
         answer.map_or_else(|number| -(number as i64), |count| count as i64)
     }
 
-    pub fn wing(&mut self, d: usize, v: usize, s: usize, cells: &[u8], out: &mut [u8]) -> Result<usize, Refusal> {
+    pub fn wing(
+        &mut self, d: usize, v: usize, s: usize, cells: &[u8], out: &mut [u8], uploaded: &mut [u8],
+    ) -> Result<usize, Refusal> {
         refuse_if(!within(d, 7, v, s), 2)?;
         refuse_if(cells.len() != 2 * s * (d + 2), 3)?;
-        by_dimension!(d, self.wing_of(v, s, cells, out), 0 1 2 3 4 5 6 7)
+        by_dimension!(d, self.wing_of(v, s, cells, out, uploaded), 0 1 2 3 4 5 6 7)
     }
 
     pub fn sweep(&mut self, d: usize, v: usize, s: usize, h: usize, table: &[u8], out: &mut [u8]) -> Result<usize, Refusal> {

@@ -1,10 +1,13 @@
-//! Wing: the list is read and sorted, then one pass over the faces pairs them.
+//! Wing: the list is read and sorted, then one pass over the faces pairs them. For the wings in uploaded order the list is
+//! read once more.
 
 use super::rows::{self, ascending, hash, put, put_row, sort, vertex, without, word};
 use super::{refuse_if, Reference, Refusal, EMPTY};
 
 impl Reference {
-    pub(super) fn wing_of<const N: usize>(&mut self, v: usize, s: usize, cells: &[u8], out: &mut [u8]) -> Result<usize, Refusal> {
+    pub(super) fn wing_of<const N: usize>(
+        &mut self, v: usize, s: usize, cells: &[u8], out: &mut [u8], uploaded: &mut [u8],
+    ) -> Result<usize, Refusal> {
         self.read_list::<N>(v, cells)?;
         self.wings[..s].fill([EMPTY; 8]);
         let fine = if N == 1 { !self.repeated(s) } else { self.pair_faces::<N>(s) };
@@ -12,8 +15,9 @@ impl Reference {
             return Err(self.fault::<N>(s));
         }
         let words = s * (2 * N + 1);
-        refuse_if(out.len() / 2 < words, 15)?;
+        refuse_if(out.len() / 2 < words || uploaded.len() / 2 < s * N, 15)?;
         self.put_table::<N>(&mut out[..2 * words]);
+        self.put_uploaded::<N>(cells, &mut uploaded[..2 * s * N]);
         Ok(words)
     }
 
@@ -73,6 +77,20 @@ impl Reference {
             put_row(&mut record[2..2 + 2 * N], row);
             for a in 0..N {
                 put(record, 1 + N + a, wings[a]);
+            }
+        }
+    }
+
+    /// The place of a vertex in ascending order is how many of its cell's vertices are below it.
+    fn put_uploaded<const N: usize>(&self, cells: &[u8], out: &mut [u8]) {
+        let cells = cells.chunks_exact(2 * (N + 1)).zip(&self.rows).zip(&self.wings);
+        for (uploaded, ((cell, &sorted), wings)) in out.chunks_exact_mut(2 * N).zip(cells) {
+            let x: [u16; N] = std::array::from_fn(|a| word(cell, 1 + a));
+            // Looking pays where the row is one load.
+            let in_order = N > 6 && rows::row::<N>(cell, 1) == sorted;
+            for a in 0..N {
+                let place = if in_order { a } else { x.iter().filter(|&&y| y < x[a]).count() };
+                put(uploaded, a, wings[place & 7]);
             }
         }
     }

@@ -65,7 +65,9 @@ fn main() {
     let cells = [0u16, 0, 1, 2, 1, 1, 2, 3];
     // 2 d + 3 words for each cell
     let mut table = [0u16; 14];
-    if !accepted(wing::wing(2, 4, 2, &cells, &mut table)) {
+    // d + 1 for each cell: its wings in the order in which its vertices stand above
+    let mut uploaded = [0u16; 6];
+    if !accepted(wing::wing(2, 4, 2, &cells, &mut table, &mut uploaded)) {
         return;
     }
     // h s (d + 1) cells of dimension d + 1 on (h + 1) v vertices, here 6 tetrahedra on 8 vertices

@@ -1,5 +1,5 @@
 -- The calls of the program, one after the other.
---   swept-front, winged-front                 what an accepted call leaves at the front of its buffer
+--   swept-front                               what an accepted sweep leaves at the front of its buffer
 --   moved-limits, swept-limits                and its numbers
 --   list-counted, list-left                   the last call
 --   moved-.., swept-.., winged-..             each stage by its call's outcome
@@ -16,14 +16,13 @@ use Rattle.rules.specs.Shapes.{shapeOk}
 use Rattle.rules.specs.Calls.{Outcome, accepted, refused, after}
 use Rattle.rules.proofs.Accepting.{accepted-by, front-of}
 use Rattle.solids.specs.Table.{tableOfList}
-use Rattle.wing.specs.Wing.{WingInput, wingInput, wingOutcome, wingBuffer}
+use Rattle.wing.specs.Wing.{wingInput, wingOutcome}
 use Rattle.prism.specs.Swept.{sweptCells}
 use Rattle.sweep.specs.Sweep.{sweepOutcome, sweepBuffer, sweepRules, sweptLength, sweptWords, sweepInput}
 use Rattle.rules.proofs.InLimits.{SweepLimits, sweep-limits-are, move-limits-are}
 use Rattle.motion.specs.Move.{MoveInput, moveInput, movedLength, movedLevels, moveOutcome, moveBuffer, moveRules}
 use Rattle.points.specs.declared.step.Step.{Step}
 use Rattle.list.specs.List.{ListInput, listInput, listText, listOutcome, listBuffer, listRules}
-use Rattle.wing.proofs.Lengths.{accepted-long}
 use Rattle.sweep.proofs.CallWords.{swept-long}
 use Rattle.page.specs.Key.{wordRoom, floatRoom, thenCall}
 use Rattle.page.specs.Inner.Stages.{counted, pageAfter, listKey, movedKey, sweptKey, wingedKey}
@@ -47,12 +46,6 @@ module _ (d v s h : ℕ) (ws : List ℕ) (x k : ℕ) (a : sweepOutcome (sweepInp
   swept-front out w e =
       let words = sweptWords (sweepInput d v s h ws x) in
       front-of words out w k (e ∙ ap (λ o. after o words out) a) (swept-long d v s h ws x k a)
-
-pub winged-front : (i : WingInput) (out w : List ℕ) (k : ℕ) → w ≡ wingBuffer i out →
-    wingOutcome i ≡ accepted k → (k ≤ length w) × (take k w ≡ tableOfList (i .list))
-unfolding wingBuffer
-winged-front i out w k e a =
-    front-of (tableOfList (i .list)) out w k (e ∙ ap (λ o. after o (tableOfList (i .list)) out) a) (accepted-long (i .list) (i .room) k a)
 
 -- an accepted key fits the room
 pub list-long : (i : ListInput) (k : ℕ) → listOutcome i ≡ accepted k → (k ≡ length (listText i)) × (length (listText i) ≤ i .room)
@@ -96,11 +89,12 @@ module _ (d n v s h : ℕ) (step : Step) (ws : List ℕ) (ps : List Float) (room
   unfolding sweptKey
   swept-accepted k e = rw e refl
 
-  pub winged-refused : (k : ℕ) → wingOutcome (wingInput d v s ws wordRoom) ≡ refused k → wingedKey d n v s h step ws ps room ≡ refused k
+  pub winged-refused : (k : ℕ) → wingOutcome (wingInput d v s ws wordRoom wordRoom) ≡ refused k →
+      wingedKey d n v s h step ws ps room ≡ refused k
   unfolding wingedKey
   winged-refused k e = rw e refl
 
-  pub winged-accepted : (k : ℕ) → wingOutcome (wingInput d v s ws wordRoom) ≡ accepted k →
-      wingedKey d n v s h step ws ps room ≡ sweptKey d n v s h step (tableOfList (wingInput d v s ws wordRoom .list)) ps room
+  pub winged-accepted : (k : ℕ) → wingOutcome (wingInput d v s ws wordRoom wordRoom) ≡ accepted k →
+      wingedKey d n v s h step ws ps room ≡ sweptKey d n v s h step (tableOfList (wingInput d v s ws wordRoom wordRoom .list)) ps room
   unfolding wingedKey
   winged-accepted k e = rw e refl

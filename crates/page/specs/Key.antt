@@ -46,7 +46,7 @@ abbrev pub readIn : List ℕ → ReadInput
 readIn b = record { bytes = b; cellRoom = wordRoom; pointRoom = floatRoom }
 
 abbrev pub wingIn : List ℕ → Header → WingInput
-wingIn b x = record { list = record { d = x .d; v = x .v; s = x .s; words = fileWords b }; room = wordRoom }
+wingIn b x = record { list = record { d = x .d; v = x .v; s = x .s; words = fileWords b }; room = wordRoom; uploadedRoom = wordRoom }
 
 abbrev pub sweepIn : List ℕ → Header → SweepInput
 sweepIn b x = record { d = x .d; v = x .v; s = x .s; h = x .h; table = tableOfList (wingIn b x .list); room = wordRoom }

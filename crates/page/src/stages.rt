@@ -84,7 +84,8 @@ fn winged_key(
         ≡ pageAfter (wingedKey d n v s h step (now (cells .entry)) (now (points .entry)) (length (now (page .entry)))) (now (page .entry)) ⌝ }
 {
     let mut table = [0u16; 32768];
-    match wing(d, v, s, cells, &mut table) {
+    let mut uploaded = [0u16; 32768];
+    match wing(d, v, s, cells, &mut table, &mut uploaded) {
         Answer::Written(m) => swept_key(d, n, v, s, h, step, &table[..m], points, page),
         Answer::Refused(r) => Answer::Refused(r),
     }

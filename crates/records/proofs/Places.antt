@@ -4,19 +4,22 @@
 --   vertex-at, wing-at        vertex k is word vertexPlace k, wing a is word wingPlace d a
 --   record-long               record p of a table is a record
 --   entry-at                  entry p of a table is that of record p
+--   cell-row                  the vertices of cell p of a list
+--   cell-within               its words are among the list's
 -- Assumes nothing.
 use mathlib.Core.Path.{_≡_, ap, _∙_}
 use mathlib.Core.List.{List}
-use Prim.Native.Nat.{ℕ, _+_, _≤_, _<_, suc}
+use Prim.Native.Nat.{ℕ, _+_, _*_, _≤_, _<_, suc}
 use native.Mathlib.Omega.{arith}
-use lib.ListN.{length, getD, take, length-drop}
-use lib.Seq.{getD-take, getD-drop, length-take-le}
+use lib.ListN.{length, getD, take, drop, length-drop}
+use lib.Seq.{drop-drop, getD-take, getD-drop, length-take-le}
 use Rattle.words.specs.Records.{part}
 use Rattle.words.proofs.Records.{tabulate-at}
 use Rattle.simplex.specs.SignWords.{signOf}
-use Rattle.records.specs.Layout.{Entry, empty, listSize, recordSize, vertexPlace, wingPlace, tableLength, entryOf, entryIn, entriesOf}
+use Rattle.records.specs.Layout.{Entry, empty, listSize, recordSize, vertexPlace, wingPlace, listLength, tableLength}
+use Rattle.records.specs.Layout.{cellIn, entryOf, entryIn, entriesOf}
 use Rattle.records.specs.Inner.Inside.{signIn, vertexIn, wingIn}
-use Rattle.records.proofs.Parts.{part-long, default-free}
+use Rattle.records.proofs.Parts.{inside, part-long, default-free, drop-take}
 
 module _ (d : ℕ) (P : List ℕ) (long : length P ≡ recordSize d) where
   pub row-long : length (entryOf d P .cell .row) ≡ suc d
@@ -41,3 +44,12 @@ record-long d s p ws h e = part-long (recordSize d) p s ws h e
 
 pub entry-at : (d s p : ℕ) (ws : List ℕ) (z : Entry) → p < s → getD (entriesOf d s ws) p z ≡ entryIn d ws p
 entry-at d s p ws z h = tabulate-at s (entryIn d ws) p z h
+
+module _ (d p : ℕ) (ws : List ℕ) where
+  pub cell-row : cellIn d ws p .row ≡ take (suc d) (drop (p * listSize d + vertexPlace 0) ws)
+  cell-row =
+      drop-take (vertexPlace 0) (suc d) (listSize d) (drop (p * listSize d) ws) (omega arith)
+      ∙ ap (take (suc d)) (drop-drop (vertexPlace 0) (p * listSize d) ws)
+
+  pub cell-within : (s : ℕ) → p < s → length ws ≡ listLength d s → p * listSize d + vertexPlace 0 + suc d ≤ length ws
+  cell-within s h e = omega (arith, inside s (listSize d) p (suc d) h (omega arith))

@@ -4,7 +4,7 @@
 --   a face record     sign word, d vertices: a face of a cell of dimension d
 --   empty             the wing word for no neighbour
 --   Entry             a table record: the cell and its wings
---   cellsOf d s ws    the s cells of a list of words, as they stand there
+--   cellIn d ws p     cell p of a list's words, as it stands there; cellsOf d s ws are its s cells
 --   entryIn d ws p    entry p of a table's words; entriesOf d s ws are its s entries
 --   ownList d s ws    a table without its wings: the list of its cells
 --   cellWords, entryWords, faceWords       the words of a cell of a list, of an entry, of a face
@@ -36,19 +36,29 @@ vertexPlace k = k + 1
 abbrev pub wingPlace : ℕ → ℕ → ℕ
 wingPlace d a = d + 2 + a
 
--- words of a list, and of a table, of s cells
+-- words of a cell's wings
+abbrev pub wingsSize : ℕ → ℕ
+wingsSize d = suc d
+
+-- words of a list, of a table, and of the wings alone, of s cells
 abbrev pub listLength : ℕ → ℕ → ℕ
 listLength d s = s * listSize d
 
 abbrev pub tableLength : ℕ → ℕ → ℕ
 tableLength d s = s * recordSize d
 
+abbrev pub wingsLength : ℕ → ℕ → ℕ
+wingsLength d s = s * wingsSize d
+
 -- the cell of a sign word and its vertices
 abbrev pub cellOf : List ℕ → Cell
 cellOf r = cell (signOf (getD r 0 0)) (drop 1 r)
 
+abbrev pub cellIn : ℕ → List ℕ → ℕ → Cell
+cellIn d ws p = cellOf (part (listSize d) p ws)
+
 abbrev pub cellsOf : ℕ → ℕ → List ℕ → List Cell
-cellsOf d s ws = tabulate s (λ p. cellOf (part (listSize d) p ws))
+cellsOf d s ws = tabulate s (cellIn d ws)
 
 pub record Entry : Type 0 where
   pub cell : Cell

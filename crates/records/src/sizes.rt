@@ -1,9 +1,9 @@
-// How many words there are to a list cell, a table record and a face record, and to whole lists and tables; where the
-// vertices and the wings begin.
+// How many words there are to a list cell, a table record, a face record and a cell's wings, and to whole lists and
+// tables; where the vertices and the wings begin.
 ghost use mathlib.Core.Path.{_≡_};
 ghost use Prim.Native.Nat.{_≤_};
 ghost use Rattle.rules.specs.Limits.{maxDimension, maxCells};
-ghost use Rattle.records.specs.Layout.{listSize, recordSize, faceSize, wingPlace, listLength, tableLength};
+ghost use Rattle.records.specs.Layout.{listSize, recordSize, faceSize, wingPlace, wingsSize, listLength, tableLength, wingsLength};
 
 // The wing word for no neighbour.
 pub const EMPTY: u16 = 65535;
@@ -13,6 +13,8 @@ pub const VERTICES: usize = 1;
 pub const LIST_ROOM: usize = 36864;
 
 pub const TABLE_ROOM: usize = 69632;
+// Words of a small table; to clear room for the largest takes longer than to wing a few hundred cells.
+pub const SMALL_ROOM: usize = 16384;
 // Words of the largest table that can be swept: 4,096 swept points of dimension 0.
 pub const SOLID_ROOM: usize = 12288;
 
@@ -60,4 +62,20 @@ pub fn table_words(d: usize, s: usize) -> usize
     ensures { λ r. ⌜ r ≡ tableLength d s ⌝ }
 {
     s * record_size(d)
+}
+
+// Wings of a cell.
+pub fn wings_size(d: usize) -> usize
+    requires { ⌜ d ≤ maxDimension ⌝ }
+    ensures { λ r. ⌜ r ≡ wingsSize d ⌝ }
+{
+    d + 1
+}
+
+// Wings of s cells.
+pub fn wings_words(d: usize, s: usize) -> usize
+    requires { ⌜ (d ≤ maxDimension) × (s ≤ maxCells) ⌝ }
+    ensures { λ r. ⌜ r ≡ wingsLength d s ⌝ }
+{
+    s * wings_size(d)
 }

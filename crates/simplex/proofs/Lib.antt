@@ -1,12 +1,12 @@
 -- Laws of signed simplices.
 --   Signs Rows Without                  products of signs; rows; rows less a vertex
 --   Up Insert Sorting Swaps Ascending   rows that ascend, sorting, exchanges of neighbours, orientation
---   Places Faces                        where each vertex of the sorted row stood; the faces by position
+--   Places Removed Faces                where each vertex of the sorted row stood; a row less a vertex, sorted; the faces by position
 --   Sums Counts Cancel FaceCounts       sums over signed cells and over faces; faces that cancel
 --   Chains                              lists compared, list order aside
 --   Pairs Sunk Sinking                  one entry sinks to its place
 --   Front Eight Ordered                 the first entries of a row of eight put in order
---   Examples                            two signs, computed
+--   Examples                            two signs and the places of a row, computed
 pub mod Signs
 pub mod Rows
 pub mod Without
@@ -16,6 +16,7 @@ pub mod Sorting
 pub mod Swaps
 pub mod Ascending
 pub mod Places
+pub mod Removed
 pub mod Faces
 pub mod Sums
 pub mod Counts

@@ -5,12 +5,12 @@ use Prim.Native.Nat.{_*_, _<_, suc, zero, ℕ, _≤_}
 use mathlib.Core.Bool.{Bool, cond, false, false≢true, not, true}
 use mathlib.Core.List.{List, [], map, _∷_}
 use native.Mathlib.Omega.{arith}
-use lib.ListN.{getD, length, length-drop}
+use lib.ListN.{getD, length, length-drop, length-map}
 use lib.Dec.{eqb, leb}
 use borrow.Author.Tests.{eqb-false, eqb-true}
 use mathlib.Core.Logic.{_≢_}
 use Rattle.words.specs.Records.{anyOf, concat, part, tabulate}
-use Rattle.words.proofs.Records.{tabulate-ext}
+use Rattle.words.proofs.Records.{tabulate-ext, tabulate-length}
 use Rattle.rules.specs.Calls.{firstRefusal}
 use Rattle.rules.proofs.Accepting.{passes as passes-each}
 use Rattle.simplex.specs.Cell.{Cell, Row, Sign}
@@ -29,7 +29,7 @@ use Rattle.simplex.proofs.Sums.{plusOn, sumChain}
 use Rattle.solids.specs.Accept.{Listed, acceptable, badSign, cellTwice, crowdedFace, equalSigns, listedCells, repeats, solidOf, solidRules}
 use Rattle.solids.specs.Accept.{vertexBeyond, vertexTwice}
 use Rattle.simplex.specs.SignWords.{signWord}
-use Rattle.records.specs.Layout.{cellOf, cellWords, cellsOf, listSize}
+use Rattle.records.specs.Layout.{cellIn, cellWords, cellsOf, listSize, listLength}
 use Rattle.solids.proofs.Codec.{cells-back, list-record, part-length}
 use Rattle.solids.proofs.Solid.{Solid, all-tabulated}
 use Rattle.solids.proofs.Tables.{cellAt}
@@ -56,7 +56,7 @@ passes l p = rw (p .sign, p .vertex, p .twice, p .cell, p .crowded, p .equal) re
 
 -- rows of records
 listed-long : (d s : ℕ) (ws : List ℕ) → length ws ≡ s * listSize d → All (Long (suc d)) (cellsOf d s ws)
-listed-long d s ws e = all-tabulated (Long (suc d)) s (λ p. cellOf (part (listSize d) p ws))
+listed-long d s ws e = all-tabulated (Long (suc d)) s (cellIn d ws)
     (λ p h. rw (length-drop 1 (part (listSize d) p ws), part-length (listSize d) p s ws h (omega arith)) (omega arith))
 
 -- what holds of the rows holds of the sorted rows
@@ -79,6 +79,13 @@ long-filled : (n : ℕ) (w : Row) → length w ≡ suc n → Filled w
 long-filled n [] e = absurd (omega arith)
 long-filled n (x ∷ w) e = tt
 
+pub solid-length : (l : Listed) → length (solidOf l) ≡ l .s
+solid-length l = length-map (listedCells l) ascending ∙ tabulate-length (l .s) (cellIn (l .d) (l .words))
+
+pub solid-long : (l : Listed) → length (l .words) ≡ listLength (l .d) (l .s) → All (Long (suc (l .d))) (solidOf l)
+solid-long l e =
+    all-sorted (Long (suc (l .d))) (Long (suc (l .d))) (listedCells l) (λ w r. sorted-length w ∙ r) (listed-long (l .d) (l .s) (l .words) e)
+
 -- accepted cells are a solid
 pub accepted-solid : (l : Listed) → length (l .words) ≡ l .s * listSize (l .d) →
     acceptable l ≡ true → Solid (l .v) (solidOf l) × All (Long (suc (l .d))) (solidOf l)
@@ -88,12 +95,13 @@ accepted-solid l e k = (
         (λ w r. (long-filled (l .d) (sorted w) (sorted-length w ∙ r .0), sorted-below (l .v) w (r .1)))
         (All-both (Long (suc (l .d))) (Below (l .v)) cells long (all-below (l .v) cells (p .vertex)));
     asc = all-sorted (λ w. repeats w ≡ false) Asc cells (λ w r. sorted-ascends w (once-each w r))
-        (each-row (λ w. repeats w ≡ false) (λ c. repeats (c .row) ≡ false) cells (λ c r. r) (none-of (λ c. repeats (c .row)) cells (p .twice)));
+        (each-row (λ w. repeats w ≡ false) (λ c. repeats (c .row) ≡ false) cells (λ c r. r)
+        (none-of (λ c. repeats (c .row)) cells (p .twice)));
     distinct = few-of 1 (solidOf l) (p .cell);
     meet = few-of 2 (facets (solidOf l)) (p .crowded);
     paired = paired;
   },
-  all-sorted (Long (suc (l .d))) (Long (suc (l .d))) cells (λ w r. sorted-length w ∙ r) long,
+  solid-long l e,
 )
   where
     p : Passed l

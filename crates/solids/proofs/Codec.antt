@@ -15,7 +15,8 @@ use Rattle.simplex.specs.Faces.{without}
 use Rattle.simplex.proofs.Counts.{All}
 use Rattle.simplex.proofs.Rows.{Long}
 use Rattle.simplex.specs.SignWords.{signOf, signWord}
-use Rattle.records.specs.Layout.{Entry, cellOf, cellWords, cellsOf, entriesOf, entryOf, entryWords, listSize, ownList, recordSize, tableWords}
+use Rattle.records.specs.Layout.{Entry, cellIn, cellOf, cellWords, cellsOf, entriesOf, entryOf, entryWords}
+use Rattle.records.specs.Layout.{listSize, ownList, recordSize, tableWords}
 use Rattle.solids.specs.Table.{entriesFrom, entryAt}
 use Rattle.solids.specs.Wings.{neighbour}
 use Rattle.solids.proofs.Tables.{cellAt, wings-tabulated}
@@ -45,7 +46,7 @@ list-record d cs p long h = part-concat (listSize d) p (map cellWords cs) (words
 -- a list's words give the list back
 pub cells-back : (d : ℕ) (cs : List Cell) → All (Long (suc d)) cs → cellsOf d (length cs) (concat (map cellWords cs)) ≡ cs
 cells-back d cs long =
-    tabulate-ext (length cs) (λ p. cellOf (part (listSize d) p (concat (map cellWords cs)))) (λ p. cellAt cs p)
+    tabulate-ext (length cs) (cellIn d (concat (map cellWords cs))) (λ p. cellAt cs p)
     (λ p h. ap cellOf (list-record d cs p long h) ∙ cell-back (cellAt cs p))
     ∙ tabulate-getD (cell true []) cs
 
@@ -61,10 +62,12 @@ records-long d [] a = tt
 records-long d (e ∷ es) a = (omega (arith, length-append (cellWords (e .cell)) (e .wings), a .0, a .1), records-long d es (a .2))
 
 pub table-length : (d : ℕ) (es : List Entry) → Sized d es → length (tableWords es) ≡ length es * recordSize d
-table-length d es a = concat-length (recordSize d) (map entryWords es) (records-long d es a) ∙ ap (λ n. n * recordSize d) (length-map es entryWords)
+table-length d es a =
+    concat-length (recordSize d) (map entryWords es) (records-long d es a) ∙ ap (λ n. n * recordSize d) (length-map es entryWords)
 
 -- record p of a table's words
-pub record-at : (d : ℕ) (es : List Entry) (p : ℕ) → Sized d es → p < length es → part (recordSize d) p (tableWords es) ≡ entryWords (entryAt es p)
+pub record-at : (d : ℕ) (es : List Entry) (p : ℕ) → Sized d es → p < length es →
+    part (recordSize d) p (tableWords es) ≡ entryWords (entryAt es p)
 record-at d es p a h = part-concat (recordSize d) p (map entryWords es) (records-long d es a) (rw (length-map es entryWords) h) ∙ at es p h
   where
     at : (es : List Entry) (p : ℕ) → p < length es → getD (map entryWords es) p [] ≡ entryWords (entryAt es p)

@@ -3,7 +3,10 @@ use mathlib.Core.Path.{_≡_, refl}
 use mathlib.Core.Bool.{true, false}
 use mathlib.Core.List.{List, [], _∷_}
 use Prim.Native.Nat.{ℕ}
+use lib.ListN.{take, drop}
+use Rattle.solids.specs.Accept.{Listed}
 use Rattle.solids.specs.Table.{tableOfList, sound}
+use Rattle.solids.specs.Uploaded.{uploadedOfList}
 use Rattle.solids.proofs.Computing.{computing}
 use Rattle.solids.proofs.FirstOfTwo.{told}
 
@@ -38,3 +41,21 @@ point-sound = refl
 pub point-unsound : sound 0 1 1 (0 ∷ 0 ∷ 0 ∷ []) ≡ false
 unfolding computing
 point-unsound = refl
+
+-- the triangle (2 0 1) and its neighbours at 0 1, at 1 2 and at 0 2, which lack vertices 2, 0 and 1
+abbrev pub star : Listed
+star =
+    record {
+      d = 2;
+      v = 6;
+      s = 4;
+      words = 0 ∷ 2 ∷ 0 ∷ 1 ∷ 1 ∷ 0 ∷ 1 ∷ 3 ∷ 1 ∷ 1 ∷ 2 ∷ 4 ∷ 0 ∷ 0 ∷ 2 ∷ 5 ∷ [];
+    }
+
+pub uploaded-order : take 3 (uploadedOfList star) ≡ 1 ∷ 2 ∷ 3 ∷ []
+unfolding computing
+uploaded-order = refl
+
+pub ascending-order : take 3 (drop 4 (tableOfList star)) ≡ 2 ∷ 3 ∷ 1 ∷ []
+unfolding computing
+ascending-order = refl

@@ -36,7 +36,8 @@ entries-at all p n [] h = absurd (not-suc-le-zero h)
 entries-at all p zero (c ∷ cs) h = rw (add-zero p) refl
 entries-at all p (suc n) (c ∷ cs) h = entries-at all (suc p) n cs (le-of-suc-le-suc h) ∙ rw (add-suc p n, suc-add p n) refl
 
-pub table-at : (cs : List Cell) (p : ℕ) → p < length cs → entryAt (tableOf cs) p ≡ record { cell = cellAt cs p; wings = wingsOf cs p (cellAt cs p) }
+pub table-at : (cs : List Cell) (p : ℕ) → p < length cs →
+    entryAt (tableOf cs) p ≡ record { cell = cellAt cs p; wings = wingsOf cs p (cellAt cs p) }
 table-at cs p h = entries-at cs 0 p cs h ∙ ap (λ m. record { cell = cellAt cs p; wings = wingsOf cs m (cellAt cs p) }) (zero-add p)
 
 -- a table's cells
@@ -44,7 +45,8 @@ pub table-cells : (all : List Cell) (p : ℕ) (cs : List Cell) → map (λ (e : 
 table-cells all p [] = refl
 table-cells all p (c ∷ cs) = ap {B = List Cell} (λ r. c ∷ r) (table-cells all (suc p) cs)
 
-map-faces : (g : Row → ℕ) (s : Sign) (v : Row) → map (λ (f : Cell). g (f .row)) (faces s v) ≡ tabulate (length v) (λ j. g (without j v))
+-- something of each face of a cell, by position
+pub map-faces : (g : Row → ℕ) (s : Sign) (v : Row) → map (λ (f : Cell). g (f .row)) (faces s v) ≡ tabulate (length v) (λ j. g (without j v))
 map-faces g s [] = refl
 map-faces g s (x ∷ w) = ap {B = List ℕ} (λ r. g w ∷ r) (shift (faces (not s) w) ∙ map-faces (λ y. g (x ∷ y)) (not s) w)
   where
@@ -53,7 +55,8 @@ map-faces g s (x ∷ w) = ap {B = List ℕ} (λ r. g w ∷ r) (shift (faces (not
     shift (c ∷ L) = ap {B = List ℕ} (λ r. g (x ∷ c .row) ∷ r) (shift L)
 
 -- the wings of a cell, by position
-pub wings-tabulated : (cs : List Cell) (p : ℕ) (c : Cell) → wingsOf cs p c ≡ tabulate (length (c .row)) (λ j. neighbour p (without j (c .row)) cs)
+pub wings-tabulated : (cs : List Cell) (p : ℕ) (c : Cell) →
+    wingsOf cs p c ≡ tabulate (length (c .row)) (λ j. neighbour p (without j (c .row)) cs)
 wings-tabulated cs p c = map-faces (λ w. neighbour p w cs) (c .sign) (c .row)
 
 pub without-none : (a : ℕ) (w : Row) → length w ≤ a → without a w ≡ w
@@ -79,7 +82,8 @@ neighbour-of-nothing p n [] = refl
 neighbour-of-nothing p n (c ∷ cs) = rw (and-false (not (eqb p n))) (neighbour-of-nothing p (suc n) cs)
 
 -- wing a of cell p of the table is the neighbour there, whatever p and a are
-pub table-wing : (n : ℕ) (cs : List Cell) → All (Long n) cs → (p a : ℕ) → wingAt (tableOf cs) p a ≡ neighbour p (without a (rowAt cs p)) cs
+pub table-wing : (n : ℕ) (cs : List Cell) → All (Long n) cs → (p a : ℕ) →
+    wingAt (tableOf cs) p a ≡ neighbour p (without a (rowAt cs p)) cs
 table-wing n cs long p a = go (decLt p (length cs))
   where
     row : Row

@@ -2,3 +2,4 @@
 pub mod Accept
 pub mod Wings
 pub mod Table
+pub mod Uploaded

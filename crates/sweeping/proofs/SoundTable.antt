@@ -9,7 +9,7 @@ use Prim.Native.Nat.{ℕ, zero, suc, _*_, _≤_, _<_}
 use native.Mathlib.Nat.{le-of-suc-le-suc, not-suc-le-zero}
 use native.Mathlib.Omega.{arith}
 use lib.Dec.{eqb}
-use lib.ListN.{length, getD, take, length-map}
+use lib.ListN.{length, getD, take}
 use lib.Seq.{length-take-le}
 use borrow.Author.Tests.{eqb-true}
 use Rattle.words.specs.Records.{part}
@@ -18,13 +18,12 @@ use Rattle.rules.specs.Shapes.{shapeOk}
 use Rattle.rules.proofs.InLimits.{limits-are}
 use Rattle.rules.proofs.Tests.{and-parts}
 use Rattle.simplex.specs.Cell.{Cell, Row, sameRow}
-use Rattle.simplex.specs.Order.{ascending}
 use Rattle.simplex.proofs.Counts.{All}
 use Rattle.simplex.proofs.Rows.{Below, Good, Long, sameRow-true}
-use Rattle.solids.specs.Accept.{Listed, acceptable, solidOf, listedCells}
-use Rattle.records.specs.Layout.{empty, Entry, cellOf, entriesOf, listSize, ownList, recordSize, tableLength, tableWords}
+use Rattle.solids.specs.Accept.{Listed, acceptable, solidOf}
+use Rattle.records.specs.Layout.{empty, Entry, entriesOf, listSize, ownList, recordSize, tableLength, tableWords}
 use Rattle.solids.specs.Table.{entryAt, ownListed, ownTable, sound, tableOf, tableOfList, wingAt}
-use Rattle.solids.proofs.Accepted.{accepted-solid}
+use Rattle.solids.proofs.Accepted.{accepted-solid, solid-length}
 use Rattle.solids.proofs.OwnTable.{entries-of-words}
 use Rattle.solids.proofs.Solid.{Solid, all-at, rowAt}
 use Rattle.solids.proofs.Symmetric.{wing, wings-symmetric}
@@ -32,7 +31,7 @@ use Rattle.solids.proofs.Tables.{table-at, table-wing}
 use Rattle.prism.specs.Swept.{sweptCells}
 use Rattle.prism.specs.Wings.{backTo}
 use Rattle.sweeping.specs.Inner.SweptWords.{solidEntries, solidVertex, solidWing, Ready}
-use Rattle.words.proofs.Records.{length-tabulated, tabulate-length}
+use Rattle.words.proofs.Records.{length-tabulated}
 use Rattle.prism.proofs.SweptWings.{back-is}
 use Rattle.records.proofs.Parts.{part-long}
 
@@ -55,8 +54,7 @@ own-long d s ws e =
 
 count-is : (d v s : ℕ) (ws : List ℕ) → length (cellsIn d v s ws) ≡ s
 unfolding cellsIn
-count-is d v s ws =
-    length-map (listedCells (ownListed d v s ws)) ascending ∙ tabulate-length s (λ p. cellOf (part (listSize d) p (ownList d s ws)))
+count-is d v s ws = solid-length (ownListed d v s ws)
 
 pub sound-solid : (d v s : ℕ) (ws : List ℕ) → sound d v s ws ≡ true → TableOf d v s ws (cellsIn d v s ws)
 unfolding sound ownTable tableOfList cellsIn

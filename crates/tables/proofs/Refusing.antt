@@ -18,7 +18,7 @@ use Rattle.simplex.specs.Order.{ascending, sorted}
 use Rattle.simplex.proofs.Insert.{Each}
 use Rattle.solids.specs.Accept.{Listed, badSign, listedCells, repeats, solidOf, solidRules, vertexBeyond, vertexTwice}
 use Rattle.tables.specs.Inner.Held.{badAt, beyondAt, cellHeld, cellRead, falls, faults, heldCells, recordList}
-use Rattle.records.specs.Layout.{cellOf, listSize, vertexPlace}
+use Rattle.records.specs.Layout.{cellIn, cellOf, listSize, vertexPlace}
 use Rattle.tables.proofs.Adjacent.{held-falls, held-vertex}
 use Rattle.words.proofs.Below.{below-not, some-below, true-unless}
 use Rattle.solids.proofs.Codec.{part-length}
@@ -75,7 +75,8 @@ module _ (size d v s : ℕ) (ws : List ℕ) (hz : listSize d ≤ size) (room : s
   -- record p of the list
   record-is : (p : ℕ) → p < s → part (listSize d) p (recordList size d v s ws .words) ≡ take (listSize d) (part size p ws)
   record-is p h =
-      part-concat (listSize d) p (tabulate s (λ p. take (listSize d) (part size p ws))) (longs s (λ p. take (listSize d) (part size p ws)) read-long)
+      part-concat (listSize d) p (tabulate s (λ p. take (listSize d) (part size p ws)))
+      (longs s (λ p. take (listSize d) (part size p ws)) read-long)
       (rw (tabulate-length s (λ p. take (listSize d) (part size p ws))) h)
       ∙ tabulate-at s (λ p. take (listSize d) (part size p ws)) p [] h
     where
@@ -84,7 +85,7 @@ module _ (size d v s : ℕ) (ws : List ℕ) (hz : listSize d ≤ size) (room : s
       longs (suc n) f h = (h 0 (omega arith), longs n (λ i. f (suc i)) (λ p l. h (suc p) (omega arith)))
 
   listed-is : listedCells (recordList size d v s ws) ≡ tabulate s (λ p. cellRead size d ws p)
-  listed-is = tabulate-ext s (λ p. cellOf (part (listSize d) p (list .words))) (λ p. cellRead size d ws p) (λ p h. ap cellOf (record-is p h))
+  listed-is = tabulate-ext s (cellIn d (list .words)) (cellRead size d ws) (λ p h. ap cellOf (record-is p h))
 
   -- 6
   pub sign-bad : badSign (recordList size d v s ws) ≡ anyBelow s (badAt size ws)

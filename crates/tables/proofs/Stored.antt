@@ -1,13 +1,13 @@
 -- One cell read, sorted and stored is the cell in ascending order; the others stay.
 use mathlib.Core.Path.{_≡_, refl, sym, ap, ap₂, _∙_}
 use mathlib.Core.Bool.{Bool, false, not}
-use mathlib.Core.List.{List, [], _∷_, _++_, append-assoc}
-use Prim.Native.Nat.{ℕ, zero, suc, _+_, _*_, _-_, _≤_, _<_}
+use mathlib.Core.List.{List, _++_, append-assoc}
+use Prim.Native.Nat.{ℕ, suc, _+_, _*_, _-_, _≤_, _<_}
 use native.Mathlib.Omega.{arith}
 use native.Mathlib.Nat.{add-zero, ne-of-lt}
 use lib.ListN.{length, take, drop, getD, set, replicate, length-set, length-append, length-drop, List·getD-append}
 use lib.Seq.{paste, length-paste, length-take-le, take-at, drop-at, take-take, drop-drop, getD-take, getD-drop, getD-set-same, getD-set-other}
-use lib.Seq.{ext-getD, take-nil}
+use lib.Seq.{ext-getD}
 use Rattle.words.specs.Records.{part}
 use Rattle.simplex.specs.Cell.{Sign, cell, times}
 use Rattle.simplex.specs.Order.{orientation, sorted}
@@ -18,6 +18,7 @@ use Rattle.tables.specs.Inner.Held.{Gathered, cellRead, rowOfEight}
 use Rattle.tables.proofs.Reading.{eight-front, eight-long, eight-rest}
 use Rattle.simplex.specs.SignWords.{signOf}
 use Rattle.records.specs.Layout.{listSize, vertexPlace}
+use Rattle.records.proofs.Parts.{drop-take}
 
 -- two lists with one record p
 pub part-same : (n p : ℕ) (X Y : List ℕ) → p * n + n ≤ length X → length X ≡ length Y →
@@ -30,12 +31,6 @@ part-same n p X Y h e same = ext-getD 0 (part n p X) (part n p Y) (long X h ∙ 
 
     word : (Z : List ℕ) (i : ℕ) → i < n → getD (part n p Z) i 0 ≡ getD Z (p * n + i) 0
     word Z i l = getD-take n (drop (p * n) Z) i 0 l ∙ getD-drop (p * n) Z i 0
-
-drop-take : (m n k : ℕ) (l : List ℕ) → k ≡ m + n → drop m (take k l) ≡ take n (drop m l)
-drop-take zero n k l e = ap (λ i. take i l) {x = k} {y = n} (omega arith)
-drop-take (suc m) n zero l e = absurd (omega arith)
-drop-take (suc m) n (suc k) [] e = sym (take-nil n)
-drop-take (suc m) n (suc k) (x ∷ l) e = drop-take m n k l (omega arith)
 
 -- the sign word and the vertices of record p
 module _ (size d p : ℕ) (ws : List ℕ) (hd : listSize d ≤ size) where
@@ -97,7 +92,8 @@ module _ (d : ℕ) (row : List ℕ) (hd : d ≤ 7) (eight : length row ≡ 8) wh
   sorted-sign t = ap (λ s. times s t) (not-not (orientation (take (suc d) row)))
 
 -- what storing a cell leaves
-pub gathered : (size d p : ℕ) (ws rows : List ℕ) (signs : List Sign) (row new rows′ : List ℕ) (signs′ : List Sign) (n at : ℕ) (odd t : Bool) →
+pub gathered : (size d p : ℕ) (ws rows : List ℕ) (signs : List Sign) (row new rows′ : List ℕ) (signs′ : List Sign)
+    (n at : ℕ) (odd t : Bool) →
     d ≤ 7 → listSize d ≤ size → p < 4096 → length rows ≡ 32768 → length signs ≡ 4096 →
     n ≡ suc d → at ≡ p * size + vertexPlace 0 → at + n ≤ length ws → row ≡ rowOfEight (take n (drop at ws)) →
     new ≡ rowSorted n row → odd ≡ rowOdd n row → t ≡ times (not odd) (signOf (getD ws (p * size) 0)) →

@@ -8,3 +8,4 @@ pub mod Deciding
 pub mod Stacked
 pub mod NeverUnsound
 pub mod NoCells
+pub mod UploadedOrder

@@ -10,20 +10,17 @@ use mathlib.Core.List.{List, [], _∷_}
 use Prim.Native.Nat.{ℕ, zero, suc, _≤_}
 use native.Mathlib.Omega.{arith}
 use lib.Dec.{eqb, ltb}
-use lib.ListN.{length, take, replicate, length-map, length-replicate}
+use lib.ListN.{length, take, replicate, length-replicate}
 use borrow.Author.Tests.{eq-eqb}
-use Rattle.words.specs.Records.{part}
-use Rattle.words.proofs.Records.{tabulate-length}
 use Rattle.rules.specs.Limits.{maxDimension, sweptVertices}
 use Rattle.rules.specs.Shapes.{shapeOk}
 use Rattle.rules.specs.Calls.{Rule, firstRefusal, Outcome, accepted, refused, outcome, decide}
 use Rattle.rules.proofs.Accepting.{accepted-by}
-use Rattle.simplex.specs.Order.{ascending}
-use Rattle.solids.specs.Accept.{listedCells, solidOf, solidRules}
-use Rattle.records.specs.Layout.{cellOf, listSize, tableLength, tableWords}
+use Rattle.solids.specs.Accept.{solidOf, solidRules}
+use Rattle.records.specs.Layout.{tableLength, tableWords}
 use Rattle.solids.specs.Table.{sound, tableOf, tableOfList}
 use Rattle.wing.specs.Wing.{WingInput, wingInput, wingOutcome, wingBuffer, wingRules}
-use Rattle.solids.proofs.Accepted.{accepted-solid}
+use Rattle.solids.proofs.Accepted.{accepted-solid, solid-length}
 use Rattle.solids.proofs.OwnTable.{table-sound}
 use Rattle.prism.specs.Swept.{sweptCells}
 use Rattle.sweep.specs.Sweep.{SweepInput, sweepOutcome, sweepBuffer, sweepRules, sweptLength, sweptWords, sweepInput}
@@ -33,9 +30,10 @@ use Rattle.file.specs.Tests.{fileWords}
 use Rattle.read.specs.Read.{ReadInput, headerOf, readOutcome, readRules}
 use Rattle.list.specs.List.{ListInput, listText, listOutcome, listRules}
 use Rattle.page.specs.Key.{inputLimit, wordRoom, thenCall, readIn, wingIn, sweepIn, moveIn, listIn, callsOn, keyOutcome}
-use Rattle.page.proofs.Staged.{winged-front, swept-front}
+use Rattle.wing.proofs.Acceptance.{winged-is}
+use Rattle.wing.proofs.Lengths.{winged-front}
+use Rattle.page.proofs.Staged.{swept-front}
 use Rattle.third_term.specs.ThirdTerm.{Sitting, Unrefused, toWing, toSweep, tableWritten, sweptWritten}
-use Rattle.third_term.proofs.Acceptance.{winged-is}
 use Rattle.third_term.proofs.Run.{swept-sound}
 use Rattle.theorems.specs.NeverUnsound.{NeverUnsound}
 
@@ -57,7 +55,8 @@ module _ {I : Type 0} where
       go true e later = rw (eq-eqb (r .number) n e) refl
       go false e later = rw (and-false (eqb (r .number) n)) (later e)
 
-  blamed : {A : Type 0} (rs : List (Rule I)) (answer : I → A) (x : I) (n : ℕ) → 1 ≤ n → decide rs answer x ≡ refused n → blames n rs x ≡ true
+  blamed : {A : Type 0} (rs : List (Rule I)) (answer : I → A) (x : I) (n : ℕ) → 1 ≤ n → decide rs answer x ≡ refused n →
+      blames n rs x ≡ true
   blamed rs answer x n h e = first-blamed rs x n h (refused-by (firstRefusal rs x) n (answer x) e)
 
 -- a refusal of two calls is that of the first, or the first accepts and it is that of the second
@@ -89,40 +88,37 @@ list-never : (i : ListInput) → sound (i .d) (i .v) (i .s) (i .table) ≡ true 
 unfolding listOutcome listRules
 list-never i whole e = true≢false (sym (rw whole at (blamed listRules (λ i. length (listText i)) i 14 (omega arith) e)))
 
-wing-sound : (i : WingInput) (n : ℕ) → wingOutcome i ≡ accepted n → sound (i .list .d) (i .list .v) (i .list .s) (tableOfList (i .list)) ≡ true
+wing-sound : (i : WingInput) (n : ℕ) → wingOutcome i ≡ accepted n →
+    sound (i .list .d) (i .list .v) (i .list .s) (tableOfList (i .list)) ≡ true
 unfolding tableOfList
 wing-sound i n e =
     let l = i .list in
     let facts = winged-is i n e in
     let solid = accepted-solid l (facts .size) (facts .cells) in
-    let count : length (solidOf l) ≡ l .s =
-    length-map (listedCells l) ascending ∙ tabulate-length (l .s) (λ p. cellOf (part (listSize (l .d)) p (l .words))) in
+    let count = solid-length l in
     ap (λ k. sound (l .d) (l .v) k (tableWords (tableOf (solidOf l)))) (sym count)
     ∙ table-sound (l .d) (l .v) (solidOf l) (solid .0) (solid .1) (ap (shapeOk maxDimension (l .d) (l .v)) count ∙ facts .shape)
-
-wing-count : (i : WingInput) (n : ℕ) → wingOutcome i ≡ accepted n → n ≡ tableLength (i .list .d) (i .list .s)
-unfolding wingOutcome wingRules solidRules
-wing-count i n e = accepted-by wingRules (λ i. tableLength (i .list .d) (i .list .s)) i n refl e .0
 
 sweep-count : (i : SweepInput) (n : ℕ) → sweepOutcome i ≡ accepted n → n ≡ sweptLength i
 unfolding sweepOutcome sweepRules
 sweep-count i n e = accepted-by sweepRules sweptLength i n refl e .0
 
 -- the calls as a sitting, with a buffer of the program's room
-module _ (d v s h : ℕ) (ws buf : List ℕ) (room : length buf ≡ wordRoom) (n k : ℕ) (winged : wingOutcome (wingInput d v s ws wordRoom) ≡ accepted n)
-    (swept : sweepOutcome (sweepInput d v s h (tableOfList (wingInput d v s ws wordRoom .list)) wordRoom) ≡ accepted k) where
+module _ (d v s h : ℕ) (ws buf : List ℕ) (room : length buf ≡ wordRoom) (n k : ℕ)
+    (winged : wingOutcome (wingInput d v s ws wordRoom wordRoom) ≡ accepted n)
+    (swept : sweepOutcome (sweepInput d v s h (tableOfList (wingInput d v s ws wordRoom wordRoom .list)) wordRoom) ≡ accepted k) where
   abbrev table : List ℕ
-  table = tableOfList (wingInput d v s ws wordRoom .list)
+  table = tableOfList (wingInput d v s ws wordRoom wordRoom .list)
 
   abbrev sitting : Sitting
-  sitting = record { s = s; cells = ws; tableBuffer = buf; sweptBuffer = buf }
+  sitting = record { s = s; cells = ws; tableBuffer = buf; uploadedBuffer = buf; sweptBuffer = buf }
 
   first : wingOutcome (toWing d v h sitting) ≡ accepted n
-  first = ap (λ r. wingOutcome (wingInput d v s ws r)) room ∙ winged
+  first = ap (λ r. wingOutcome (wingInput d v s ws r r)) room ∙ winged
 
   table-is : tableWritten d v h sitting ≡ table
   table-is =
-      ap (λ m. take m (wingBuffer (toWing d v h sitting) buf)) (sym (wing-count (toWing d v h sitting) n first))
+      ap (λ m. take m (wingBuffer (toWing d v h sitting) buf)) (sym (winged-is (toWing d v h sitting) n first .count))
       ∙ winged-front (toWing d v h sitting) buf (wingBuffer (toWing d v h sitting) buf) n refl first .1
 
   second : sweepOutcome (toSweep d v h sitting) ≡ accepted k
@@ -130,7 +126,7 @@ module _ (d v s h : ℕ) (ws buf : List ℕ) (room : length buf ≡ wordRoom) (n
 
   unrefused : Unrefused d v h sitting
   unrefused = record {
-    winged = first ∙ ap accepted (wing-count (toWing d v h sitting) n first);
+    winged = first ∙ ap accepted (winged-is (toWing d v h sitting) n first .count);
     swept = second ∙ ap accepted (sweep-count (toSweep d v h sitting) k second);
   }
 

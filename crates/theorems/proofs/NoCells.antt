@@ -23,7 +23,8 @@ use Rattle.prism.specs.Swept.{sweptCells}
 use Rattle.prism.proofs.SweptRows.{none-swept}
 use Rattle.solids.proofs.Computing.{computing as solids-computing}
 use Rattle.solids.specs.Table.{tableOfList}
-use Rattle.wing.specs.Wing.{wingInput, wingRules, wingOutcome, wingBuffer}
+use Rattle.solids.specs.Uploaded.{uploadedOfList}
+use Rattle.wing.specs.Wing.{wingInput, wingRules, wingOutcome, wingBuffer, uploadedBuffer}
 use Rattle.sweep.specs.Sweep.{sweepInput, sweptLength, sweptWords, sweepRules, sweepOutcome, sweepBuffer}
 use Rattle.boundary.specs.Boundary.{boundaryOf}
 use Rattle.boundary.specs.Faces.{boundaryCells, facesInput, facesRules, facesOutcome, facesBuffer}
@@ -35,7 +36,7 @@ use Rattle.listing.specs.Lines.{firstLine, vertexLines, keyText}
 use Rattle.list.specs.List.{listInput, listText, listOutcome, listRules}
 use Rattle.third_term.specs.ThirdTerm.{Sitting, Unrefused, boundary, solid, sweptWritten, tableWritten, toSweep}
 use Rattle.third_term.specs.Pairs.{circle}
-use Rattle.third_term.proofs.Acceptance.{Swept, swept-is}
+use Rattle.sweep.proofs.Acceptance.{Swept, swept-is}
 use Rattle.third_term.proofs.Run.{count}
 use Rattle.third_term.proofs.ThirdTerm.{third-term}
 use Rattle.theorems.specs.NoCells.{NoCells, EmptyKeys, noCells}
@@ -48,10 +49,18 @@ no-words d = zero-mul (recordSize d)
 any-room : (room : ℕ) → ltb room 0 ≡ false
 any-room room = le-ltb room 0 (omega arith)
 
-wing-accepts : (d v room : ℕ) → d ≤ maxDimension → v ≤ maxVertices → wingOutcome (wingInput d v 0 [] room) ≡ accepted 0
+wing-accepts : (d v room further : ℕ) → d ≤ maxDimension → v ≤ maxVertices → wingOutcome (wingInput d v 0 [] room further) ≡ accepted 0
 unfolding wingOutcome wingRules solids-computing
-wing-accepts d v room hd hv =
-    rw (le-leb d maxDimension hd, le-leb v maxVertices hv, zero-mul (listSize d), no-words d, any-room room) refl
+wing-accepts d v room further hd hv =
+    rw (
+      le-leb d maxDimension hd,
+      le-leb v maxVertices hv,
+      zero-mul (listSize d),
+      no-words d,
+      zero-mul (suc d),
+      any-room room,
+      any-room further,
+    ) refl
 
 sweep-accepts : (d v h room : ℕ) → d ≤ maxSource → stepsOk h ≡ true → sweptVertices v h ≤ maxVertices →
     sweepOutcome (sweepInput d v 0 h [] room) ≡ accepted 0
@@ -80,10 +89,11 @@ unfolding moveOutcome moveRules movedLevels
 move-accepts n h room step hn hh floats fits =
     rw (hn, hh, mul-zero (suc h), zero-mul n, floats, fits, levels-none step n h, any-room room) refl
 
-winged : (d v : ℕ) (out : List ℕ) → d ≤ maxDimension → v ≤ maxVertices →
-    let i = wingInput d v 0 [] (length out) in (wingOutcome i ≡ accepted 0) × (wingBuffer i out ≡ out)
-unfolding wingBuffer tableOfList
-winged d v out hd hv = let e = wing-accepts d v (length out) hd hv in (e, rw e refl)
+winged : (d v : ℕ) (out further : List ℕ) → d ≤ maxDimension → v ≤ maxVertices →
+    let i = wingInput d v 0 [] (length out) (length further) in
+    (wingOutcome i ≡ accepted 0) × (wingBuffer i out ≡ out) × (uploadedBuffer i further ≡ further)
+unfolding wingBuffer uploadedBuffer tableOfList uploadedOfList
+winged d v out further hd hv = let e = wing-accepts d v (length out) (length further) hd hv in (e, rw e refl, rw e refl)
 
 swept : (d v h : ℕ) (out : List ℕ) → d ≤ maxSource → stepsOk h ≡ true → sweptVertices v h ≤ maxVertices →
     let i = sweepInput d v 0 h [] (length out) in (sweepOutcome i ≡ accepted 0) × (sweepBuffer i out ≡ out)
@@ -123,17 +133,17 @@ listed d n v room ps hd hn hv long inside fits =
       le-ltb room (length (firstLine d n v 0 ++ vertexLines n v ps)) fits,
     ) refl
 
-no-vertex : (d s h n room : ℕ) (ws : List ℕ) (ps : List Float) →
-    (wingOutcome (wingInput d 0 (suc s) ws room) ≡ refused 2) × (sweepOutcome (sweepInput d 0 (suc s) h ws room) ≡ refused 2)
+no-vertex : (d s h n room further : ℕ) (ws : List ℕ) (ps : List Float) →
+    (wingOutcome (wingInput d 0 (suc s) ws room further) ≡ refused 2) × (sweepOutcome (sweepInput d 0 (suc s) h ws room) ≡ refused 2)
     × (facesOutcome (facesInput d 0 (suc s) ws room) ≡ refused 2) × (listOutcome (listInput d n 0 (suc s) ws ps room) ≡ refused 2)
 unfolding wingOutcome wingRules sweepOutcome sweepRules facesOutcome facesRules listOutcome listRules
-no-vertex d s h n room ws ps =
+no-vertex d s h n room further ws ps =
     (rw (no-shape maxDimension d s) refl, rw (no-shape maxSource d s) refl, rw (no-shape maxDimension d s) refl, rw (no-shape maxDimension d s) refl)
 
 -- a sitting without cells: nothing is winged, nothing swept, and the boundary is empty
 no-table : (d v h : ℕ) → d ≤ maxDimension → v ≤ maxVertices → tableWritten d v h noCells ≡ []
 unfolding wingBuffer tableOfList
-no-table d v h hd hv = rw (wing-accepts d v 0 hd hv, no-words d) refl
+no-table d v h hd hv = rw (wing-accepts d v 0 0 hd hv, no-words d) refl
 
 no-boundary : (d v h : ℕ) (x : Sitting) → x .s ≡ 0 → boundary d v h x ≡ []
 no-boundary d v h x e = ap (λ n. boundaryOf (entriesOf (suc d) n (sweptWritten d v h x))) (ap (λ n. sweptCells d n h) e ∙ none-swept d h)
@@ -141,7 +151,7 @@ no-boundary d v h x e = ap (λ n. boundaryOf (entriesOf (suc d) n (sweptWritten 
 unrefused : (d v h : ℕ) (x : Sitting) → Unrefused d v h x → Unrefused d v h noCells
 unrefused d v h x u =
     record {
-      winged = wing-accepts d v 0 d-small (l .vertices) ∙ ap accepted (sym (no-words d));
+      winged = wing-accepts d v 0 0 d-small (l .vertices) ∙ ap accepted (sym (no-words d));
       swept =
           ap (λ ws. sweepOutcome (sweepInput d v 0 h ws 0)) (no-table d v h d-small (l .vertices))
           ∙ sweep-accepts d v h 0 (l .dimension) (facts .steps) (facts .vertices)

@@ -1,4 +1,5 @@
--- Statements about the whole: the marked keys, and further examples. Their proofs compute both sides, but for NeverUnsound and laws in NoCells.
+-- Statements about the whole: the marked keys, and further examples. Their proofs compute both sides, but for NeverUnsound
+-- and laws in NoCells and UploadedOrder.
 pub mod Shorthand
 pub mod MarkedKeys
 pub mod Figures
@@ -7,3 +8,4 @@ pub mod Deciding
 pub mod Stacked
 pub mod NeverUnsound
 pub mod NoCells
+pub mod UploadedOrder

@@ -16,7 +16,7 @@ use Rattle.words.specs.Text.{ascii}
 use Rattle.rules.specs.Limits.{maxDimension, maxSource, maxVertices, axesOk, stepsOk, sweptVertices}
 use Rattle.rules.specs.Calls.{accepted, refused}
 use Rattle.simplex.specs.Chain.{Same}
-use Rattle.wing.specs.Wing.{wingInput, wingOutcome, wingBuffer}
+use Rattle.wing.specs.Wing.{wingInput, wingOutcome, wingBuffer, uploadedBuffer}
 use Rattle.sweep.specs.Sweep.{sweepInput, sweepOutcome, sweepBuffer}
 use Rattle.boundary.specs.Boundary.{ownBoundary}
 use Rattle.boundary.specs.Faces.{facesInput, facesOutcome, facesBuffer}
@@ -31,7 +31,7 @@ use Rattle.third_term.specs.Pairs.{circle, sitting}
 use Rattle.theorems.specs.MarkedKeys.{k1File}
 
 abbrev pub noCells : Sitting
-noCells = record { s = 0; cells = []; tableBuffer = []; sweptBuffer = [] }
+noCells = record { s = 0; cells = []; tableBuffer = []; uploadedBuffer = []; sweptBuffer = [] }
 
 abbrev pub emptyFile : ℕ → ℕ → List ℕ
 emptyFile d n = take 5 k1File ++ (d ∷ n ∷ 0 ∷ 0 ∷ 0 ∷ 0 ∷ take 29 (drop 11 k1File))
@@ -44,8 +44,9 @@ cellFile = take 7 k1File ++ (0 ∷ 0 ∷ take 31 (drop 9 k1File) ++ drop 48 k1Fi
 
 pub record NoCells : Type 0 where
   -- every call takes it, whatever room it is lent, and writes nothing
-  pub winged : (d v : ℕ) (out : List ℕ) → d ≤ maxDimension → v ≤ maxVertices →
-      let i = wingInput d v 0 [] (length out) in (wingOutcome i ≡ accepted 0) × (wingBuffer i out ≡ out)
+  pub winged : (d v : ℕ) (out further : List ℕ) → d ≤ maxDimension → v ≤ maxVertices →
+      let i = wingInput d v 0 [] (length out) (length further) in
+      (wingOutcome i ≡ accepted 0) × (wingBuffer i out ≡ out) × (uploadedBuffer i further ≡ further)
   pub swept : (d v h : ℕ) (out : List ℕ) → d ≤ maxSource → stepsOk h ≡ true → sweptVertices v h ≤ maxVertices →
       let i = sweepInput d v 0 h [] (length out) in (sweepOutcome i ≡ accepted 0) × (sweepBuffer i out ≡ out)
   pub faceless : (d v : ℕ) (out : List ℕ) → d ≤ maxDimension → v ≤ maxVertices →
@@ -59,8 +60,8 @@ pub record NoCells : Type 0 where
       length ps ≡ v * n → allOf inRange ps ≡ true → length (firstLine d n v 0 ++ vertexLines n v ps) ≤ room →
       listOutcome (listInput d n v 0 [] ps room) ≡ accepted (length (firstLine d n v 0 ++ vertexLines n v ps))
   -- but a cell has vertices: row 2
-  pub no-vertex : (d s h n room : ℕ) (ws : List ℕ) (ps : List Float) →
-      (wingOutcome (wingInput d 0 (suc s) ws room) ≡ refused 2) × (sweepOutcome (sweepInput d 0 (suc s) h ws room) ≡ refused 2)
+  pub no-vertex : (d s h n room further : ℕ) (ws : List ℕ) (ps : List Float) →
+      (wingOutcome (wingInput d 0 (suc s) ws room further) ≡ refused 2) × (sweepOutcome (sweepInput d 0 (suc s) h ws room) ≡ refused 2)
       × (facesOutcome (facesInput d 0 (suc s) ws room) ≡ refused 2) × (listOutcome (listInput d n 0 (suc s) ws ps room) ≡ refused 2)
   -- the third term speaks of it wherever it speaks of a solid
   pub unrefused : (d v h : ℕ) (x : Sitting) → Unrefused d v h x → Unrefused d v h noCells

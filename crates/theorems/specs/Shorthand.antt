@@ -46,7 +46,7 @@ abbrev pub ample : ℕ
 ample = 65536
 
 abbrev pub toWing : Listed → WingInput
-toWing l = record { list = l; room = ample }
+toWing l = record { list = l; room = ample; uploadedRoom = ample }
 
 abbrev pub swept : ℕ → Listed → SweepInput
 swept h l = record { d = l .d; v = l .v; s = l .s; h = h; table = tableOfList l; room = ample }

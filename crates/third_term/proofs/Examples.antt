@@ -19,10 +19,10 @@ unfolding computing wingRules wingOutcome wingBuffer sweepRules sweptWords sweep
 opened = tt
 
 abbrev point : Sitting
-point = record { s = 1; cells = 0 ∷ 0 ∷ []; tableBuffer = replicate 3 7; sweptBuffer = replicate 5 7 }
+point = record { s = 1; cells = 0 ∷ 0 ∷ []; tableBuffer = replicate 3 7; uploadedBuffer = 7 ∷ []; sweptBuffer = replicate 5 7 }
 
 abbrev segment : Sitting
-segment = record { s = 1; cells = 0 ∷ 0 ∷ 1 ∷ []; tableBuffer = replicate 5 7; sweptBuffer = replicate 14 7 }
+segment = record { s = 1; cells = 0 ∷ 0 ∷ 1 ∷ []; tableBuffer = replicate 5 7; uploadedBuffer = replicate 2 7; sweptBuffer = replicate 14 7 }
 
 pub bottom-of-a-point : BoundaryOf 0 1 1 point → coefficient (0 ∷ []) (boundary 0 1 1 point) ≡ negℤ (pos 1)
 unfolding opened

@@ -2,7 +2,6 @@
 pub mod BoundarySum
 pub mod Decides
 pub mod Coefficients
-pub mod Acceptance
 pub mod Run
 pub mod ThirdTerm
 pub mod Examples

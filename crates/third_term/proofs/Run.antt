@@ -3,13 +3,11 @@ use mathlib.Core.Path.{_≡_, ap, ap₂, refl, sym, _∙_}
 use Prim.Native.Nat.{_*_, _<_, suc, ℕ, _≤_}
 use mathlib.Core.List.{List}
 use native.Mathlib.Omega.{arith}
-use lib.ListN.{length, length-map}
+use lib.ListN.{length}
 use borrow.Author.Tests.{eq-eqb, le-leb, le-ltb, leb-true}
 use lib.Dec.{leb}
 use native.Mathlib.Nat.{suc-mul}
 use mathlib.Core.Bool.{not, true}
-use Rattle.words.specs.Records.{part}
-use Rattle.words.proofs.Records.{tabulate-length}
 use Rattle.rules.specs.Calls.{accepted, written}
 use Rattle.rules.specs.Limits.{maxDimension, maxSource, maxSteps, sizesOk, sweptVertices}
 use Rattle.rules.specs.Shapes.{shapeOk}
@@ -17,14 +15,12 @@ use Rattle.rules.proofs.InLimits.{Limits, limits-are, sizes-follow}
 use Rattle.rules.proofs.Tests.{and-parts}
 use Rattle.rules.proofs.Accepting.{front-of}
 use Rattle.simplex.specs.Cell.{Cell}
-use Rattle.simplex.specs.Order.{ascending}
 use Rattle.simplex.proofs.Counts.{All}
 use Rattle.simplex.proofs.Rows.{Long}
-use Rattle.solids.specs.Accept.{listedCells}
-use Rattle.records.specs.Layout.{faceSize, empty, Entry, cellOf, entriesOf, listSize, tableLength, tableWords}
+use Rattle.records.specs.Layout.{faceSize, empty, Entry, entriesOf, tableLength, tableWords}
 use Rattle.solids.specs.Table.{sound, tableOf, tableOfList}
 use Rattle.wing.specs.Wing.{wingBuffer}
-use Rattle.solids.proofs.Accepted.{accepted-solid}
+use Rattle.solids.proofs.Accepted.{accepted-solid, solid-length}
 use Rattle.solids.proofs.OwnTable.{entries-of-words, table-sound, words-length}
 use Rattle.solids.proofs.Solid.{Solid}
 use Rattle.prism.specs.Cells.{sweepOf}
@@ -38,7 +34,8 @@ use Rattle.boundary.specs.Faces.{boundaryCells, facesBuffer, facesOutcome, face
 use Rattle.boundary.proofs.EmptyWings.{boundary-own}
 use Rattle.third_term.specs.ThirdTerm.{Sitting, Unrefused, boundary, boundaryWords, list, solid, sweptWritten, tableWritten, toFaces, toSweep}
 use Rattle.third_term.specs.ThirdTerm.{toWing}
-use Rattle.third_term.proofs.Acceptance.{Swept, Winged, swept-is, winged-is}
+use Rattle.wing.proofs.Acceptance.{Winged, winged-is}
+use Rattle.sweep.proofs.Acceptance.{Swept, swept-is}
 
 module _ (d v h : ℕ) (x : Sitting) (u : Unrefused d v h x) where
   abbrev cs : List Cell
@@ -47,7 +44,7 @@ module _ (d v h : ℕ) (x : Sitting) (u : Unrefused d v h x) where
   abbrev T : List Cell
   T = sweepOf v h cs
 
-  wing-facts : Winged (toWing d v h x)
+  wing-facts : Winged (toWing d v h x) (tableLength d (x .s))
   wing-facts = winged-is (toWing d v h x) (tableLength d (x .s)) (u .winged)
 
   sweep-facts : Swept (toSweep d v h x)
@@ -60,7 +57,7 @@ module _ (d v h : ℕ) (x : Sitting) (u : Unrefused d v h x) where
   is-long = accepted-solid (list d v h x) (wing-facts .size) (wing-facts .cells) .1
 
   pub count : length cs ≡ x .s
-  count = length-map (listedCells (list d v h x)) ascending ∙ tabulate-length (x .s) (λ p. cellOf (part (listSize d) p (x .cells)))
+  count = solid-length (list d v h x)
 
   -- wing writes the table of the solid
   table-is : tableWritten d v h x ≡ tableWords (tableOf cs)

@@ -8,7 +8,7 @@ use lib.ListN.{replicate}
 use Rattle.third_term.specs.ThirdTerm.{Sitting}
 
 abbrev pub sitting : ℕ → List ℕ → Sitting
-sitting s cells = record { s = s; cells = cells; tableBuffer = replicate 96 0; sweptBuffer = replicate 96 0 }
+sitting s cells = record { s = s; cells = cells; tableBuffer = replicate 96 0; uploadedBuffer = replicate 96 0; sweptBuffer = replicate 96 0 }
 
 -- +01 +12 -02
 abbrev pub circle : Sitting

@@ -1,5 +1,5 @@
 -- The third term, stated over the definitions that the contracts of wing, sweep and faces cite. Paper, section 1.
---   Sitting               a list of s cells as words, and the buffers lent to wing and to sweep
+--   Sitting               a list of s cells as words, and the buffers lent to wing (two) and to sweep
 --   Unrefused d v h x     wing accepts the list, and sweep accepts the table that wing writes, in h steps
 --   solid                 the accepted cells, in ascending order
 --   tableWritten          what wing writes
@@ -31,6 +31,7 @@ pub record Sitting : Type 0 where
   pub s : ℕ
   pub cells : List ℕ
   pub tableBuffer : List ℕ
+  pub uploadedBuffer : List ℕ
   pub sweptBuffer : List ℕ
 
 module _ (d v h : ℕ) (x : Sitting) where
@@ -41,7 +42,7 @@ module _ (d v h : ℕ) (x : Sitting) where
   solid = solidOf list
 
   abbrev pub toWing : WingInput
-  toWing = record { list = list; room = length (x .tableBuffer) }
+  toWing = record { list = list; room = length (x .tableBuffer); uploadedRoom = length (x .uploadedBuffer) }
 
   -- the front of the buffer after wing
   abbrev pub tableWritten : List ℕ

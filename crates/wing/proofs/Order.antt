@@ -20,14 +20,15 @@ pub refuses : (i : WingInput) (out : List ℕ) (n : ℕ) → First wingRules i n
 unfolding wingRules solidRules wingOutcome wingBuffer
 refuses i out n h = let e = refused-first wingRules wingLength i refl n h in (e, kept _ n (tableOfList (i .list)) out e)
 
-module _ (d v s : ℕ) (cells out : List ℕ) (two : not (shapeOk maxDimension d v s) ≡ false)
+module _ (d v s : ℕ) (cells : List ℕ) (further : ℕ) (out : List ℕ) (two : not (shapeOk maxDimension d v s) ≡ false)
     (three : not (eqb (length cells) (s * listSize d)) ≡ false) where
-  told : (room : ℕ) → tableOutcome d v s cells room ≡ wingOutcome (wingInput d v s cells room)
+  told : (room : ℕ) → tableOutcome d v s cells room further ≡ wingOutcome (wingInput d v s cells room further)
   unfolding wingOutcome wingRules solidRules tableOutcome
   told room = rw (two, three) refl
 
-  pub passes : (o : Outcome ℕ) (new : List ℕ) → o ≡ tableOutcome d v s cells (length out) → new ≡ tableAfter d v s cells out →
-      (o ≡ wingOutcome (wingInput d v s cells (length out))) × (new ≡ wingBuffer (wingInput d v s cells (length out)) out)
+  pub passes : (o : Outcome ℕ) (new : List ℕ) → o ≡ tableOutcome d v s cells (length out) further →
+      new ≡ tableAfter d v s cells further out →
+      (o ≡ wingOutcome (wingInput d v s cells (length out) further)) × (new ≡ wingBuffer (wingInput d v s cells (length out) further) out)
   unfolding wingBuffer tableAfter
   passes o new e w =
       (e ∙ told (length out), w ∙ ap (λ o. after o (tableOfList (record { d = d; v = v; s = s; words = cells })) out) (told (length out)))

@@ -1,2 +1,3 @@
 -- The call wing.
 pub mod Wing
+pub mod Inner

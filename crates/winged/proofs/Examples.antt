@@ -10,12 +10,12 @@ use Rattle.boundary.specs.Faces.{boundaryCells, facesRules, facesOutcome}
 use Rattle.winged.specs.Host.{hostWingOutcome, hostWingBuffer, hostFacesOutcome, hostFaces}
 
 -- a point on vertex 1 of two: its low byte stands first
-pub low-byte-first : hostWingBuffer 0 2 1 (0 ∷ 0 ∷ 1 ∷ 0 ∷ []) (replicate 6 7) ≡ 0 ∷ 0 ∷ 1 ∷ 0 ∷ 255 ∷ 255 ∷ []
+pub low-byte-first : hostWingBuffer 0 2 1 (0 ∷ 0 ∷ 1 ∷ 0 ∷ []) (replicate 6 7) (replicate 2 7) ≡ 0 ∷ 0 ∷ 1 ∷ 0 ∷ 255 ∷ 255 ∷ []
 unfolding computing wingRules wingOutcome hostWingOutcome hostWingBuffer
 low-byte-first = refl
 
 -- a point and half a word
-pub odd-bytes : hostWingOutcome 0 1 1 (0 ∷ 0 ∷ 0 ∷ 0 ∷ 0 ∷ []) (replicate 6 7) ≡ refused 3
+pub odd-bytes : hostWingOutcome 0 1 1 (0 ∷ 0 ∷ 0 ∷ 0 ∷ 0 ∷ []) (replicate 6 7) (replicate 2 7) ≡ refused 3
 unfolding computing wingRules wingOutcome hostWingOutcome
 odd-bytes = refl
 

@@ -1,13 +1,15 @@
--- Boundary faces as bytes.
---   bytes-faces               the bytes of faces are those of each
+-- Words written as bytes.
+--   bytes-concat              the bytes of lists one after the other are those of each
+--   bytes-faces               so of faces
 --   bytes-fit, left-bytes     the two bytes of one word more of a list
 -- Assumes nothing.
-use mathlib.Core.Path.{_≡_, refl, _∙_}
+use mathlib.Core.Path.{_≡_, refl, ap, _∙_}
 use mathlib.Core.List.{List, [], _∷_, _++_}
-use Prim.Native.Nat.{ℕ, _+_, _/_, _%_, _≤_, _<_}
+use Prim.Native.Nat.{ℕ, zero, suc, _+_, _/_, _%_, _≤_, _<_}
 use native.Mathlib.Omega.{arith}
 use lib.ListN.{length, drop, getD, set}
 use Rattle.words.specs.Bytes.{bytesOf}
+use Rattle.words.specs.Records.{concat, tabulate}
 use Rattle.words.proofs.Loops.{drop-next}
 use Rattle.words.proofs.Writing.{Left, left-word}
 use Rattle.simplex.specs.Cell.{Cell}
@@ -17,6 +19,11 @@ use Rattle.winged.specs.Inner.Sent.{facesBytes}
 bytes-append : (xs ys : List ℕ) → bytesOf (xs ++ ys) ≡ bytesOf xs ++ bytesOf ys
 bytes-append [] ys = refl
 bytes-append (x ∷ xs) ys = rw (bytes-append xs ys) refl
+
+pub bytes-concat : (n : ℕ) (f : ℕ → List ℕ) → bytesOf (concat (tabulate n f)) ≡ concat (tabulate n (λ p. bytesOf (f p)))
+bytes-concat zero f = refl
+bytes-concat (suc n) f =
+    bytes-append (f 0) (concat (tabulate n (λ p. f (suc p)))) ∙ ap (λ r. bytesOf (f 0) ++ r) (bytes-concat n (λ p. f (suc p)))
 
 pub bytes-faces : (fs : List Cell) → bytesOf (facesWords fs) ≡ facesBytes fs
 bytes-faces [] = refl

@@ -1,7 +1,7 @@
 -- Wing and sweep on bytes.
 --   decoded-front         the decoded words stand at the front of the array
 --   wing-outside, wing-wrong, wing-right      the outcome, as the code finds it
---   wing-after            the buffer, as its outcome says
+--   wing-after, uploaded-after    the buffers, as its outcome says
 --   wing-host             the answer and the lent bytes, as the host's definitions say: room beyond the largest table changes nothing
 --   wing-long             the count is that of the answer's words
 --   sweep-..              the same of sweep
@@ -16,25 +16,31 @@ use native.Mathlib.Omega.{arith}
 use lib.Dec.{leb, ltb}
 use lib.ListN.{length, take, length-append}
 use lib.Seq.{take-at}
-use borrow.Author.Tests.{eq-eqb, leb-true, lt-ltb, ne-eqb}
+use borrow.Author.Tests.{eq-eqb, leb-true, le-leb, le-ltb, lt-ltb, ltb-false, ne-eqb}
 use Rattle.words.specs.Bytes.{words16, bytesOf}
+use Rattle.words.specs.Inner.Placed.{placed}
+use Rattle.words.proofs.Placed.{placed-first}
 use Rattle.words.proofs.Bytes.{words-count}
 use Rattle.rules.specs.Limits.{maxCells, maxDimension, maxSource, maxSteps, maxVertices, stepsOk, sweptVertices}
 use Rattle.rules.specs.Shapes.{shapeOk}
-use Rattle.rules.specs.Calls.{Outcome, accepted, refused, after}
+use Rattle.rules.specs.Calls.{Outcome, accepted, refused, after, written}
 use Rattle.rules.proofs.Tests.{and-parts}
-use Rattle.solids.specs.Accept.{solidRules}
+use Rattle.solids.specs.Accept.{Listed, solidRules}
 use Rattle.records.specs.Layout.{listSize, recordSize, listLength, tableLength}
 use Rattle.solids.specs.Table.{tableOfList}
+use Rattle.solids.specs.Uploaded.{uploadedOfList}
 use Rattle.wing.specs.Wing.{WingInput, wingInput, wingOutcome, wingBuffer, wingRules}
 use Rattle.rules.proofs.InLimits.{limits-are, sweep-limits-are}
+use Rattle.wing.specs.Inner.Uploaded.{uploadedRows}
 use Rattle.wing.proofs.Order as wing
+use Rattle.wing.proofs.Acceptance.{winged-is}
+use Rattle.wing.proofs.UploadedRows.{rows-are}
 use Rattle.prism.specs.Swept.{sweptCells}
 use Rattle.sweep.specs.Sweep.{SweepInput, sweepOutcome, sweepBuffer, sweepRules, sweptWords, sweepInput}
 use Rattle.sweep.proofs.Order as sweep
-use Rattle.winged.specs.Host.{hostAnswer, wordsIn, hostList, hostWing, hostWingOutcome, hostWingBuffer, hostSweepInput, hostSweep}
-use Rattle.winged.specs.Host.{hostSweepOutcome, hostSweepBuffer}
-use Rattle.winged.specs.Inner.Sent.{lesser, tableRoom, wingRead, sweepRead}
+use Rattle.winged.specs.Host.{hostAnswer, wordsIn, hostList, hostWing, hostWingOutcome, hostWingBuffer, hostUploadedBuffer}
+use Rattle.winged.specs.Host.{hostSweepInput, hostSweep, hostSweepOutcome, hostSweepBuffer}
+use Rattle.winged.specs.Inner.Sent.{lesser, smallTable, tableRoom, wingRead, sweepRead}
 use Rattle.winged.proofs.Hosting.{hosted-accepted, hosted-right, hosted-wrong}
 use Rattle.wing.proofs.Lengths.{accepted-long}
 use Rattle.sweep.proofs.CallWords.{swept-long}
@@ -51,24 +57,37 @@ pub wing-after : (o : Outcome ℕ) (i : WingInput) (out : List ℕ) → o ≡ wi
 unfolding wingBuffer
 wing-after o i out e = ap (λ q. after q (tableOfList (i .list)) out) (sym e)
 
+-- the further bytes, written from the list's table
+pub uploaded-after : (i : WingInput) (k : ℕ) (table out : List ℕ) → wingOutcome i ≡ accepted k → table ≡ tableOfList (i .list) →
+    (new : List ℕ) →
+    new ≡ placed 0 (bytesOf (uploadedRows (i .list .d) (i .list .s) (i .list .words) table)) out →
+    new ≡ written (bytesOf (uploadedOfList (i .list))) out
+uploaded-after i k table out e t new w =
+    let l = i .list in
+    w ∙ ap (λ (xs : List ℕ). placed 0 (bytesOf xs) out) (ap (uploadedRows (l .d) (l .s) (l .words)) t ∙ rows-are l (winged-is i k e .size))
+    ∙ placed-first (bytesOf (uploadedOfList l)) out
+
 pub sweep-after : (o : Outcome ℕ) (i : SweepInput) (out : List ℕ) → o ≡ sweepOutcome i → sweepBuffer i out ≡ after o (sweptWords i) out
 unfolding sweepBuffer
 sweep-after o i out e = ap (λ q. after q (sweptWords i) out) (sym e)
 
-module _ (d v s : ℕ) (cells : List ℕ) (x : ℕ) where
-  pub wing-outside : shapeOk maxDimension d v s ≡ false → refused 2 ≡ wingRead d v s cells x
-  unfolding wingRead wingRules
-  wing-outside e = rw e (wing.refuses (wingInput d v s (words16 cells) x) [] 2 (rw e) .0)
+module _ (d v s : ℕ) (cells : List ℕ) (x y : ℕ) where
+  abbrev wingTold : WingInput
+  wingTold = wingInput d v s (words16 cells) x y
 
-  pub wing-wrong : shapeOk maxDimension d v s ≡ true → (length cells ≡ listLength d s * 2 → ⊥) → refused 3 ≡ wingRead d v s cells x
+  pub wing-outside : shapeOk maxDimension d v s ≡ false → refused 2 ≡ wingRead d v s cells x y
+  unfolding wingRead wingRules
+  wing-outside e = rw e (wing.refuses wingTold [] 2 (rw e) .0)
+
+  pub wing-wrong : shapeOk maxDimension d v s ≡ true → (length cells ≡ listLength d s * 2 → ⊥) → refused 3 ≡ wingRead d v s cells x y
   unfolding wingRead wingRules
   wing-wrong ok n =
-      sym (hosted-wrong (shapeOk maxDimension d v s) cells (listLength d s) (wingOutcome (wingInput d v s (words16 cells) x)) ok n
-      (λ w. sym (wing.refuses (wingInput d v s (words16 cells) x) [] 3 (rw (ok, ne-eqb (length (words16 cells)) (listLength d s) w)) .0)))
+      sym (hosted-wrong (shapeOk maxDimension d v s) cells (listLength d s) (wingOutcome wingTold) ok n
+      (λ w. sym (wing.refuses wingTold [] 3 (rw (ok, ne-eqb (length (words16 cells)) (listLength d s) w)) .0)))
 
-  pub wing-right : length cells ≡ listLength d s * 2 → wingOutcome (wingInput d v s (words16 cells) x) ≡ wingRead d v s cells x
+  pub wing-right : length cells ≡ listLength d s * 2 → wingOutcome wingTold ≡ wingRead d v s cells x y
   unfolding wingRead
-  wing-right e = sym (hosted-right (shapeOk maxDimension d v s) cells (listLength d s) (wingOutcome (wingInput d v s (words16 cells) x)) e)
+  wing-right e = sym (hosted-right (shapeOk maxDimension d v s) cells (listLength d s) (wingOutcome wingTold) e)
 
 -- the largest list and the largest table
 pub list-fits : (d s : ℕ) → d ≤ maxDimension → s ≤ maxCells → listLength d s ≤ listLength maxDimension maxCells
@@ -77,35 +96,60 @@ list-fits d s hd hs = mul-le-mul {m₁ = listSize d} {m₂ = listSize maxDimensi
 pub table-fits : (d s : ℕ) → d ≤ maxDimension → s ≤ maxCells → tableLength d s ≤ tableRoom
 table-fits d s hd hs = mul-le-mul {m₁ = recordSize d} {m₂ = recordSize maxDimension} hs (omega arith)
 
-wing-same : (d v s : ℕ) (ws : List ℕ) (x : ℕ) → wingOutcome (wingInput d v s ws (lesser x tableRoom)) ≡ wingOutcome (wingInput d v s ws x)
-unfolding wingOutcome wingRules solidRules
-wing-same d v s ws x = go (shapeOk maxDimension d v s) refl
-  where
-    go : (t : Bool) → shapeOk maxDimension d v s ≡ t →
-        wingOutcome (wingInput d v s ws (lesser x tableRoom)) ≡ wingOutcome (wingInput d v s ws x)
-    go true e = let l = limits-are maxDimension d v s (ap not e) in
-        rw (room-cut x tableRoom (tableLength d s) (table-fits d s (l .dimension) (l .cells))) refl
-    go false e = rw e refl
+-- an array that is long enough for the table of so many cells, if there is such a table
+pub small-fits : (d s most : ℕ) → smallTable d s most ≡ true → d ≤ maxDimension → s ≤ maxCells → tableLength d s ≤ most
+small-fits d s most e hd hs =
+    let low : (ltb maxCells s || leb (tableLength d s) most) ≡ true =
+    rw (le-ltb maxDimension d hd) at e in
+    leb-true (tableLength d s) most (rw (le-ltb maxCells s hs) at low)
 
-wing-room : (d v s : ℕ) (cells : List ℕ) (x : ℕ) → wingRead d v s cells (lesser x tableRoom) ≡ wingRead d v s cells x
-unfolding wingRead
-wing-room d v s cells x = rw (wing-same d v s (words16 cells) x) refl
+pub all-small : (d s : ℕ) → smallTable d s tableRoom ≡ true
+all-small d s = go (ltb maxDimension d) (ltb maxCells s) refl refl
+  where
+    go : (x y : Bool) → ltb maxDimension d ≡ x → ltb maxCells s ≡ y → (x || (y || leb (tableLength d s) tableRoom)) ≡ true
+    go true y e f = refl
+    go false true e f = refl
+    go false false e f =
+        le-leb (tableLength d s) tableRoom (table-fits d s (ltb-false maxDimension d e) (ltb-false maxCells s f))
+
+module _ (d v s most : ℕ) (small : smallTable d s most ≡ true) where
+  wing-same : (ws : List ℕ) (x y : ℕ) → wingOutcome (wingInput d v s ws (lesser x most) y) ≡ wingOutcome (wingInput d v s ws x y)
+  unfolding wingOutcome wingRules solidRules
+  wing-same ws x y = go (shapeOk maxDimension d v s) refl
+    where
+      go : (t : Bool) → shapeOk maxDimension d v s ≡ t →
+          wingOutcome (wingInput d v s ws (lesser x most) y) ≡ wingOutcome (wingInput d v s ws x y)
+      go true e = let l = limits-are maxDimension d v s (ap not e) in
+          rw (room-cut x most (tableLength d s) (small-fits d s most small (l .dimension) (l .cells))) refl
+      go false e = rw e refl
+
+  wing-room : (cells : List ℕ) (x y : ℕ) → wingRead d v s cells (lesser x most) y ≡ wingRead d v s cells x y
+  unfolding wingRead
+  wing-room cells x y = rw (wing-same (words16 cells) x y) refl
 
 -- with so many words of room as are lent
-pub wing-host : (d v s : ℕ) (cells out : List ℕ) (x : ℕ) (o : Outcome ℕ) → x ≡ lesser (wordsIn out) tableRoom →
-    o ≡ wingRead d v s cells x →
-    (hostAnswer o ≡ hostWing d v s cells out) × (after o (bytesOf (tableOfList (hostList d v s cells out))) out ≡ hostWingBuffer d v s cells out)
-unfolding wingRead hostWing hostWingOutcome hostWingBuffer
-wing-host d v s cells out x o room e =
-    let q = e ∙ ap (wingRead d v s cells) room ∙ wing-room d v s cells (wordsIn out) in
-    (ap hostAnswer q, ap (λ r. after r (bytesOf (tableOfList (hostList d v s cells out))) out) q)
+module _ (d v s : ℕ) (cells out further : List ℕ) where
+  abbrev hostTold : Listed
+  hostTold = hostList d v s cells
 
-pub wing-long : (d v s : ℕ) (cells : List ℕ) (x k : ℕ) → wingRead d v s cells x ≡ accepted k →
-    k ≡ length (tableOfList (record { d = d; v = v; s = s; words = words16 cells }))
+  pub wing-host : (x most : ℕ) (o : Outcome ℕ) → smallTable d s most ≡ true → x ≡ lesser (wordsIn out) most →
+      o ≡ wingRead d v s cells x (wordsIn further) →
+      (hostAnswer o ≡ hostWing d v s cells out further) × (after o (bytesOf (tableOfList hostTold)) out ≡ hostWingBuffer d v s cells out further)
+      × (after o (bytesOf (uploadedOfList hostTold)) further ≡ hostUploadedBuffer d v s cells out further)
+  unfolding wingRead hostWing hostWingOutcome hostWingBuffer hostUploadedBuffer
+  wing-host x most o small room e =
+      let q = e ∙ ap (λ r. wingRead d v s cells r (wordsIn further)) room ∙ wing-room d v s most small cells (wordsIn out) (wordsIn further) in (
+        ap hostAnswer q,
+        ap (λ r. after r (bytesOf (tableOfList hostTold)) out) q,
+        ap (λ r. after r (bytesOf (uploadedOfList hostTold)) further) q,
+      )
+
+pub wing-long : (d v s : ℕ) (cells : List ℕ) (x y k : ℕ) → wingRead d v s cells x y ≡ accepted k →
+    k ≡ length (tableOfList (hostList d v s cells))
 unfolding wingRead
-wing-long d v s cells x k e =
-    accepted-long (record { d = d; v = v; s = s; words = words16 cells }) x k
-    (hosted-accepted (shapeOk maxDimension d v s) cells (wingOutcome (wingInput d v s (words16 cells) x)) k e)
+wing-long d v s cells x y k e =
+    accepted-long (wingInput d v s (words16 cells) x y) k
+    (hosted-accepted (shapeOk maxDimension d v s) cells (wingOutcome (wingInput d v s (words16 cells) x y)) k e)
 
 or-right : (a : Bool) {b : Bool} → b ≡ true → (a || b) ≡ true
 or-right true e = refl

@@ -19,7 +19,7 @@ use borrow.Author.Tests.{leb-true, leb-false, le-ltb}
 use Rattle.words.specs.Bytes.{bytesOf}
 use Rattle.words.proofs.Bytes.{bytes-length}
 use Rattle.rules.specs.Calls.{Outcome, accepted, refused, after}
-use Rattle.winged.specs.Inner.Sent.{lesser, tableRoom, countOf, sent}
+use Rattle.winged.specs.Inner.Sent.{lesser, countOf, sent}
 
 pub lesser-le : (a b : ℕ) → (lesser a b ≤ a) × (lesser a b ≤ b)
 lesser-le a b = go (leb a b) refl
@@ -40,15 +40,15 @@ module _ (T t w out : List ℕ) where
   count-fits (accepted k) long e = omega (arith, long k refl, ap length e, length-append T (drop (length T) t))
   count-fits (refused k) long e = omega arith
 
-  pub sent-is : (o : Outcome ℕ) → ((k : ℕ) → o ≡ accepted k → k ≡ length T) → w ≡ after o T t → sent o w out ≡ after o (bytesOf T) out
+  pub sent-is : (o : Outcome ℕ) → ((k : ℕ) → o ≡ accepted k → k ≡ length T) → w ≡ after o T t →
+      sent o w out ≡ after o (bytesOf T) out
   sent-is (accepted k) long e =
       let twice : k * 2 ≡ length (bytesOf T) = omega (arith, long k refl, bytes-length T) in
       ap₂ (λ (a : List ℕ) (n : ℕ). bytesOf a ++ drop n out) (ap (take k) e ∙ take-at T (drop (length T) t) k (sym (long k refl))) twice
   sent-is (refused k) long e = refl
 
-pub room-fits : (m : ℕ) (words out : List ℕ) → m ≡ lesser (length out / 2) tableRoom → length words ≡ tableRoom →
-    (m ≤ length words) × (m * 2 ≤ length out)
-room-fits m words out e long = let l = lesser-le (length out / 2) tableRoom in (omega (arith, l .1), omega (arith, l .0))
+pub room-fits : (m : ℕ) (words out : List ℕ) → m ≡ lesser (length out / 2) (length words) → (m ≤ length words) × (m * 2 ≤ length out)
+room-fits m words out e = let l = lesser-le (length out / 2) (length words) in (omega (arith, l .1), omega (arith, l .0))
 
 -- w is what a call left in the first m words of an array: accepted, it answers the count of its words T, and they stand there
 pub record Relayed (words out w T : List ℕ) (m : ℕ) (o : Outcome ℕ) : Type 0 where

@@ -2,6 +2,7 @@
 --   hostAnswer f o        the count of words written, or minus the refusal's number
 --   hostWing, hostSweep, hostFaces                  the answers
 --   hostWingBuffer, hostSweepBuffer, hostFacesBuffer    the lent bytes after the call
+--   hostUploadedBuffer    the further bytes that wing is lent, for the wings in uploaded order, after the call
 -- An input of an odd number of bytes is row 3; of an output only whole words count.
 use mathlib.Core.Bool.{Bool, not, cond, _&&_}
 use mathlib.Core.List.{List}
@@ -16,6 +17,7 @@ use Rattle.rules.specs.Calls.{Outcome, accepted, refused, after}
 use Rattle.solids.specs.Accept.{Listed}
 use Rattle.records.specs.Layout.{faceSize, facesWords}
 use Rattle.solids.specs.Table.{tableOfList}
+use Rattle.solids.specs.Uploaded.{uploadedOfList}
 use Rattle.wing.specs.Wing.{WingInput, wingOutcome}
 use Rattle.sweep.specs.Sweep.{SweepInput, sweptWords, sweepOutcome}
 use Rattle.boundary.specs.Faces.{FacesInput, boundaryCells, facesOutcome}
@@ -32,18 +34,24 @@ hostAnswer (refused n) = negℤ (pos n)
 abbrev pub wordsIn : List ℕ → ℕ
 wordsIn out = length out / 2
 
-module _ (d v s : ℕ) (cells out : List ℕ) where
-  abbrev pub hostList : Listed
-  hostList = record { d = d; v = v; s = s; words = words16 cells }
+abbrev pub hostList : ℕ → ℕ → ℕ → List ℕ → Listed
+hostList d v s cells = record { d = d; v = v; s = s; words = words16 cells }
+
+module _ (d v s : ℕ) (cells out further : List ℕ) where
+  abbrev pub hostWingInput : WingInput
+  hostWingInput = record { list = hostList d v s cells; room = wordsIn out; uploadedRoom = wordsIn further }
 
   unfoldable pub hostWingOutcome : Outcome ℕ
-  hostWingOutcome = hosted (shapeOk maxDimension d v s) cells (wingOutcome (record { list = hostList; room = wordsIn out }))
+  hostWingOutcome = hosted (shapeOk maxDimension d v s) cells (wingOutcome hostWingInput)
 
   unfoldable pub hostWing : ℤ
   hostWing = hostAnswer hostWingOutcome
 
   unfoldable pub hostWingBuffer : List ℕ
-  hostWingBuffer = after hostWingOutcome (bytesOf (tableOfList hostList)) out
+  hostWingBuffer = after hostWingOutcome (bytesOf (tableOfList (hostList d v s cells))) out
+
+  unfoldable pub hostUploadedBuffer : List ℕ
+  hostUploadedBuffer = after hostWingOutcome (bytesOf (uploadedOfList (hostList d v s cells))) further
 
 module _ (d v s h : ℕ) (table out : List ℕ) where
   abbrev pub hostSweepInput : SweepInput

@@ -1,8 +1,9 @@
 // The calls from bytes to bytes, by way of a lent array of words.
 ghost use mathlib.Core.Path.{_≡_};
+ghost use mathlib.Core.Bool.{true};
 ghost use lib.ListN.{length};
-ghost use Rattle.winged.specs.Host.{hostWing, hostWingBuffer, hostSweep, hostSweepBuffer};
-ghost use Rattle.winged.specs.Inner.Sent.{tableRoom};
+ghost use Rattle.winged.specs.Host.{hostWing, hostWingBuffer, hostUploadedBuffer, hostSweep, hostSweepBuffer};
+ghost use Rattle.winged.specs.Inner.Sent.{tableRoom, smallTable};
 use crate::reading::sweep_words;
 use crate::reading::wing_words;
 use crate::sending::room;
@@ -15,13 +16,16 @@ pub(crate) fn wing_bytes(
     cells: &[u8],
     words: &mut [u16],
     table: &mut [u8],
+    uploaded: &mut [u8],
 ) -> i64
-    requires { ⌜ length (now words) ≡ tableRoom ⌝ }
-    ensures answer { λ r. ⌜ r ≡ hostWing d v s (now (cells .entry)) (now (table .entry)) ⌝ }
-    ensures buffer { λ _. ⌜ now (table .exit) ≡ hostWingBuffer d v s (now (cells .entry)) (now (table .entry)) ⌝ }
+    requires { ⌜ smallTable d s (length (now words)) ≡ true ⌝ }
+    ensures answer { λ r. ⌜ r ≡ hostWing d v s (now (cells .entry)) (now (table .entry)) (now (uploaded .entry)) ⌝ }
+    ensures buffer { λ _. ⌜ now (table .exit) ≡ hostWingBuffer d v s (now (cells .entry)) (now (table .entry)) (now (uploaded .entry)) ⌝ }
+    ensures uploaded { λ _. ⌜ now (uploaded .exit)
+        ≡ hostUploadedBuffer d v s (now (cells .entry)) (now (table .entry)) (now (uploaded .entry)) ⌝ }
 {
-    let m = room(table.len());
-    let a = wing_words(d, v, s, cells, &mut words[..m]);
+    let m = room(table.len(), words.len());
+    let a = wing_words(d, v, s, cells, &mut words[..m], uploaded);
     send(a, &words[..m], table)
 }
 
@@ -38,7 +42,7 @@ pub(crate) fn sweep_bytes(
     ensures answer { λ r. ⌜ r ≡ hostSweep d v s h (now (table .entry)) (now (swept .entry)) ⌝ }
     ensures buffer { λ _. ⌜ now (swept .exit) ≡ hostSweepBuffer d v s h (now (table .entry)) (now (swept .entry)) ⌝ }
 {
-    let m = room(swept.len());
+    let m = room(swept.len(), words.len());
     let a = sweep_words(d, v, s, h, table, &mut words[..m]);
     send(a, &words[..m], swept)
 }

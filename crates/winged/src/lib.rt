@@ -1,6 +1,7 @@
 // Winged solids for a host in C: numbers and lent bytes in, a count of words or minus a refusal's number out.
 ghost use mathlib.Core.Path.{_≡_};
-ghost use Rattle.winged.specs.Host.{hostWing, hostWingBuffer, hostSweep, hostSweepBuffer, hostFaces, hostFacesBuffer, hostAnswer};
+ghost use Rattle.winged.specs.Host.{hostWing, hostWingBuffer, hostUploadedBuffer, hostSweep, hostSweepBuffer};
+ghost use Rattle.winged.specs.Host.{hostFaces, hostFacesBuffer, hostAnswer};
 ghost use Prim.Native.Nat.{_/_};
 ghost use lib.ListN.{length};
 ghost use Rattle.hosting.specs.Lists.{hostListOutcome, hostListBuffer};
@@ -11,25 +12,44 @@ use crate::faces::faces_bytes;
 use crate::host::sweep_bytes;
 use crate::host::wing_bytes;
 use crate::sending::answered;
+use crate::sending::is_small;
 use hosting::lists::list_bytes;
 use hosting::moving::move_bytes;
 use hosting::reading::read_bytes;
 use hosting::step_bits::StepBits;
 use page::key::key_text;
+use records::sizes::SMALL_ROOM;
 use records::sizes::TABLE_ROOM;
 
 mod faces;
 mod host;
 mod reading;
 mod sending;
+mod uploaded;
 
 #[no_mangle]
-pub extern "C" fn winged_wing(d: u32, v: u32, s: u32, cells: &[u8], table: &mut [u8]) -> i64
-    ensures answer { λ r. ⌜ r ≡ hostWing d v s (now (cells .entry)) (now (table .entry)) ⌝ }
-    ensures buffer { λ _. ⌜ now (table .exit) ≡ hostWingBuffer d v s (now (cells .entry)) (now (table .entry)) ⌝ }
+pub extern "C" fn winged_wing(
+    d: u32,
+    v: u32,
+    s: u32,
+    cells: &[u8],
+    table: &mut [u8],
+    uploaded: &mut [u8],
+) -> i64
+    ensures answer { λ r. ⌜ r ≡ hostWing d v s (now (cells .entry)) (now (table .entry)) (now (uploaded .entry)) ⌝ }
+    ensures buffer { λ _. ⌜ now (table .exit) ≡ hostWingBuffer d v s (now (cells .entry)) (now (table .entry)) (now (uploaded .entry)) ⌝ }
+    ensures uploaded { λ _. ⌜ now (uploaded .exit)
+        ≡ hostUploadedBuffer d v s (now (cells .entry)) (now (table .entry)) (now (uploaded .entry)) ⌝ }
 {
+    let d = d as usize;
+    let v = v as usize;
+    let s = s as usize;
+    if is_small(d, s, SMALL_ROOM) {
+        let mut words = [0u16; SMALL_ROOM];
+        return wing_bytes(d, v, s, cells, &mut words, table, uploaded);
+    }
     let mut words = [0u16; TABLE_ROOM];
-    wing_bytes(d as usize, v as usize, s as usize, cells, &mut words, table)
+    wing_bytes(d, v, s, cells, &mut words, table, uploaded)
 }
 
 #[no_mangle]
@@ -72,10 +92,12 @@ pub extern "C" fn winged_read(
     cells: &mut [u8],
     points: &mut [u8],
 ) -> i64
-    ensures answer { λ r. ⌜ r ≡ hostAnswer (hostReadOutcome (now (file .entry)) (now (header .entry)) (now (cells .entry)) (now (points .entry))) ⌝ }
+    ensures answer { λ r. ⌜ r
+        ≡ hostAnswer (hostReadOutcome (now (file .entry)) (now (header .entry)) (now (cells .entry)) (now (points .entry))) ⌝ }
     ensures header { λ _. ⌜ now (header .exit)
         ≡ hostReadHeader (now (file .entry)) (now (header .entry)) (now (cells .entry)) (now (points .entry)) ⌝ }
-    ensures cells { λ _. ⌜ now (cells .exit) ≡ hostReadCells (now (file .entry)) (now (header .entry)) (now (cells .entry)) (now (points .entry)) ⌝ }
+    ensures cells { λ _. ⌜ now (cells .exit)
+        ≡ hostReadCells (now (file .entry)) (now (header .entry)) (now (cells .entry)) (now (points .entry)) ⌝ }
     ensures points { λ _. ⌜ now (points .exit)
         ≡ hostReadPoints (now (file .entry)) (now (header .entry)) (now (cells .entry)) (now (points .entry)) ⌝ }
 {

@@ -5,21 +5,35 @@ ghost use lib.IntN.{pos, negℤ};
 ghost use lib.ListN.{length};
 ghost use Rattle.rules.specs.Numbers.{outcomeOf};
 ghost use Rattle.winged.specs.Host.{hostAnswer};
-ghost use Rattle.winged.specs.Inner.Sent.{lesser, tableRoom, countOf, sent};
-use records::sizes::TABLE_ROOM;
+ghost use Rattle.winged.specs.Inner.Sent.{lesser, smallTable, countOf, sent};
+use records::sizes::table_words;
+use rules::limits::Shape;
 use rules::refusal::Answer;
 use rules::refusal::number;
 use words::copy::encode;
 
-// Whole words of so many bytes, at most as many as the largest table has.
-pub fn room(bytes: usize) -> usize
-    ensures { λ r. ⌜ r ≡ lesser (bytes / 2) tableRoom ⌝ }
+// Whole words of so many bytes, at most so many.
+pub fn room(bytes: usize, most: usize) -> usize
+    ensures { λ r. ⌜ r ≡ lesser (bytes / 2) most ⌝ }
 {
     let n = bytes / 2;
-    if n <= TABLE_ROOM {
+    if n <= most {
         return n;
     }
-    TABLE_ROOM
+    most
+}
+
+// Whether a table of s cells of dimension d has at most so many words, or more cells or dimensions than any.
+pub fn is_small(d: usize, s: usize, most: usize) -> bool
+    ensures { λ r. ⌜ r ≡ smallTable d s most ⌝ }
+{
+    if Shape::MAX_DIMENSION < d {
+        return true;
+    }
+    if Shape::MAX_CELLS < s {
+        return true;
+    }
+    table_words(d, s) <= most
 }
 
 pub fn minus(k: u8) -> i64

@@ -43,5 +43,5 @@ sweptKey d n v s h step table points room =
 
 unfoldable pub wingedKey : ℕ → ℕ → ℕ → ℕ → ℕ → Step → List ℕ → List Float → ℕ → Outcome (List ℕ)
 wingedKey d n v s h step cells points room =
-    let i = wingInput d v s cells wordRoom in
+    let i = wingInput d v s cells wordRoom wordRoom in
     thenCall (wingOutcome i) (λ t. sweptKey d n v s h step (tableOfList (i .list)) points room)

@@ -1,4 +1,4 @@
--- `wing` answers `wingOutcome` and leaves `wingBuffer`: each return is a rule's, or what becomes of the list. Assumes nothing.
+-- `wing_table` answers `wingOutcome` and leaves `wingBuffer`: each return is a rule's, or what becomes of the list. Assumes nothing.
 use mathlib.Core.Path.{_≡_, refl, sym, ap, _∙_}
 use mathlib.Core.Bool.{false, not}
 use Prim.Native.Nat.{_*_}
@@ -12,8 +12,8 @@ use Rattle.rules.proofs.InLimits.{Limits, limits-are}
 use Rattle.records.specs.Layout.{listSize}
 use Rattle.wing.specs.Wing.{wingRules}
 use Rattle.wing.proofs.Order.{refuses, passes}
-use Rattle.wing.proofs.wing.Statement.{statement}
-use Rattle.wing.proofs.wing.Tie as tie
+use Rattle.wing.proofs.wing_table.Statement.{statement}
+use Rattle.wing.proofs.wing_table.Tie as tie
 
 abbrev start : tie.After-within → tie.Start
 start c = search needs
@@ -57,10 +57,10 @@ write-table-requires c κs =
 returns-3 : tie.Need-returns-3
 returns-3 c =
     let w = c .before .before .write-table .ensures in
-    passes _ _ _ _ _ (two-passes (search needs)) (three-passes (search needs)) _ _ (w .0) (w .1)
+    passes _ _ _ _ _ _ (two-passes (search needs)) (three-passes (search needs)) _ _ (w .0) (w .1)
 
-pub wing-spec : {M : Type 1} → statement M
-wing-spec =
+pub wing-table-spec : {M : Type 1} → statement M
+wing-table-spec =
     tie.close
     (tie.spec
     (λ c κs. search needs)

@@ -1,15 +1,16 @@
 -- Between the calls and C: outcomes of what was decoded, and what of the words goes to the lent bytes.
 --   lesser a b        the lesser of two numbers
 --   tableRoom         words of the largest table
+--   smallTable d s most    a table of s cells of dimension d has at most so many words, or there is none such
 --   countOf o         the count of an accepted outcome; 0 of a refused one
 --   sent o t out      the lent bytes when the outcome's count of the words t has gone to their start
---   wingRead, sweepRead    the outcomes in a room of so many words
+--   wingRead, sweepRead    the outcomes in rooms of so many words
 --   faceBytes, facesBytes   the bytes of a face's record, and of those of a list of faces
 --   facesAnswer, facesAfter    what faces answers and leaves in the lent bytes, told from the table's words
-use mathlib.Core.Bool.{cond, _&&_}
+use mathlib.Core.Bool.{Bool, cond, _&&_, _||_}
 use mathlib.Core.List.{List, _++_, map}
 use Prim.Native.Nat.{ℕ, _*_}
-use lib.Dec.{leb}
+use lib.Dec.{leb, ltb}
 use lib.IntN.{ℤ}
 use lib.ListN.{take, drop}
 use Rattle.words.specs.Records.{concat}
@@ -30,6 +31,9 @@ lesser a b = cond (leb a b) a b
 abbrev pub tableRoom : ℕ
 tableRoom = tableLength maxDimension maxCells
 
+abbrev pub smallTable : ℕ → ℕ → ℕ → Bool
+smallTable d s most = ltb maxDimension d || (ltb maxCells s || leb (tableLength d s) most)
+
 abbrev pub countOf : Outcome ℕ → ℕ
 countOf (accepted n) = n
 countOf (refused n) = 0
@@ -38,8 +42,8 @@ abbrev pub sent : Outcome ℕ → List ℕ → List ℕ → List ℕ
 sent (accepted n) t out = bytesOf (take n t) ++ drop (n * 2) out
 sent (refused n) t out = out
 
-unfoldable pub wingRead : ℕ → ℕ → ℕ → List ℕ → ℕ → Outcome ℕ
-wingRead d v s cells room = hosted (shapeOk maxDimension d v s) cells (wingOutcome (wingInput d v s (words16 cells) room))
+unfoldable pub wingRead : ℕ → ℕ → ℕ → List ℕ → ℕ → ℕ → Outcome ℕ
+wingRead d v s cells room further = hosted (shapeOk maxDimension d v s) cells (wingOutcome (wingInput d v s (words16 cells) room further))
 
 unfoldable pub sweepRead : ℕ → ℕ → ℕ → ℕ → List ℕ → ℕ → Outcome ℕ
 sweepRead d v s h table room = hosted (shapeOk maxSource d v s && stepsOk h) table (sweepOutcome (sweepInput d v s h (words16 table) room))

@@ -11,7 +11,8 @@ use Rattle.solids.specs.Table.{tableOfList}
 use Rattle.wing.specs.Wing.{WingInput, wingInput, wingOutcome}
 use Rattle.page.specs.Key.{wordRoom}
 use Rattle.page.specs.Inner.Stages.{counted, pageAfter, sweptKey}
-use Rattle.page.proofs.Staged.{winged-front, winged-refused, winged-accepted}
+use Rattle.wing.proofs.Lengths.{winged-front}
+use Rattle.page.proofs.Staged.{winged-refused, winged-accepted}
 use Rattle.page.proofs.stages.winged_key.Statement.{statement}
 use Rattle.page.proofs.stages.winged_key.Tie as tie
 
@@ -19,10 +20,10 @@ abbrev start : tie.After-wing → tie.Start
 start c = search needs
 
 abbrev told : tie.After-wing → WingInput
-told c = let a = start c .args in wingInput (a .d) (a .v) (a .s) (a .cells .now) wordRoom
+told c = let a = start c .args in wingInput (a .d) (a .v) (a .s) (a .cells .now) wordRoom wordRoom
 
 abbrev call : tie.After-m → tie.After-wing
-call c = c .before .before .before
+call c = search needs
 
 abbrev buffer : tie.After-m → List ℕ
 buffer c = call c .wing .last .1 .1 .1 .1 .0
@@ -31,7 +32,7 @@ ok : (c : tie.After-m) → wingOutcome (told (call c)) ≡ accepted (c .m .given
 ok c = sym (call c .wing .ensures .0) ∙ ap outcomeOf (c .m .given .1)
 
 front : (c : tie.After-m) → (c .m .given .0 .0 ≤ length (buffer c)) × (take (c .m .given .0 .0) (buffer c) ≡ tableOfList (told (call c) .list))
-front c = winged-front (told (call c)) _ (buffer c) (c .m .given .0 .0) (call c .wing .ensures .1) (ok c)
+front c = winged-front (told (call c)) _ (buffer c) (c .m .given .0 .0) (call c .wing .ensures .1 .0) (ok c)
 
 array-share-prefix-table : tie.Need-array-share-prefix-table
 array-share-prefix-table c = front (c .before) .0
@@ -47,12 +48,13 @@ returns c =
     let next = c .before .before .swept-key .ensures in
     let stage =
     ap (λ ws. sweptKey (a .d) (a .n) (a .v) (a .s) (a .h) (a .step) ws (a .points .now) (length page)) (front m .1)
-    ∙ sym (winged-accepted (a .d) (a .n) (a .v) (a .s) (a .h) (a .step) (a .cells .now) (a .points .now) (length page) (m .m .given .0 .0) (ok m)) in
+    ∙ sym (winged-accepted (a .d) (a .n) (a .v) (a .s) (a .h) (a .step) (a .cells .now) (a .points .now) (length page)
+    (m .m .given .0 .0) (ok m)) in
     (next .0 ∙ ap counted stage, next .1 ∙ ap (λ o. pageAfter o page) stage)
 
 returns-2 : tie.Need-returns-2
 returns-2 c =
-    let call = c .before .before .before .before in
+    let call : tie.After-wing = search needs in
     let a = start call .args in
     let page = a .page .now in
     let stage =
@@ -65,6 +67,7 @@ pub winged-key-spec : {M : Type 1} → statement M
 winged-key-spec =
     tie.close
     (tie.spec
+    (λ c. search needs)
     (λ c. search needs)
     (λ c κs. search needs)
     (λ c. search needs)

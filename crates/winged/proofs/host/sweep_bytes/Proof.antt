@@ -1,5 +1,5 @@
 -- The call sweep from bytes to bytes. Assumes nothing.
-use mathlib.Core.Path.{sym, _∙_}
+use mathlib.Core.Path.{sym, ap, _∙_}
 use Prim.Native.Nat.{_*_, _≤_}
 use borrow.Author.Needs.{needs}
 use lib.ListN.{length, take}
@@ -9,6 +9,8 @@ use mir.ValLaws.{toZ-ofZ}
 use Rattle.words.specs.Bytes.{words16}
 use Rattle.sweep.specs.Sweep.{sweptWords, sweepInput}
 use Rattle.rules.specs.Numbers.{outcomeOf}
+use Rattle.winged.specs.Host.{wordsIn}
+use Rattle.winged.specs.Inner.Sent.{lesser}
 use Rattle.winged.proofs.Outward.{room-fits, Relayed, lent-fits, lent-long, send-fits, relayed}
 use Rattle.winged.proofs.Inward.{sweep-host, sweep-long}
 use Rattle.winged.proofs.host.sweep_bytes.Statement.{statement}
@@ -17,7 +19,7 @@ use Rattle.winged.proofs.host.sweep_bytes.Tie as tie
 -- the room
 m : (r : tie.After-room) → let s : tie.Start = search needs in
     (r .room .result ≤ length (s .args .words .now)) × (r .room .result * 2 ≤ length (s .args .swept .now))
-m r = let s : tie.Start = search needs in room-fits (r .room .result) (s .args .words .now) (s .args .swept .now) (r .room .ensures) (s .pre)
+m r = let s : tie.Start = search needs in room-fits (r .room .result) (s .args .words .now) (s .args .swept .now) (r .room .ensures)
 
 -- what the call leaves in it
 relay : (c : tie.After-words) →
@@ -47,7 +49,7 @@ returns c =
     let r : tie.After-room = search needs in
     let w : tie.After-words = search needs in
     let send = c .before .before .send in
-    let room = length-take-le (r .room .result) (a .words .now) (m r .0) ∙ r .room .ensures in
+    let room = length-take-le (r .room .result) (a .words .now) (m r .0) ∙ r .room .ensures ∙ ap (lesser (wordsIn (a .swept .now))) (s .pre) in
     let host = sweep-host (a .d) (a .v) (a .s) (a .h) (a .table .now) (a .swept .now) _ _ room (w .before .sweep-words .ensures .0) in
     (toZ-ofZ w64 _ (search needs) ∙ send .ensures .0 ∙ host .0, send .ensures .1 ∙ relayed (relay w) ∙ host .1)
 

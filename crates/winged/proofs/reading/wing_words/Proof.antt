@@ -1,24 +1,31 @@
 -- The call wing on bytes: each return is the outcome of its row, and the call is lent the decoded words. Assumes nothing.
 use mathlib.Core.Path.{_≡_, refl, sym, ap, _∙_}
 use mathlib.Core.Bool.{true, not}
-use Prim.Native.Nat.{_*_, _≤_}
+use mathlib.Core.List.{List}
+use Prim.Native.Nat.{ℕ, _*_, _≤_}
 use native.Mathlib.Omega.{arith}
 use borrow.Author.Needs.{needs}
 use borrow.Author.Tests.{not-true, not-false}
 use lib.ListN.{length, take}
 use lib.Seq.{length-take-le}
-use Rattle.words.specs.Bytes.{words16}
+use Rattle.words.specs.Bytes.{words16, bytesOf}
 use Rattle.rules.specs.Limits.{maxDimension, maxCells}
 use Rattle.rules.specs.Shapes.{shapeOk}
+use Rattle.rules.specs.Calls.{after}
+use Rattle.rules.specs.Numbers.{outcomeOf}
 use Rattle.records.specs.Layout.{listLength}
-use Rattle.wing.specs.Wing.{wingInput, wingOutcome, wingBuffer}
+use Rattle.solids.specs.Accept.{Listed}
+use Rattle.solids.specs.Table.{tableOfList}
+use Rattle.solids.specs.Uploaded.{uploadedOfList}
+use Rattle.wing.specs.Wing.{wingInput, wingOutcome}
 use Rattle.rules.proofs.InLimits.{Limits, limits-are}
-use Rattle.winged.proofs.Inward.{decoded-front, list-fits, wing-after, wing-outside, wing-wrong, wing-right}
+use Rattle.winged.specs.Host.{wordsIn}
+use Rattle.winged.proofs.Inward.{decoded-front, list-fits, wing-outside, wing-wrong, wing-right}
 use Rattle.winged.proofs.reading.wing_words.Statement.{statement}
 use Rattle.winged.proofs.reading.wing_words.Tie as tie
 
 abbrev start : tie.Else1 → tie.Start
-start c = c .before .before .before .before
+start c = search needs
 
 inside : (c : tie.Else1) → let a = start c .args in shapeOk maxDimension (a .d) (a .v) (a .s) ≡ true
 inside c = sym (c .before .within .ensures) ∙ not-false _ (c .if1 .left)
@@ -40,14 +47,14 @@ returns : tie.Need-returns
 returns c =
     let s : tie.Start = search needs in
     let a = s .args in
-    (wing-outside (a .d) (a .v) (a .s) (a .cells .now) (length (a .out .now)) (sym (c .before .within .ensures) ∙ not-true _ (c .if1 .taken)), refl)
+    (wing-outside (a .d) (a .v) (a .s) (a .cells .now) _ _ (sym (c .before .within .ensures) ∙ not-true _ (c .if1 .taken)), (refl, refl))
 
 returns-2 : tie.Need-returns-2
 returns-2 c =
     let one : tie.Else1 = search needs in
     let n : tie.After-list-words = search needs in
     let a = start one .args in
-    (wing-wrong (a .d) (a .v) (a .s) (a .cells .now) (length (a .out .now)) (inside one) (λ e. c .if2 .taken (e ∙ sym (twice n))), refl)
+    (wing-wrong (a .d) (a .v) (a .s) (a .cells .now) _ _ (inside one) (λ e. c .if2 .taken (e ∙ sym (twice n))), (refl, refl))
 
 decode-requires : tie.Need-decode-requires
 decode-requires c κs = let two : tie.Else2 = search needs in omega (arith, few (search needs), two .if2 .left)
@@ -61,21 +68,26 @@ front c =
     let one : tie.Else1 = search needs in
     decoded-front (start one .args .cells .now) (c .decode .last .1 .0) _ _ (c .decode .ensures) (two .if2 .left)
 
-slice-aggregate-wing : tie.Need-slice-aggregate-wing
-slice-aggregate-wing c = sym (length-take-le _ _ (front (search needs) .0))
+slice-aggregate-wing-list : tie.Need-slice-aggregate-wing-list
+slice-aggregate-wing-list c = sym (length-take-le _ _ (front (search needs) .0))
 
 returns-3 : tie.Need-returns-3
 returns-3 c =
-    let call : tie.After-wing = search needs in
+    let call : tie.After-wing-list = search needs in
     let two : tie.Else2 = search needs in
     let n : tie.After-list-words = search needs in
     let a = start (n .before) .args in
     let words = front (search needs) .1 in
     let x = length (a .out .now) in
-    let o = call .wing .ensures .0 ∙ ap (λ ws. wingOutcome (wingInput (a .d) (a .v) (a .s) ws x)) words in (
-      o ∙ wing-right (a .d) (a .v) (a .s) (a .cells .now) x (two .if2 .left ∙ twice n),
-      call .wing .ensures .1 ∙ ap (λ ws. wingBuffer (wingInput (a .d) (a .v) (a .s) ws x) (a .out .now)) words
-          ∙ wing-after _ (wingInput (a .d) (a .v) (a .s) (words16 (a .cells .now)) x) (a .out .now) o,
+    let y = wordsIn (a .uploaded .now) in
+    let list : List ℕ → Listed = λ ws. record { d = a .d; v = a .v; s = a .s; words = ws } in
+    let o = outcomeOf (call .wing-list .result) in (
+      call .wing-list .ensures .0 ∙ ap (λ ws. wingOutcome (wingInput (a .d) (a .v) (a .s) ws x y)) words
+          ∙ wing-right (a .d) (a .v) (a .s) (a .cells .now) x y (two .if2 .left ∙ twice n),
+      (
+        call .wing-list .ensures .1 .0 ∙ ap (λ ws. after o (tableOfList (list ws)) (a .out .now)) words,
+        call .wing-list .ensures .1 .1 ∙ ap (λ ws. after o (bytesOf (uploadedOfList (list ws))) (a .uploaded .now)) words,
+      ),
     )
 
 pub wing-words-spec : {M : Type 1} → statement M
@@ -90,7 +102,8 @@ wing-words-spec =
     (λ c. search needs)
     decode-requires
     (λ c. front (search needs) .0)
-    slice-aggregate-wing
+    slice-aggregate-wing-list
     (λ c κs. search needs)
+    (λ c. search needs)
     (λ c. search needs)
     returns-3)

@@ -1,0 +1,81 @@
+-- The call wing on words, the further buffer in bytes: these are written from the front of the table's words, which is the
+-- list's table. Assumes nothing.
+use mathlib.Core.Path.{_≡_, refl, sym, ap, _∙_}
+use mathlib.Core.List.{List}
+use Prim.Native.Nat.{ℕ, _≤_}
+use native.Mathlib.Omega.{arith}
+use lib.ListN.{length, take}
+use lib.Seq.{length-take-le}
+use borrow.Author.Needs.{needs}
+use Rattle.rules.specs.Calls.{accepted}
+use Rattle.rules.specs.Numbers.{numberOf, outcomeOf}
+use Rattle.solids.specs.Table.{tableOfList}
+use Rattle.wing.specs.Wing.{WingInput, wingInput, wingOutcome}
+use Rattle.wing.proofs.Acceptance.{winged-is}
+use Rattle.wing.proofs.Lengths.{winged-front}
+use Rattle.wing.proofs.UploadedRows.{front-table}
+use Rattle.winged.specs.Host.{wordsIn}
+use Rattle.winged.proofs.Inward.{uploaded-after, wing-after}
+use Rattle.winged.proofs.reading.wing_list.Statement.{statement}
+use Rattle.winged.proofs.reading.wing_list.Tie as tie
+
+abbrev start : tie.After-wing-table → tie.Start
+start c = search needs
+
+abbrev told : tie.After-wing-table → WingInput
+told c =
+    let a = start c .args in
+    wingInput (a .d) (a .v) (a .s) (a .cells .now) (length (a .out .now)) (wordsIn (a .uploaded .now))
+
+abbrev call : tie.After-n → tie.After-wing-table
+call c = search needs
+
+abbrev buffer : tie.After-n → List ℕ
+buffer c = call c .wing-table .last .1 .1 .1 .1 .1 .0
+
+ok : (c : tie.After-n) → wingOutcome (told (call c)) ≡ accepted (c .n .given .0 .0)
+ok c = sym (call c .wing-table .ensures .0) ∙ ap outcomeOf (c .n .given .1)
+
+front : (c : tie.After-n) → (c .n .given .0 .0 ≤ length (buffer c)) × (take (c .n .given .0 .0) (buffer c) ≡ tableOfList (told (call c) .list))
+front c = winged-front (told (call c)) _ (buffer c) (c .n .given .0 .0) (call c .wing-table .ensures .1) (ok c)
+
+uploaded-bytes-requires : tie.Need-uploaded-bytes-requires
+uploaded-bytes-requires c κs =
+    let n : tie.After-n = search needs in
+    let w = winged-is (told (call n)) _ (ok n) in
+    (front-table (told (call n)) _ _ (ok n) (length-take-le _ (buffer n) (front n .0)), w .size, omega (arith, w .uploaded-fits))
+
+returns : tie.Need-returns
+returns c =
+    let n : tie.After-n = search needs in
+    let wrote : tie.After-uploaded-bytes = search needs in
+    let i = told (call n) in
+    let a = start (call n) .args in (
+      sym (ok n),
+      (
+        call n .wing-table .ensures .1 ∙ wing-after _ i (a .out .now) (sym (ok n)),
+        uploaded-after i _ _ (a .uploaded .now) (ok n) (front n .1) _ (wrote .uploaded-bytes .ensures),
+      ),
+    )
+
+returns-2 : tie.Need-returns-2
+returns-2 c =
+    let w : tie.After-wing-table = search needs in
+    let no = sym (w .wing-table .ensures .0) ∙ ap outcomeOf (c .before .r .given .1) in
+    (sym no, (w .wing-table .ensures .1 ∙ wing-after _ (told w) (start w .args .out .now) (sym no), refl))
+
+pub wing-list-spec : {M : Type 1} → statement M
+wing-list-spec =
+    tie.close
+    (tie.spec
+    (λ c κs. search needs)
+    (λ c. search needs)
+    (λ c. front (search needs) .0)
+    (λ c. sym (length-take-le _ (buffer (search needs)) (front (search needs) .0)))
+    uploaded-bytes-requires
+    (λ c. search needs)
+    (λ c. search needs)
+    (λ c. search needs)
+    returns
+    (λ c. search needs)
+    returns-2)
