@@ -4,15 +4,13 @@
 --   list-counted, list-left                   the last call
 --   moved-.., swept-.., winged-..             each stage by its call's outcome
 -- Assumes nothing.
-use mathlib.Core.Path.{_≡_, refl, sym, ap, _∙_}
-use mathlib.Core.Bool.{_&&_}
+use mathlib.Core.Path.{_≡_, refl, ap, _∙_}
 use mathlib.Core.List.{List}
-use Prim.Native.Nat.{ℕ, suc, _*_, _≤_}
+use Prim.Native.Nat.{ℕ, suc, _≤_}
 use lib.Ieee.{Float}
 use lib.ListN.{length, take}
 use borrow.Author.Tests.{ltb-false}
-use Rattle.rules.specs.Limits.{axesOk, maxSource, stepsOk, sweptVertices, verticesOk}
-use Rattle.rules.specs.Shapes.{shapeOk}
+use Rattle.rules.specs.Limits.{sweptVertices}
 use Rattle.rules.specs.Calls.{Outcome, accepted, refused, after}
 use Rattle.rules.proofs.Accepting.{accepted-by, front-of}
 use Rattle.solids.specs.Table.{tableOfList}
@@ -20,7 +18,7 @@ use Rattle.wing.specs.Wing.{wingInput, wingOutcome}
 use Rattle.prism.specs.Swept.{sweptCells}
 use Rattle.sweep.specs.Sweep.{sweepOutcome, sweepBuffer, sweepRules, sweptLength, sweptWords, sweepInput}
 use Rattle.rules.proofs.InLimits.{SweepLimits, sweep-limits-are, move-limits-are}
-use Rattle.motion.specs.Move.{MoveInput, moveInput, movedLength, movedLevels, moveOutcome, moveBuffer, moveRules}
+use Rattle.motion.specs.Move.{MoveInput, moveInput, movedLength, movedLevels, moveOutcome, moveRules}
 use Rattle.points.specs.declared.step.Step.{Step}
 use Rattle.list.specs.List.{ListInput, listInput, listText, listOutcome, listBuffer, listRules}
 use Rattle.sweep.proofs.CallWords.{swept-long}

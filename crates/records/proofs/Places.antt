@@ -6,8 +6,9 @@
 --   entry-at                  entry p of a table is that of record p
 --   cell-row                  the vertices of cell p of a list
 --   cell-within               its words are among the list's
+--   cell-vertex               vertex j of it
 -- Assumes nothing.
-use mathlib.Core.Path.{_≡_, ap, _∙_}
+use mathlib.Core.Path.{_≡_, sym, ap, _∙_}
 use mathlib.Core.List.{List}
 use Prim.Native.Nat.{ℕ, _+_, _*_, _≤_, _<_, suc}
 use native.Mathlib.Omega.{arith}
@@ -18,7 +19,6 @@ use Rattle.words.proofs.Records.{tabulate-at}
 use Rattle.simplex.specs.SignWords.{signOf}
 use Rattle.records.specs.Layout.{Entry, empty, listSize, recordSize, vertexPlace, wingPlace, listLength, tableLength}
 use Rattle.records.specs.Layout.{cellIn, entryOf, entryIn, entriesOf}
-use Rattle.records.specs.Inner.Inside.{signIn, vertexIn, wingIn}
 use Rattle.records.proofs.Parts.{inside, part-long, default-free, drop-take}
 
 module _ (d : ℕ) (P : List ℕ) (long : length P ≡ recordSize d) where
@@ -53,3 +53,8 @@ module _ (d p : ℕ) (ws : List ℕ) where
 
   pub cell-within : (s : ℕ) → p < s → length ws ≡ listLength d s → p * listSize d + vertexPlace 0 + suc d ≤ length ws
   cell-within s h e = omega (arith, inside s (listSize d) p (suc d) h (omega arith))
+
+  pub cell-vertex : (j : ℕ) → j ≤ d → getD ws (p * listSize d + vertexPlace 0 + j) 0 ≡ getD (cellIn d ws p .row) j 0
+  cell-vertex j h =
+      let at = p * listSize d + vertexPlace 0 in
+      sym (ap (λ w. getD w j 0) cell-row ∙ getD-take (suc d) (drop at ws) j 0 (omega arith) ∙ getD-drop at ws j 0)

@@ -2,7 +2,7 @@
 --   listOf d v cs     the list of these cells, as words
 use mathlib.Core.Path.{_≡_, ap, ap₂, refl, sym, _∙_}
 use Prim.Native.Nat.{_*_, _<_, suc, zero, ℕ, _≤_}
-use mathlib.Core.Bool.{Bool, cond, false, false≢true, not, true}
+use mathlib.Core.Bool.{Bool, false, not, true}
 use mathlib.Core.List.{List, [], map, _∷_}
 use native.Mathlib.Omega.{arith}
 use lib.ListN.{getD, length, length-drop, length-map}

@@ -6,7 +6,7 @@
 --   solid-at              cell p of a list in ascending order
 --   written-wings         the wings of cell p in the words of the list's table
 --   uploaded-part, uploaded-length    the words of cell p, and how many there are of all
-use mathlib.Core.Path.{_≡_, refl, sym, ap, _∙_}
+use mathlib.Core.Path.{_≡_, sym, ap, _∙_}
 use mathlib.Core.List.{List, map}
 use Prim.Native.Nat.{ℕ, suc, _<_}
 use native.Mathlib.Omega.{arith}
@@ -14,7 +14,7 @@ use lib.ListN.{length, getD, length-map, List·getD-map}
 use lib.Seq.{ext-getD}
 use Rattle.words.specs.Records.{tabulate, part}
 use Rattle.words.proofs.Records.{tabulate-at, tabulate-ext, tabulate-length, tabulate-map, length-tabulated, part-tabulated}
-use Rattle.simplex.specs.Cell.{Row, Cell}
+use Rattle.simplex.specs.Cell.{Cell}
 use Rattle.simplex.specs.Faces.{without}
 use Rattle.simplex.specs.Order.{ascending, below, places, sorted}
 use Rattle.simplex.specs.Sort.{Up}
@@ -23,8 +23,7 @@ use Rattle.simplex.proofs.Places.{places-below, places-length}
 use Rattle.simplex.proofs.Removed.{rank-below, sorted-at-place, sorted-at-rank, up-without}
 use Rattle.simplex.proofs.Rows.{Long}
 use Rattle.simplex.proofs.Sorting.{sorted-length, sorted-of-up}
-use Rattle.records.specs.Layout.{Entry, cellIn, empty, entriesOf, entryIn, listLength, tableWords, wingsLength, wingsSize}
-use Rattle.records.specs.Inner.Inside.{wingIn}
+use Rattle.records.specs.Layout.{Entry, cellIn, empty, entryIn, listLength, tableWords, wingsLength, wingsSize}
 use Rattle.records.proofs.Parts.{default-free}
 use Rattle.records.proofs.Places.{entry-at}
 use Rattle.solids.specs.Accept.{Listed, solidOf}

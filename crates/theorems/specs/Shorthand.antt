@@ -5,7 +5,7 @@
 --   swept h l             what sweep takes: the table that wing writes for the list, and h steps
 --   sweptEntries h l      the entries of the swept table
 --   facesOfSwept h l      what faces takes: the swept table
-use mathlib.Core.Bool.{Bool, true, false, cond}
+use mathlib.Core.Bool.{cond}
 use mathlib.Core.List.{List, [], _∷_, map}
 use Prim.Native.Nat.{ℕ, suc, _-_}
 use Prim.Native.String.{String}
@@ -15,7 +15,7 @@ use lib.Ieee.{Float, binary64, ofBits}
 use Rattle.words.specs.Records.{concat}
 use Rattle.words.specs.Text.{ascii}
 use Rattle.rules.specs.Limits.{sweptVertices}
-use Rattle.simplex.specs.Cell.{Cell, Row, cell}
+use Rattle.simplex.specs.Cell.{Cell, cell}
 use Rattle.records.specs.Layout.{empty, Entry, cellWords, entriesOf}
 use Rattle.solids.specs.Accept.{Listed}
 use Rattle.solids.specs.Table.{tableOfList}

@@ -2,32 +2,27 @@
 --   words-within      the words of cell p
 --   rank-is           how many words of a cell are below vertex j, counted where they stand
 --   rank-within       which is a place of the row
---   vertex-in         vertex j of a cell, where it stands
 --   rows-are          the words for all cells, where the table is the list's own
 --   row-long, rows-long   how many there are
 --   uploaded-put, uploaded-kept   the further buffer after the call
 use mathlib.Core.Path.{_≡_, sym, ap, ap₂, _∙_}
-use mathlib.Core.Bool.{not}
 use mathlib.Core.List.{List}
 use Prim.Native.Nat.{ℕ, suc, _+_, _*_, _≤_, _<_}
 use native.Mathlib.Nat.{mul-le-mul}
 use native.Mathlib.Omega.{arith}
 use lib.ListN.{length, getD, take, drop, length-drop}
-use lib.Seq.{getD-drop, getD-take, length-take-le}
+use lib.Seq.{length-take-le}
 use Rattle.words.specs.Inner.Placed.{placed}
 use Rattle.words.specs.Records.{tabulate, concat}
 use Rattle.words.proofs.Placed.{placed-first}
 use Rattle.words.proofs.Records.{tabulate-ext, tabulate-length, length-tabulated}
 use Rattle.rules.specs.Calls.{accepted, refused, after}
-use Rattle.rules.specs.Limits.{maxDimension}
-use Rattle.rules.proofs.InLimits.{limits-are}
 use Rattle.simplex.specs.Cell.{Row}
 use Rattle.simplex.specs.Faces.{without}
 use Rattle.simplex.specs.Order.{below, sorted}
 use Rattle.simplex.proofs.Removed.{rank-below}
 use Rattle.records.specs.Layout.{cellIn, empty, listLength, listSize, vertexPlace, wingsLength, wingsSize}
-use Rattle.records.specs.Inner.Inside.{Table}
-use Rattle.records.proofs.Places.{cell-row, cell-within}
+use Rattle.records.proofs.Places.{cell-row, cell-vertex, cell-within}
 use Rattle.solids.specs.Accept.{Listed, solidOf}
 use Rattle.solids.specs.Table.{tableOfList}
 use Rattle.solids.specs.Uploaded.{uploadedOfList, uploadedWings}
@@ -37,21 +32,13 @@ use Rattle.wing.specs.Wing.{WingInput, wingOutcome, uploadedBuffer}
 use Rattle.wing.specs.Inner.Uploaded.{uploadedAt, uploadedRow, uploadedRows}
 use Rattle.wing.proofs.Acceptance.{winged-is}
 
--- its words are among the list's, and stand at no large place
+-- the words of cell p are among the list's, and stand at no large place
 pub words-within : (d s p size : ℕ) (cells : List ℕ) → size ≡ listSize d → d ≤ 7 → s ≤ 4096 → p < s →
     length cells ≡ listLength d s →
     (p * size + vertexPlace 0 + suc d ≤ length cells) × (p * size ≤ 4096 * 9)
 words-within d s p size cells es hd hs h e =
     let less : p * size ≤ 4096 * 9 = mul-le-mul {n₁ = p} {m₁ = size} {n₂ = 4096} {m₂ = 9} (omega arith) (omega (arith, es)) in
     (omega (arith, cell-within d p cells s h e, ap (λ z. p * z) es), less)
-
--- vertex j of cell p, where it stands
-pub vertex-in : (d p size j : ℕ) (cells : List ℕ) → size ≡ listSize d → j ≤ d →
-    getD cells (p * size + vertexPlace 0 + j) 0 ≡ getD (cellIn d cells p .row) j 0
-vertex-in d p size j cells es k =
-    ap (λ z. getD cells (p * z + vertexPlace 0 + j) 0) es
-    ∙ sym (ap (λ w. getD w j 0) (cell-row d p cells)
-    ∙ getD-take (suc d) (drop (p * listSize d + vertexPlace 0) cells) j 0 (omega arith) ∙ getD-drop (p * listSize d + vertexPlace 0) cells j 0)
 
 -- cell p of a list's words
 module _ (d s p : ℕ) (cells : List ℕ) (h : p < s) (e : length cells ≡ listLength d s) (j : ℕ) (k : j ≤ d) where
@@ -69,7 +56,7 @@ module _ (d s p : ℕ) (cells : List ℕ) (h : p < s) (e : length cells ≡ list
   pub rank-is : (size n : ℕ) → size ≡ listSize d → n ≡ suc d →
       below (getD cells (p * size + vertexPlace 0 + j) 0) (take n (drop (p * size + vertexPlace 0) cells)) ≡ below (getD row j 0) row
   rank-is size n es en =
-      ap₂ below (vertex-in d p size j cells es k)
+      ap₂ below (ap (λ z. getD cells (p * z + vertexPlace 0 + j) 0) es ∙ cell-vertex d p cells j k)
       (ap₂ (λ z m. take m (drop (p * z + vertexPlace 0) cells)) es en ∙ sym (cell-row d p cells))
 
   pub rank-within : below (getD row j 0) row ≤ d
@@ -111,11 +98,3 @@ module _ (i : WingInput) (out : List ℕ) where
   pub uploaded-kept : (n : ℕ) → wingOutcome i ≡ refused n → out ≡ uploadedBuffer i out
   unfolding uploadedBuffer
   uploaded-kept n e = ap (λ o. after o (uploadedOfList (i .list)) out) (sym e)
-
--- the front of the table's buffer is a table of that list's size
-pub front-table : (i : WingInput) (k : ℕ) (table : List ℕ) → wingOutcome i ≡ accepted k → length table ≡ k →
-    Table (i .list .d) (i .list .s) table
-front-table i k table e h =
-    let w = winged-is i k e in
-    let l = limits-are maxDimension (i .list .d) (i .list .v) (i .list .s) (ap not (w .shape)) in
-    record { dimension = l .dimension; cells = l .cells; long = h ∙ w .count }

@@ -4,7 +4,7 @@
 --   hostWingBuffer, hostSweepBuffer, hostFacesBuffer    the lent bytes after the call
 --   hostUploadedBuffer    the further bytes that wing is lent, for the wings in uploaded order, after the call
 -- An input of an odd number of bytes is row 3; of an output only whole words count.
-use mathlib.Core.Bool.{Bool, not, cond, _&&_}
+use mathlib.Core.Bool.{Bool, cond, _&&_}
 use mathlib.Core.List.{List}
 use Prim.Native.Nat.{ℕ, _*_, _/_, _%_}
 use lib.Dec.{eqb}

@@ -1,7 +1,7 @@
 -- The bucket of a key by the weight of its row and of the vertex that it lacks. Assumes nothing.
-use mathlib.Core.Path.{_≡_, refl, sym}
+use mathlib.Core.Path.{refl}
 use native.Mathlib.Nat.{mod-lt, lt-trans}
-use lib.Dec.{lit<, ltb}
+use lib.Dec.{lit<}
 use borrow.Author.Needs.{needs}
 use borrow.Author.Tests.{lt-ltb, le-ltb}
 use Rattle.matching.proofs.bucket.Statement.{statement}

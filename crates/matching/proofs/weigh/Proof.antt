@@ -1,10 +1,10 @@
 -- The weights of a cell's vertices, one by one, and their sum. Assumes nothing.
 use mathlib.Core.Logic.{⊎-elim}
-use mathlib.Core.Path.{_≡_, ap, refl, _∙_}
+use mathlib.Core.Path.{refl}
 use Prim.Native.Nat.{ℕ, _≤_, _*_, _-_, _^_}
 use native.Mathlib.Nat.{not-suc-le-zero}
 use native.Mathlib.Omega.{arith}
-use lib.ListN.{length-replicate, take}
+use lib.ListN.{length-replicate}
 use borrow.Author.Needs.{needs}
 use Rattle.matching.proofs.Weights.{Weighed, weighed-all, weighed-more, weighed-no-more}
 use Rattle.matching.proofs.weigh.Statement.{statement}

@@ -2,18 +2,14 @@
 -- the table's buffer, which is the list's table. Assumes nothing.
 use mathlib.Core.Path.{_≡_, sym, ap, _∙_}
 use mathlib.Core.List.{List}
-use Prim.Native.Nat.{ℕ, _≤_}
-use native.Mathlib.Omega.{arith}
-use lib.ListN.{length, take}
-use lib.Seq.{length-take-le}
+use Prim.Native.Nat.{ℕ}
+use lib.ListN.{length}
 use borrow.Author.Needs.{needs}
 use Rattle.rules.specs.Calls.{accepted}
 use Rattle.rules.specs.Numbers.{numberOf, outcomeOf}
-use Rattle.solids.specs.Table.{tableOfList}
 use Rattle.wing.specs.Wing.{WingInput, wingInput, wingOutcome}
-use Rattle.wing.proofs.Acceptance.{winged-is}
-use Rattle.wing.proofs.Lengths.{winged-front}
-use Rattle.wing.proofs.UploadedRows.{front-table, uploaded-kept, uploaded-put}
+use Rattle.wing.proofs.Lengths.{TableLeft, table-left}
+use Rattle.wing.proofs.UploadedRows.{uploaded-kept, uploaded-put}
 use Rattle.wing.proofs.wing.Statement.{statement}
 use Rattle.wing.proofs.wing.Tie as tie
 
@@ -34,21 +30,15 @@ buffer c = call c .wing-table .last .1 .1 .1 .1 .1 .0
 ok : (c : tie.After-n) → wingOutcome (told (call c)) ≡ accepted (c .n .given .0 .0)
 ok c = sym (call c .wing-table .ensures .0) ∙ ap outcomeOf (c .n .given .1)
 
-front : (c : tie.After-n) → (c .n .given .0 .0 ≤ length (buffer c)) × (take (c .n .given .0 .0) (buffer c) ≡ tableOfList (told (call c) .list))
-front c = winged-front (told (call c)) _ (buffer c) (c .n .given .0 .0) (call c .wing-table .ensures .1) (ok c)
-
-write-uploaded-requires : tie.Need-write-uploaded-requires
-write-uploaded-requires c κs =
-    let n : tie.After-n = search needs in
-    let w = winged-is (told (call n)) _ (ok n) in
-    (front-table (told (call n)) _ _ (ok n) (length-take-le _ (buffer n) (front n .0)), w .size, w .uploaded-fits)
+left : (c : tie.After-n) → TableLeft (told (call c)) (c .n .given .0 .0) (buffer c)
+left c = table-left (told (call c)) _ (buffer c) (c .n .given .0 .0) (call c .wing-table .ensures .1) (ok c)
 
 returns : tie.Need-returns
 returns c =
     let n : tie.After-n = search needs in
     let wrote : tie.After-write-uploaded = search needs in
     let i = told (call n) in
-    (sym (ok n), (call n .wing-table .ensures .1, uploaded-put i _ _ _ _ (ok n) (front n .1) (wrote .write-uploaded .ensures)))
+    (sym (ok n), (call n .wing-table .ensures .1, uploaded-put i _ _ _ _ (ok n) (left n .front) (wrote .write-uploaded .ensures)))
 
 returns-2 : tie.Need-returns-2
 returns-2 c =
@@ -62,9 +52,9 @@ wing-spec =
     (tie.spec
     (λ c κs. search needs)
     (λ c. search needs)
-    (λ c. front (search needs) .0)
-    (λ c. sym (length-take-le _ (buffer (search needs)) (front (search needs) .0)))
-    write-uploaded-requires
+    (λ c. left (search needs) .fits)
+    (λ c. sym (left (search needs) .long))
+    (λ c κs. let l = left (search needs) in (l .table, l .size, l .room))
     (λ c. search needs)
     (λ c. search needs)
     (λ c. search needs)

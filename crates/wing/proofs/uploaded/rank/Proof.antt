@@ -1,10 +1,9 @@
 -- The loop has counted among the first i words, of those that are to be looked at. Assumes nothing.
 use mathlib.Core.Logic.{⊎-elim}
-use mathlib.Core.Path.{_≡_, ap, _∙_}
+use mathlib.Core.Path.{_≡_, _∙_}
 use Prim.Native.Nat.{_-_, _≤_}
 use native.Mathlib.Omega.{arith}
 use lib.ListN.{take, drop}
-use borrow.Author.Needs.{needs}
 use Rattle.simplex.specs.Order.{below}
 use Rattle.wing.proofs.Ranks.{rank-all, rank-behind, rank-over, rank-under}
 use Rattle.wing.proofs.uploaded.rank.Statement.{statement}

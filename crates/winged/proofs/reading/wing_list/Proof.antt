@@ -2,18 +2,14 @@
 -- list's table. Assumes nothing.
 use mathlib.Core.Path.{_≡_, refl, sym, ap, _∙_}
 use mathlib.Core.List.{List}
-use Prim.Native.Nat.{ℕ, _≤_}
+use Prim.Native.Nat.{ℕ}
 use native.Mathlib.Omega.{arith}
-use lib.ListN.{length, take}
-use lib.Seq.{length-take-le}
+use lib.ListN.{length}
 use borrow.Author.Needs.{needs}
 use Rattle.rules.specs.Calls.{accepted}
-use Rattle.rules.specs.Numbers.{numberOf, outcomeOf}
-use Rattle.solids.specs.Table.{tableOfList}
+use Rattle.rules.specs.Numbers.{outcomeOf}
 use Rattle.wing.specs.Wing.{WingInput, wingInput, wingOutcome}
-use Rattle.wing.proofs.Acceptance.{winged-is}
-use Rattle.wing.proofs.Lengths.{winged-front}
-use Rattle.wing.proofs.UploadedRows.{front-table}
+use Rattle.wing.proofs.Lengths.{TableLeft, table-left}
 use Rattle.winged.specs.Host.{wordsIn}
 use Rattle.winged.proofs.Inward.{uploaded-after, wing-after}
 use Rattle.winged.proofs.reading.wing_list.Statement.{statement}
@@ -36,14 +32,8 @@ buffer c = call c .wing-table .last .1 .1 .1 .1 .1 .0
 ok : (c : tie.After-n) → wingOutcome (told (call c)) ≡ accepted (c .n .given .0 .0)
 ok c = sym (call c .wing-table .ensures .0) ∙ ap outcomeOf (c .n .given .1)
 
-front : (c : tie.After-n) → (c .n .given .0 .0 ≤ length (buffer c)) × (take (c .n .given .0 .0) (buffer c) ≡ tableOfList (told (call c) .list))
-front c = winged-front (told (call c)) _ (buffer c) (c .n .given .0 .0) (call c .wing-table .ensures .1) (ok c)
-
-uploaded-bytes-requires : tie.Need-uploaded-bytes-requires
-uploaded-bytes-requires c κs =
-    let n : tie.After-n = search needs in
-    let w = winged-is (told (call n)) _ (ok n) in
-    (front-table (told (call n)) _ _ (ok n) (length-take-le _ (buffer n) (front n .0)), w .size, omega (arith, w .uploaded-fits))
+left : (c : tie.After-n) → TableLeft (told (call c)) (c .n .given .0 .0) (buffer c)
+left c = table-left (told (call c)) _ (buffer c) (c .n .given .0 .0) (call c .wing-table .ensures .1) (ok c)
 
 returns : tie.Need-returns
 returns c =
@@ -54,7 +44,7 @@ returns c =
       sym (ok n),
       (
         call n .wing-table .ensures .1 ∙ wing-after _ i (a .out .now) (sym (ok n)),
-        uploaded-after i _ _ (a .uploaded .now) (ok n) (front n .1) _ (wrote .uploaded-bytes .ensures),
+        uploaded-after i _ _ (a .uploaded .now) (ok n) (left n .front) _ (wrote .uploaded-bytes .ensures),
       ),
     )
 
@@ -70,9 +60,9 @@ wing-list-spec =
     (tie.spec
     (λ c κs. search needs)
     (λ c. search needs)
-    (λ c. front (search needs) .0)
-    (λ c. sym (length-take-le _ (buffer (search needs)) (front (search needs) .0)))
-    uploaded-bytes-requires
+    (λ c. left (search needs) .fits)
+    (λ c. sym (left (search needs) .long))
+    (λ c κs. let l = left (search needs) in (l .table, l .size, omega (arith, l .room)))
     (λ c. search needs)
     (λ c. search needs)
     (λ c. search needs)

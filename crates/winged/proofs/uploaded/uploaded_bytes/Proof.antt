@@ -10,7 +10,7 @@ use Rattle.words.specs.Inner.Placed.{placed}
 use Rattle.words.specs.Records.{concat, tabulate}
 use Rattle.words.proofs.Bytes.{bytes-length}
 use Rattle.words.proofs.Writing.{Left, left-starts, left-record, left-record-fits, left-records}
-use Rattle.records.specs.Layout.{wingsSize, wingsLength}
+use Rattle.records.specs.Layout.{wingsLength}
 use Rattle.wing.specs.Inner.Uploaded.{uploadedRow, uploadedRows}
 use Rattle.wing.proofs.UploadedRows.{row-long, rows-long}
 use Rattle.winged.proofs.FaceBytes.{bytes-concat}
