@@ -30,7 +30,8 @@ use Rattle.solids.specs.Accept.{Listed, acceptable, badSign, cellTwice, 
 use Rattle.solids.specs.Accept.{vertexBeyond, vertexTwice}
 use Rattle.simplex.specs.SignWords.{signWord}
 use Rattle.records.specs.Layout.{cellIn, cellWords, cellsOf, listSize, listLength}
-use Rattle.solids.proofs.Codec.{cells-back, list-record, part-length}
+use Rattle.records.proofs.Parts.{part-within}
+use Rattle.solids.proofs.Codec.{cells-back, list-record}
 use Rattle.solids.proofs.Solid.{Solid, all-tabulated}
 use Rattle.solids.proofs.Tables.{cellAt}
 use Rattle.solids.proofs.Tests.{all-below, asc-once, below-all, each-row, few-of, none-of, of-few, of-none, once-each, once-signs, row-each}
@@ -57,7 +58,7 @@ passes l p = rw (p .sign, p .vertex, p .twice, p .cell, p .crowded, p .equal) re
 -- rows of records
 listed-long : (d s : ℕ) (ws : List ℕ) → length ws ≡ s * listSize d → All (Long (suc d)) (cellsOf d s ws)
 listed-long d s ws e = all-tabulated (Long (suc d)) s (cellIn d ws)
-    (λ p h. rw (length-drop 1 (part (listSize d) p ws), part-length (listSize d) p s ws h (omega arith)) (omega arith))
+    (λ p h. rw (length-drop 1 (part (listSize d) p ws), part-within (listSize d) p s ws h (omega arith)) (omega arith))
 
 -- what holds of the rows holds of the sorted rows
 all-sorted : (R Q : Row → Type 0) (cs : List Cell) → ((w : Row) → R w → Q (sorted w)) → All R cs → All Q (map ascending cs)

@@ -1,13 +1,13 @@
 -- Lists of cells and tables as words, and back.
 --   Sized d es        each entry has d + 1 vertices and d + 1 wings
 use mathlib.Core.Path.{_≡_, ap, ap₂, refl, _∙_}
-use Prim.Native.Nat.{_*_, _<_, suc, zero, ℕ, _≤_}
+use Prim.Native.Nat.{_*_, _<_, suc, zero, ℕ}
 use mathlib.Core.List.{List, [], map, _∷_}
 use native.Mathlib.Omega.{arith}
-use lib.Seq.{drop-at, length-take-le, take-at}
+use lib.Seq.{drop-at, take-at}
 use mathlib.Core.Bool.{false, true}
-use lib.ListN.{drop, getD, length, length-append, length-drop, length-map, take}
-use native.Mathlib.Nat.{le-of-suc-le-suc, mul-le-mul-right, not-suc-le-zero, suc-mul}
+use lib.ListN.{getD, length, length-append, length-map, take}
+use native.Mathlib.Nat.{le-of-suc-le-suc, not-suc-le-zero}
 use Rattle.words.specs.Records.{concat, part, tabulate}
 use Rattle.words.proofs.Records.{EachLong, concat-length, part-concat, tabulate-ext, tabulate-getD, tabulate-length}
 use Rattle.simplex.specs.Cell.{Cell, Sign, cell}
@@ -116,8 +116,3 @@ table-sized d all p (c ∷ cs) a = (
   ap length (wings-tabulated all p c) ∙ tabulate-length (length (c .row)) (λ j. neighbour p (without j (c .row)) all) ∙ a .0,
   table-sized d all (suc p) cs (a .1),
 )
-
--- record p of words
-pub part-length : (n p s : ℕ) (ws : List ℕ) → p < s → s * n ≤ length ws → length (part n p ws) ≡ n
-part-length n p s ws h e =
-    length-take-le n (drop (p * n) ws) (rw (length-drop (p * n) ws) (omega (arith, suc-mul p n, mul-le-mul-right {m = suc p} {n = s} n h)))

@@ -23,7 +23,7 @@ use Rattle.matching.specs.Inner.Matching.{earlier}
 use Rattle.tables.specs.Inner.Pairing.{faceCount, keySign, paired, twinAt}
 use Rattle.tables.specs.Inner.Scan.{seenAt, seenLike, seenTwice}
 use Rattle.words.proofs.Below.{below-ext, below-not}
-use Rattle.solids.proofs.Codec.{part-length}
+use Rattle.records.proofs.Parts.{part-within}
 use Rattle.tables.proofs.FaceKeys.{Holds, earlier-prev, facet-cell, facets-length, key-cell, key-face}
 use Rattle.matching.proofs.KeptRows.{cell-at}
 use Rattle.tables.proofs.Repeats.{Prev, crowded-seen, equal-seen, twice-seen}
@@ -45,7 +45,7 @@ module _ (d s : ℕ) (rows : List ℕ) (signs : List Sign) (hd : d ≤ 7) (hs : 
   held-at p h = tabulate-at s (λ p. cellHeld d rows signs p) p (cell true []) h
 
   row-long : (p : ℕ) → p < s → length (take (suc d) (part 8 p rows)) ≡ suc d
-  row-long p h = length-take-le (suc d) (part 8 p rows) (omega (arith, part-length 8 p s rows h (omega arith)))
+  row-long p h = length-take-le (suc d) (part 8 p rows) (omega (arith, part-within 8 p s rows h (omega arith)))
 
   pub held-long : All (Long (suc d)) (heldCells d s rows signs)
   held-long = all-tabulated (Long (suc d)) s (λ p. cellHeld d rows signs p) row-long

@@ -19,7 +19,7 @@ use Rattle.simplex.specs.Cell.{Sign, sameRow}
 use Rattle.tables.specs.Inner.Held.{heldWords, recordHeld, run}
 use Rattle.simplex.specs.SignWords.{signWord}
 use Rattle.records.specs.Layout.{recordSize, vertexPlace, wingPlace, tableLength}
-use Rattle.solids.proofs.Codec.{part-length}
+use Rattle.records.proofs.Parts.{part-within}
 use Rattle.matching.proofs.KeptRows.{same-false}
 use Rattle.simplex.proofs.Rows.{same-rows}
 
@@ -157,7 +157,7 @@ module _ (d : ℕ) (rows : List ℕ) (signs : List Sign) (wings : List ℕ) (p :
 -- record p of a list, as a run
 part-run : (n p s : ℕ) (ws : List ℕ) → p < s → s * n ≤ length ws → part n p ws ≡ run n (p * n) ws
 part-run n p s ws h e =
-    is-tabulated n (λ j. getD ws (p * n + j) 0) (part n p ws) (part-length n p s ws h e)
+    is-tabulated n (λ j. getD ws (p * n + j) 0) (part n p ws) (part-within n p s ws h e)
     (λ k l. getD-take n (drop (p * n) ws) k 0 l ∙ getD-drop (p * n) ws k 0)
 
 -- the table

@@ -21,7 +21,7 @@ use Rattle.tables.specs.Inner.Held.{badAt, beyondAt, cellHeld, cellRead,
 use Rattle.records.specs.Layout.{cellIn, cellOf, listSize, vertexPlace}
 use Rattle.tables.proofs.Adjacent.{held-falls, held-vertex}
 use Rattle.words.proofs.Below.{below-not, some-below, true-unless}
-use Rattle.solids.proofs.Codec.{part-length}
+use Rattle.records.proofs.Parts.{part-within}
 use Rattle.tables.proofs.SortedTests.{beyond-last, fallsIn, twice-falls}
 use Rattle.solids.proofs.Tests.{of-none, or-false}
 
@@ -70,7 +70,7 @@ module _ (size d v s : ℕ) (ws : List ℕ) (hz : listSize d ≤ size) (room : s
   list = recordList size d v s ws
 
   read-long : (p : ℕ) → p < s → length (take (listSize d) (part size p ws)) ≡ listSize d
-  read-long p h = length-take-le (listSize d) (part size p ws) (omega (arith, part-length size p s ws h room))
+  read-long p h = length-take-le (listSize d) (part size p ws) (omega (arith, part-within size p s ws h room))
 
   -- record p of the list
   record-is : (p : ℕ) → p < s → part (listSize d) p (recordList size d v s ws .words) ≡ take (listSize d) (part size p ws)

@@ -12,18 +12,18 @@ use Rattle.solids.specs.Accept.{solidOf}
 use Rattle.solids.proofs.Uploaded.{through-places, uploaded-ascending, uploaded-length, uploaded-part, written-wings}
 use Rattle.wing.specs.Wing.{WingInput, wingOutcome}
 use Rattle.wing.proofs.Acceptance.{winged-is}
-use Rattle.theorems.specs.UploadedOrder.{UploadedExamples, UploadedOrder, tableRecord, uploadedRecord, uploadedRow}
+use Rattle.theorems.specs.UploadedOrder.{UploadedExamples, UploadedOrder, tableRecord, uploadedRecord, uploadedVertices}
 use Rattle.theorems.proofs.Computing.{computing}
 
 module _ (i : WingInput) (n p : ℕ) (ok : wingOutcome i ≡ accepted n) (h : p < i .list .s) where
-  sent : map (λ j. getD (uploadedRecord i p) j empty) (places (uploadedRow i p)) ≡ tableRecord i p
+  sent : map (λ j. getD (uploadedRecord i p) j empty) (places (uploadedVertices i p)) ≡ tableRecord i p
   sent =
       let l = i .list in
       let size = winged-is i n ok .size in
-      ap (λ ws. map (λ j. getD ws j empty) (places (uploadedRow i p))) (uploaded-part l size p h)
+      ap (λ ws. map (λ j. getD ws j empty) (places (uploadedVertices i p))) (uploaded-part l size p h)
       ∙ through-places (solidOf l) p (cellIn (l .d) (l .words) p) ∙ sym (written-wings l size p h)
 
-  ascending : Up (uploadedRow i p) → uploadedRecord i p ≡ tableRecord i p
+  ascending : Up (uploadedVertices i p) → uploadedRecord i p ≡ tableRecord i p
   ascending u =
       let l = i .list in
       let size = winged-is i n ok .size in

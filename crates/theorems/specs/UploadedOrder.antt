@@ -1,6 +1,7 @@
 -- Neighbours in the seller's own order: what wing writes to its further buffer, against the table. Paper, section 3.
 --   UploadedOrder         the laws; UploadedExamples, small solids computed
---   record p              of the wings in uploaded order, those of cell p; of the table, its wings
+--   uploadedVertices i p  the vertices of cell p, as they stand in the list
+--   uploadedRecord i p    its wings in uploaded order; tableRecord i p, its wings in the table
 --   star c                the triangle c, on 0 1 2, and its neighbours: 2 at the side that lacks 0, 3 at that which lacks 1, 1 at that which lacks 2
 use mathlib.Core.Path.{_≡_}
 use mathlib.Core.List.{List, [], _∷_, _++_, map}
@@ -22,8 +23,8 @@ use Rattle.winged.specs.Host.{hostUploadedBuffer}
 use Rattle.theorems.specs.Shorthand.{shown, spelled, listOf, toWing}
 
 module _ (i : WingInput) (p : ℕ) where
-  abbrev pub uploadedRow : Row
-  uploadedRow = cellIn (i .list .d) (i .list .words) p .row
+  abbrev pub uploadedVertices : Row
+  uploadedVertices = cellIn (i .list .d) (i .list .words) p .row
 
   abbrev pub uploadedRecord : List ℕ
   uploadedRecord = part (wingsSize (i .list .d)) p (uploadedOfList (i .list))
@@ -34,11 +35,11 @@ module _ (i : WingInput) (p : ℕ) where
 pub record UploadedOrder : Type 0 where
   -- the table's wings are those in uploaded order, read at the places where the cell's vertices stood
   pub sent : (i : WingInput) (n p : ℕ) → wingOutcome i ≡ accepted n → p < i .list .s →
-      map (λ j. getD (uploadedRecord i p) j empty) (places (uploadedRow i p)) ≡ tableRecord i p
+      map (λ j. getD (uploadedRecord i p) j empty) (places (uploadedVertices i p)) ≡ tableRecord i p
   -- and each place of the upload is read once, so they are the table's, sent through the places
   pub once : (w : Row) (j : ℕ) → j < length w → occurs j (places w) ≡ 1
   -- of a cell that was uploaded in ascending order they are the table's own
-  pub ascending : (i : WingInput) (n p : ℕ) → wingOutcome i ≡ accepted n → p < i .list .s → Up (uploadedRow i p) →
+  pub ascending : (i : WingInput) (n p : ℕ) → wingOutcome i ≡ accepted n → p < i .list .s → Up (uploadedVertices i p) →
       uploadedRecord i p ≡ tableRecord i p
   -- there are s (d + 1) of them
   pub count : (i : WingInput) (n : ℕ) → wingOutcome i ≡ accepted n → length (uploadedOfList (i .list)) ≡ uploadedLength i

@@ -74,15 +74,18 @@ module _ (d v h : ℕ) (x : Sitting) where
 
   pub record BoundaryOf : Type 0 where
     -- faces, lent room enough, answers the count of these faces and writes them
-    pub answered : (out : List ℕ) → length boundary * faceSize (suc d) ≤ length out → facesOutcome (toFaces out) ≡ accepted (length boundary)
-    pub written : (out : List ℕ) → length boundary * faceSize (suc d) ≤ length out → facesBuffer (toFaces out) out ≡ written boundaryWords out
+    pub answered : (out : List ℕ) → length boundary * faceSize (suc d) ≤ length out →
+        facesOutcome (toFaces out) ≡ accepted (length boundary)
+    pub written : (out : List ℕ) → length boundary * faceSize (suc d) ≤ length out →
+        facesBuffer (toFaces out) out ≡ written boundaryWords out
     -- its records, read as signed cells, are the boundary
     pub read : cellsOf d (length boundary) boundaryWords ≡ boundary
     -- no two of its faces are on the same vertices
     pub distinct : (w : Row) → total w boundary ≤ 1
     -- as a sum it is (-1)^d (top copy - solid) + sweep of the solid's own boundary
     pub sum : (w : Row) →
-        coefficient w boundary ≡ signed (coefficient w (topCopy v h solid) -ℤ coefficient w solid) +ℤ coefficient w (sweepOf v h (ownBoundary solid))
+        coefficient w boundary ≡ signed (coefficient w (topCopy v h solid) -ℤ coefficient w solid)
+        +ℤ coefficient w (sweepOf v h (ownBoundary solid))
 
 pub record ThirdTerm (d v h : ℕ) (x y : Sitting) : Type 0 where
   pub decides : Same (solid d v h x) (solid d v h y) ↔ Same (boundary d v h x) (boundary d v h y)

@@ -6,7 +6,7 @@ use mathlib.Core.List.{List}
 use Prim.Native.Nat.{ℕ, _≤_}
 use lib.ListN.{length, take}
 use lib.Seq.{length-take-le}
-use Rattle.rules.specs.Calls.{accepted, after}
+use Rattle.rules.specs.Calls.{Outcome, accepted, after}
 use Rattle.rules.specs.Limits.{maxDimension}
 use Rattle.rules.proofs.Accepting.{front-of}
 use Rattle.rules.proofs.InLimits.{limits-are}
@@ -38,6 +38,7 @@ winged-front i out w k e a =
 
 -- what is known of that front, and of the further buffer's room
 pub record TableLeft (i : WingInput) (n : ℕ) (w : List ℕ) : Type 0 where
+  pub told : wingOutcome i ≡ accepted n
   pub fits : n ≤ length w
   pub front : take n w ≡ tableOfList (i .list)
   pub long : length (take n w) ≡ n
@@ -45,13 +46,16 @@ pub record TableLeft (i : WingInput) (n : ℕ) (w : List ℕ) : Type 0 where
   pub size : length (i .list .words) ≡ listLength (i .list .d) (i .list .s)
   pub room : uploadedLength i ≤ i .uploadedRoom
 
-pub table-left : (i : WingInput) (out w : List ℕ) (n : ℕ) → w ≡ wingBuffer i out → wingOutcome i ≡ accepted n → TableLeft i n w
-table-left i out w n e a =
+pub table-left : (i : WingInput) (out w : List ℕ) (o : Outcome ℕ) (n : ℕ) → o ≡ wingOutcome i → w ≡ wingBuffer i out → o ≡ accepted n →
+    TableLeft i n w
+table-left i out w o n q e m =
+    let a = sym q ∙ m in
     let front = winged-front i out w n e a in
     let facts = winged-is i n a in
     let l = limits-are maxDimension (i .list .d) (i .list .v) (i .list .s) (ap not (facts .shape)) in
     let long = length-take-le n w (front .0) in
     record {
+      told = a;
       fits = front .0;
       front = front .1;
       long = long;

@@ -1,13 +1,12 @@
 -- `wing` answers `wingOutcome` and leaves `wingBuffer` and `uploadedBuffer`: the further words are written from the front of
 -- the table's buffer, which is the list's table. Assumes nothing.
-use mathlib.Core.Path.{_≡_, sym, ap, _∙_}
+use mathlib.Core.Path.{sym, ap, _∙_}
 use mathlib.Core.List.{List}
 use Prim.Native.Nat.{ℕ}
 use lib.ListN.{length}
 use borrow.Author.Needs.{needs}
-use Rattle.rules.specs.Calls.{accepted}
 use Rattle.rules.specs.Numbers.{numberOf, outcomeOf}
-use Rattle.wing.specs.Wing.{WingInput, wingInput, wingOutcome}
+use Rattle.wing.specs.Wing.{WingInput, wingInput}
 use Rattle.wing.proofs.Lengths.{TableLeft, table-left}
 use Rattle.wing.proofs.UploadedRows.{uploaded-kept, uploaded-put}
 use Rattle.wing.proofs.wing.Statement.{statement}
@@ -27,18 +26,17 @@ call c = search needs
 abbrev buffer : tie.After-n → List ℕ
 buffer c = call c .wing-table .last .1 .1 .1 .1 .1 .0
 
-ok : (c : tie.After-n) → wingOutcome (told (call c)) ≡ accepted (c .n .given .0 .0)
-ok c = sym (call c .wing-table .ensures .0) ∙ ap outcomeOf (c .n .given .1)
-
 left : (c : tie.After-n) → TableLeft (told (call c)) (c .n .given .0 .0) (buffer c)
-left c = table-left (told (call c)) _ (buffer c) (c .n .given .0 .0) (call c .wing-table .ensures .1) (ok c)
+left c =
+    let made = call c .wing-table .ensures in
+    table-left (told (call c)) _ (buffer c) _ (c .n .given .0 .0) (made .0) (made .1) (ap outcomeOf (c .n .given .1))
 
 returns : tie.Need-returns
 returns c =
     let n : tie.After-n = search needs in
     let wrote : tie.After-write-uploaded = search needs in
     let i = told (call n) in
-    (sym (ok n), (call n .wing-table .ensures .1, uploaded-put i _ _ _ _ (ok n) (left n .front) (wrote .write-uploaded .ensures)))
+    (sym (left n .told), (call n .wing-table .ensures .1, uploaded-put i _ _ _ _ (left n .told) (left n .front) (wrote .write-uploaded .ensures)))
 
 returns-2 : tie.Need-returns-2
 returns-2 c =

@@ -1,14 +1,13 @@
 -- The call wing on words, the further buffer in bytes: these are written from the front of the table's words, which is the
 -- list's table. Assumes nothing.
-use mathlib.Core.Path.{_≡_, refl, sym, ap, _∙_}
+use mathlib.Core.Path.{refl, sym, ap, _∙_}
 use mathlib.Core.List.{List}
 use Prim.Native.Nat.{ℕ}
 use native.Mathlib.Omega.{arith}
 use lib.ListN.{length}
 use borrow.Author.Needs.{needs}
-use Rattle.rules.specs.Calls.{accepted}
 use Rattle.rules.specs.Numbers.{outcomeOf}
-use Rattle.wing.specs.Wing.{WingInput, wingInput, wingOutcome}
+use Rattle.wing.specs.Wing.{WingInput, wingInput}
 use Rattle.wing.proofs.Lengths.{TableLeft, table-left}
 use Rattle.winged.specs.Host.{wordsIn}
 use Rattle.winged.proofs.Inward.{uploaded-after, wing-after}
@@ -29,11 +28,10 @@ call c = search needs
 abbrev buffer : tie.After-n → List ℕ
 buffer c = call c .wing-table .last .1 .1 .1 .1 .1 .0
 
-ok : (c : tie.After-n) → wingOutcome (told (call c)) ≡ accepted (c .n .given .0 .0)
-ok c = sym (call c .wing-table .ensures .0) ∙ ap outcomeOf (c .n .given .1)
-
 left : (c : tie.After-n) → TableLeft (told (call c)) (c .n .given .0 .0) (buffer c)
-left c = table-left (told (call c)) _ (buffer c) (c .n .given .0 .0) (call c .wing-table .ensures .1) (ok c)
+left c =
+    let made = call c .wing-table .ensures in
+    table-left (told (call c)) _ (buffer c) _ (c .n .given .0 .0) (made .0) (made .1) (ap outcomeOf (c .n .given .1))
 
 returns : tie.Need-returns
 returns c =
@@ -41,10 +39,10 @@ returns c =
     let wrote : tie.After-uploaded-bytes = search needs in
     let i = told (call n) in
     let a = start (call n) .args in (
-      sym (ok n),
+      sym (left n .told),
       (
-        call n .wing-table .ensures .1 ∙ wing-after _ i (a .out .now) (sym (ok n)),
-        uploaded-after i _ _ (a .uploaded .now) (ok n) (left n .front) _ (wrote .uploaded-bytes .ensures),
+        call n .wing-table .ensures .1 ∙ wing-after _ i (a .out .now) (sym (left n .told)),
+        uploaded-after i _ _ (a .uploaded .now) (left n .told) (left n .front) _ (wrote .uploaded-bytes .ensures),
       ),
     )
 
