@@ -80,12 +80,15 @@ unusedSet b =
 abbrev pub pointCount : List ℕ → ℕ
 pointCount b = vertexCountOf b * axesOf b
 
--- where the cells begin, and the bytes of one
+-- where the cells begin, the bytes of a cell before its vertices, and all its bytes
 abbrev pub cellsStart : List ℕ → ℕ
 cellsStart b = headerSize + pointCount b * 8
 
+abbrev pub cellHead : ℕ
+cellHead = 1
+
 abbrev pub cellBytes : ℕ → ℕ
-cellBytes d = 1 + suc d * 2
+cellBytes d = cellHead + suc d * 2
 
 abbrev pub fileLength : List ℕ → ℕ
 fileLength b = cellsStart b + cellCountOf b * cellBytes (dimensionOf b)
@@ -102,4 +105,4 @@ signBytes b = tabulate (cellCountOf b) (λ p. getD (cellPart b p) 0 0)
 
 -- 43 is plus, 45 is minus
 unfoldable pub fileCells : List ℕ → List Cell
-fileCells b = tabulate (cellCountOf b) (λ p. cell (eqb (getD (cellPart b p) 0 0) 43) (words16 (drop 1 (cellPart b p))))
+fileCells b = tabulate (cellCountOf b) (λ p. cell (eqb (getD (cellPart b p) 0 0) 43) (words16 (drop cellHead (cellPart b p))))

@@ -1,5 +1,8 @@
 // The cells of a file, and rows 6 to 8 of the refusal table.
 use crate::numbers;
+use crate::numbers::HEAD;
+use records::sizes::VERTICES;
+use records::sizes::list_size;
 use simplex::sign_words::sign_word;
 use words::copy;
 use words::little;
@@ -81,7 +84,7 @@ pub fn bad_vertex(b: &[u8]) -> bool
     let mut p: usize = 0;
     while p < count {
         let at = cell_at(b, p);
-        if beyond(b, at + 1, m, v) {
+        if beyond(b, at + HEAD, m, v) {
             return true;
         }
         p += 1;
@@ -135,7 +138,7 @@ pub fn vertex_twice(b: &[u8]) -> bool
     let mut p: usize = 0;
     while p < count {
         let at = cell_at(b, p);
-        if repeated(b, at + 1, m) {
+        if repeated(b, at + HEAD, m) {
             return true;
         }
         p += 1;
@@ -148,7 +151,7 @@ pub fn words(b: &[u8]) -> usize
     requires { ⌜ headerSize ≤ length (now b) ⌝ }
     ensures { λ r. ⌜ r ≡ cellsLength (now (b .entry)) ⌝ }
 {
-    numbers::cell_count(b) * (numbers::dimension(b) + 2)
+    numbers::cell_count(b) * list_size(numbers::dimension(b))
 }
 
 // Writes the sign word and the m vertices of the cell at `at` to the places from `to`.
@@ -158,7 +161,7 @@ fn write_cell(b: &[u8], at: usize, m: usize, out: &mut [u16], to: usize)
         ≡ placed to (signWord (eqb (getD (now (b .entry)) at 0) 43) ∷ wordsFrom (now (b .entry)) (at + 1) m) (now (out .entry)) ⌝ }
 {
     out[to] = sign_word(b[at] == 43);
-    copy::copy16(b, at + 1, m, out, to + 1);
+    copy::copy16(b, at + HEAD, m, out, to + VERTICES);
 }
 
 // Writes the cells from the start of `out`.
@@ -167,13 +170,14 @@ pub fn write_cells(b: &[u8], out: &mut [u16])
     ensures { λ _. ⌜ now (out .exit) ≡ written (fileWords (now (b .entry))) (now (out .entry)) ⌝ }
 {
     let count = numbers::cell_count(b);
-    let m = numbers::dimension(b) + 1;
+    let d = numbers::dimension(b);
+    let size = list_size(d);
     let mut p: usize = 0;
     let mut to: usize = 0;
     while p < count {
         let at = cell_at(b, p);
-        write_cell(b, at, m, out, to);
-        to += m + 1;
+        write_cell(b, at, d + 1, out, to);
+        to += size;
         p += 1;
     }
 }

@@ -77,12 +77,15 @@ pub fn point_count(b: &[u8]) -> usize
     vertex_count(b) * axes(b)
 }
 
+// Bytes of a cell before its vertices.
+pub(crate) const HEAD: usize = 1;
+
 // Bytes of a cell of dimension d.
 pub(crate) fn cell_size(d: usize) -> usize
     requires { ⌜ d < 256 ⌝ }
     ensures { λ r. ⌜ (r ≡ cellBytes d) × (r < 1024) ⌝ }
 {
-    1 + (d + 1) * 2
+    HEAD + (d + 1) * 2
 }
 
 // Whether the bytes begin with the mark.

@@ -34,7 +34,7 @@ abbrev pub vertexPlace : ℕ → ℕ
 vertexPlace k = k + 1
 
 abbrev pub wingPlace : ℕ → ℕ → ℕ
-wingPlace d a = d + 2 + a
+wingPlace d a = listSize d + a
 
 -- words of a cell's wings
 abbrev pub wingsSize : ℕ → ℕ
@@ -52,7 +52,7 @@ wingsLength d s = s * wingsSize d
 
 -- the cell of a sign word and its vertices
 abbrev pub cellOf : List ℕ → Cell
-cellOf r = cell (signOf (getD r 0 0)) (drop 1 r)
+cellOf r = cell (signOf (getD r 0 0)) (drop (vertexPlace 0) r)
 
 abbrev pub cellIn : ℕ → List ℕ → ℕ → Cell
 cellIn d ws p = cellOf (part (listSize d) p ws)

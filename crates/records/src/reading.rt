@@ -1,4 +1,6 @@
 // Words of a table, by record: its sign word, vertices and wings.
+use crate::sizes::VERTICES;
+use crate::sizes::first_wing;
 use crate::sizes::record_size;
 ghost use mathlib.Core.Path.{_≡_};
 ghost use Prim.Native.Nat.{_≤_, _<_};
@@ -28,7 +30,7 @@ pub fn vertex(d: usize, s: usize, table: &[u16], p: usize, k: usize) -> u16
     requires { ⌜ Inside d s p (now table) × (k ≤ d) ⌝ }
     ensures { λ r. ⌜ r ≡ vertexIn d (now (table .entry)) p k ⌝ }
 {
-    word(d, s, table, p, k + 1)
+    word(d, s, table, p, k + VERTICES)
 }
 
 // Wing a of cell p.
@@ -36,5 +38,5 @@ pub fn wing(d: usize, s: usize, table: &[u16], p: usize, a: usize) -> u16
     requires { ⌜ Inside d s p (now table) × (a ≤ d) ⌝ }
     ensures { λ r. ⌜ r ≡ wingIn d (now (table .entry)) p a ⌝ }
 {
-    word(d, s, table, p, d + 2 + a)
+    word(d, s, table, p, first_wing(d) + a)
 }

@@ -19,7 +19,7 @@ pub const SMALL_ROOM: usize = 16384;
 pub const SOLID_ROOM: usize = 12288;
 
 pub fn list_size(d: usize) -> usize
-    requires { ⌜ d ≤ maxDimension ⌝ }
+    requires { ⌜ d ≤ 255 ⌝ }
     ensures { λ r. ⌜ r ≡ listSize d ⌝ }
 {
     d + 2
