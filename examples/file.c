@@ -6,7 +6,7 @@
 
 #include "winged.h"
 
-enum { MOST = 323624 }; /* bytes of the longest file that winged_read takes */
+enum { MOST = 331816 }; /* bytes of the longest file that winged_read takes */
 
 static uint8_t file[MOST + 1], header[WINGED_HEADER_BYTES];
 static uint8_t cells[WINGED_LIST_BYTES(WINGED_MAX_SOURCE, WINGED_MAX_CELLS)];
@@ -57,7 +57,7 @@ int main(int count, char **names)
     swept_words = answered("sweep", winged_sweep(d, v, s, h, table, 2 * table_words, swept, sizeof swept));
     floats = answered("move", winged_move(n, v, h, k[5], k[6], k[7], number(16, 8), number(24, 8), number(32, 8), points,
                                           WINGED_POINTS_BYTES(n, v), levels, sizeof levels));
-    size = answered("list", winged_list(d + 1, n, (h + 1) * v, (uint32_t)WINGED_SWEPT_CELLS(d, s, h), swept, 2 * swept_words,
-                                        levels, 8 * floats, text, sizeof text));
+    size = answered("list", winged_list((uint32_t)number(40, 2), d + 1, n, (h + 1) * v, (uint32_t)WINGED_SWEPT_CELLS(d, s, h),
+                                        swept, 2 * swept_words, levels, 8 * floats, text, sizeof text));
     return fwrite(text, 1, size, stdout) == size ? 0 : 1;
 }

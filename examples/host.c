@@ -9,8 +9,8 @@
 enum { D = 2, V = 4, S = 2, H = 1 };
 enum { SWEPT = H * S * (D + 1) };
 
-/* +(0 1 2) and -(1 2 3) */
-static const uint16_t solid[S * (D + 2)] = {0, 0, 1, 2, 1, 1, 2, 3};
+/* +(0 1 2) and -(1 2 3), each a sign word, a material and three vertices */
+static const uint16_t solid[S * (D + 3)] = {0, 0, 0, 1, 2, 1, 0, 1, 2, 3};
 
 static void put_word(uint8_t *bytes, size_t at, uint16_t word)
 {
@@ -42,14 +42,14 @@ int main(void)
     uint8_t faces[WINGED_FACES_BYTES(D + 1, SWEPT)];
     size_t words, size = WINGED_FACE(D + 1);
 
-    for (size_t i = 0; i < S * (D + 2); i++)
+    for (size_t i = 0; i < S * (D + 3); i++)
         put_word(cells, i, solid[i]);
     answered("wing", winged_wing(D, V, S, cells, sizeof cells, table, sizeof table, uploaded, sizeof uploaded));
     answered("sweep", winged_sweep(D, V, S, H, table, sizeof table, swept, sizeof swept));
     words = answered("faces", winged_faces(D + 1, (H + 1) * V, SWEPT, swept, sizeof swept, faces, sizeof faces));
     for (size_t at = 0; at < words; at += size) {
         printf("%c", get_word(faces, at) == 0 ? '+' : '-');
-        for (size_t i = 1; i < size; i++)
+        for (size_t i = 1; i <= D + 1; i++) /* the last word is the material */
             printf(" %u", get_word(faces, at + i));
         printf("\n");
     }

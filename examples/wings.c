@@ -3,11 +3,12 @@
  *     wings V [H] <CELLS
  *     wings -u V <CELLS
  *
- * A line of the input is a cell on V vertices: + or -, and its vertex numbers; where there is no line, the solid is
- * without cells, of dimension 0. Printed are the table of the cells, or of their sweep in H steps, and the boundary. A line
- * of the table: the cell's number, its sign and vertices, its wings, with a point for the empty wing. A line of the boundary
- * is a face. With -u a cell's line has the vertices in the order in which they stand in the input, and the wings in that
- * order, and there is no boundary. A refused call is told by the line "refused N". */
+ * A line of the input is a cell on V vertices: + or -, its vertex numbers, and, if it has one, ':' and its material; where
+ * there is no line, the solid is without cells, of dimension 0. Printed are the table of the cells, or of their sweep in H
+ * steps, and the boundary. A line of the table: the cell's number, its sign and vertices, its wings, with a point for the
+ * empty wing. A line of the boundary is a face. If a line of the input has a material, cells and faces are printed with
+ * theirs. With -u a cell's line has the vertices in the order in which they stand in the input, and the wings in that order,
+ * and there is no boundary. A refused call is told by the line "refused N". */
 #include <inttypes.h>
 #include <stdio.h>
 #include <stdlib.h>
@@ -22,6 +23,7 @@ static uint8_t table[WINGED_TABLE_BYTES(D, S)];
 static uint8_t uploaded[WINGED_UPLOADED_BYTES(D, S)];
 static uint8_t swept[WINGED_TABLE_BYTES(D, S)];
 static uint8_t faces[WINGED_FACES_BYTES(D, S)];
+static int with_materials; /* whether a line of the input has one */
 
 /* A solid or its sweep: dimension, vertices, cells, and its table. */
 struct solid {
@@ -68,23 +70,35 @@ static uint32_t number(const char *word)
 /* Reads the cell of one line to the given words, and tells how many vertices it has. */
 static size_t read_cell(const char *line, uint8_t *to)
 {
+    static const char form[] = "a line of the input is + or -, vertex numbers, and perhaps ':' and a material";
     size_t n = 0;
     char *end;
     if (*line != '+' && *line != '-')
-        wrong("a line of the input is + or -, and vertex numbers");
+        wrong(form);
     put_word(to, 0, *line == '-');
+    put_word(to, 1, 0);
     for (line++;; line = end) {
         unsigned long vertex = strtoul(line, &end, 10);
         if (end == line)
             break;
         if (n > D || vertex > 65535)
             wrong("a cell has at most 8 vertices, each below 65,536");
-        put_word(to, ++n, (unsigned)vertex);
+        put_word(to, 2 + n++, (unsigned)vertex);
+    }
+    while (*line == ' ')
+        line++;
+    if (*line == ':') {
+        unsigned long material = strtoul(++line, &end, 10);
+        if (end == line || material > 65535)
+            wrong("a material is a number below 65,536");
+        put_word(to, 1, (unsigned)material);
+        with_materials = 1;
+        line = end;
     }
     while (*line == ' ' || *line == '\n')
         line++;
     if (n == 0 || *line != '\0')
-        wrong("a line of the input is + or -, and vertex numbers");
+        wrong(form);
     return n;
 }
 
@@ -105,18 +119,21 @@ static struct solid read_cells(uint32_t v)
     return read;
 }
 
-static void print_cell(const uint8_t *record, size_t vertices)
+/* A cell or a face: its sign, and its vertices and its material from these words on. */
+static void print_cell(const uint8_t *record, size_t first, size_t vertices, size_t material)
 {
     printf("%c", get_word(record, 0) == 0 ? '+' : '-');
-    for (size_t i = 1; i <= vertices; i++)
-        printf(" %u", get_word(record, i));
+    for (size_t i = 0; i < vertices; i++)
+        printf(" %u", get_word(record, first + i));
+    if (with_materials)
+        printf(" : %u", get_word(record, material));
 }
 
 /* Cell p and its wings. */
 static void print_winged(uint32_t p, const uint8_t *cell, const uint8_t *wings, size_t vertices)
 {
     printf("%" PRIu32 ": ", p);
-    print_cell(cell, vertices);
+    print_cell(cell, 2, vertices, 1);
     printf(" wings");
     for (size_t i = 0; i < vertices; i++) {
         unsigned wing = get_word(wings, i);
@@ -147,7 +164,7 @@ static void print_boundary(struct solid x)
     size_t words = answered(winged_faces(x.d, x.v, x.s, x.table, WINGED_TABLE_BYTES(x.d, x.s), faces, sizeof faces));
     printf("boundary\n");
     for (size_t at = 0; at < words; at += WINGED_FACE(x.d)) {
-        print_cell(faces + 2 * at, x.d);
+        print_cell(faces + 2 * at, 1, x.d, x.d + 1);
         printf("\n");
     }
 }

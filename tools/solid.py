@@ -4,7 +4,8 @@
 usage: solid.py pack [TEXT [FILE]]     text to file (default: standard input and output)
        solid.py unpack [FILE [TEXT]]   file to text
        solid.py explain N              what refusal N means
-       solid.py random D V S SEED      a random accepted solid as text: dimension, vertices, cells (or 0), seed
+       solid.py random D V S SEED [M]  a random accepted solid as text: dimension, vertices, cells (or 0), seed; where M
+                                       is given, each cell of a material 0 to M - 1
        solid.py --help
 
 The text, with anything after # a comment:
@@ -16,11 +17,17 @@ The text, with anything after # a comment:
     v 0 1 0
     + 0 1 2                  # one line a cell: its sign and its vertices
 
-A text may have no cells, and no vertices. Then these two lines say what those would have told, the dimension and the
-count of coordinates; beside cells and vertices they may stand, and must agree with them:
+A cell may have a material, 0 to 999, behind its vertices; the file is then of version 2, and a cell without one has
+material 0. Where no cell has one the file is of version 1:
+
+    + 0 1 2 : 7              # a cell of material 7
+
+A text may have no cells, and no vertices. Then these lines say what those would have told, the dimension, the count of
+coordinates and the version; beside cells and vertices they may stand, and must agree with them:
 
     dimension 2              # of the cells
     axes 3                   # of the vertices
+    version 2                # of the file, 1 or 2
 
 Exit status: 0 done; 1 bad text or file, with its line; 2 wrong usage.
 """
@@ -89,10 +96,30 @@ def agreed(name, said, found):
     return (said or found)[0]
 
 
+def parse_cell(words, line):
+    """A cell's sign, its vertices, and its material or None."""
+    end = words.index(":") if ":" in words else len(words)
+    if end == 1:
+        raise Bad("a cell takes at least one vertex", line)
+    if len(words) not in (end, end + 2):
+        raise Bad("one material is wanted behind ':'", line)
+    return words[0], [whole(w, line) for w in words[1:end]], whole(words[-1], line) if end < len(words) else None
+
+
+def version_of(said, cells, lines):
+    """The file's version: 2 if a cell has a material, or a line says so."""
+    named = next((line for (_, _, material), line in zip(cells, lines) if material is not None), None)
+    if said is None:
+        return 1 if named is None else 2
+    if said[0] == 1 and named is not None:
+        raise Bad(f"version 1, but the cell in line {named} has a material", said[1])
+    return said[0]
+
+
 def parse(text):
-    """Steps, step, dimension, axes, points and cells of a text."""
-    steps = step = None
-    said, found = {}, {}  # dimension and axes, with their lines
+    """Version, steps, step, dimension, axes, points and cells of a text."""
+    steps = step = version = None
+    said, found, lines = {}, {}, []  # dimension and axes, with their lines; the lines of cells
     points, cells = [], []
     for line, content in enumerate(text.splitlines(), 1):
         words = content.split("#")[0].split()
@@ -103,6 +130,10 @@ def parse(text):
             if steps is not None or len(words) != 2:
                 raise Bad("one line 'steps COUNT' is wanted", line)
             steps = whole(words[1], line)
+        elif head == "version":
+            if version is not None or words[1:] not in (["1"], ["2"]):
+                raise Bad("one line 'version 1' or 'version 2' is wanted", line)
+            version = int(words[1]), line
         elif head in SAID:
             if head in said or len(words) != 2:
                 raise Bad(f"one line '{head} {SAID[head][0]}' is wanted", line)
@@ -119,51 +150,63 @@ def parse(text):
                 raise Bad(f"a vertex takes as many coordinates as the first, {len(points[0])}", line)
             found.setdefault("axes", (len(points[0]), line))
         elif head in "+-" and len(head) == 1:
-            cells.append((head, [whole(w, line) for w in words[1:]]))
-            if not cells[-1][1]:
-                raise Bad("a cell takes at least one vertex", line)
+            cells.append(parse_cell(words, line))
+            lines.append(line)
             if len(cells[-1][1]) != len(cells[0][1]):
                 raise Bad(f"a cell takes as many vertices as the first, {len(cells[0][1])}", line)
             found.setdefault("dimension", (len(cells[0][1]) - 1, line))
         else:
-            raise Bad(f"{head!r} begins no line: steps, slide, slant, turn, dimension, axes, v, + or -", line)
+            raise Bad(f"{head!r} begins no line: steps, slide, slant, turn, dimension, axes, version, v, + or -", line)
     for name, part in (("steps", steps), ("step (slide, slant or turn)", step)):
         if part is None:
             raise Bad(f"no {name} in the text")
     d, n = (agreed(name, said.get(name), found.get(name)) for name in SAID)
-    return steps, step, d, n, points, cells
+    return version_of(version, cells, lines), steps, step, d, n, points, cells
 
 
 def pack(text):
     """The file of a text. What the text says is kept, also where the program will refuse it."""
-    steps, (kind, axes, floats), d, n, points, cells = parse(text)
+    version, steps, (kind, axes, floats), d, n, points, cells = parse(text)
     if d > 255 or n > 255 or len(points) > 65535 or len(cells) > 65535:
         raise Bad("too many vertices, cells or coordinates for a file")
-    data = b"WNG" + struct.pack("<HBBHHHBBB3d", 1, d, n, len(points), len(cells), steps, kind, *axes, *floats)
+    data = b"WNG" + struct.pack("<HBBHHHBBB3d", version, d, n, len(points), len(cells), steps, kind, *axes, *floats)
     data += b"".join(struct.pack(f"<{n}d", *p) for p in points)
-    return data + b"".join(sign.encode() + struct.pack(f"<{d + 1}H", *vertices) for sign, vertices in cells)
+    for sign, vertices, material in cells:
+        words = [material or 0] * (version == 2) + vertices
+        data += sign.encode() + struct.pack(f"<{len(words)}H", *words)
+    return data
 
 
 def unpack(data):
     """The text of a file."""
-    if len(data) < 40 or data[:5] != b"WNG\1\0":
+    if len(data) < 40 or data[:3] != b"WNG":
         raise refused("1")
-    d, n, v, s, h, kind, a, b, x, y, z = struct.unpack_from("<BBHHHBBB3d", data, 5)
-    size = 2 * d + 3
+    version, d, n, v, s, h, kind, a, b, x, y, z = struct.unpack_from("<HBBHHHBBB3d", data, 3)
+    if version not in (1, 2):
+        raise refused("1")
+    words = d + version  # those of a cell: in version 2 a material, and its vertices
+    size = 1 + 2 * words
     if kind not in (1, 2, 3):
         raise refused("2")
     if len(data) != 40 + 8 * v * n + s * size:
         raise refused("3")
     step = {1: f"slide {a} {x!r}", 2: f"slant {a} {x!r} {b} {y!r}", 3: f"turn {x!r} {y!r} {z!r}"}[kind]
-    lines = [f"steps {h}", step] + [f"dimension {d}"] * (s == 0) + [f"axes {n}"] * (v == 0)
+    lines = [f"steps {h}", step] + [f"dimension {d}"] * (s == 0) + [f"axes {n}"] * (v == 0) + ["version 2"] * (s == 0 and version == 2)
     for p in range(v):
         lines.append("v " + " ".join(repr(c) for c in struct.unpack_from(f"<{n}d", data, 40 + 8 * n * p)))
     for p in range(s):
         at = 40 + 8 * v * n + p * size
         if data[at] not in b"+-":
             raise refused("6", f"cell {p}: ")
-        lines.append(chr(data[at]) + " " + " ".join(map(str, struct.unpack_from(f"<{d + 1}H", data, at + 1))))
+        found = struct.unpack_from(f"<{words}H", data, at + 1)
+        lines.append(cell_line(data[at] == ord("+"), found[-d - 1:], found[0] if version == 2 else None))
     return "\n".join(lines) + "\n"
+
+
+def cell_line(plus, vertices, material):
+    """The line of a cell, with its material if it has one."""
+    line = " ".join(["+" if plus else "-", *map(str, vertices)])
+    return line if material is None else f"{line} : {material}"
 
 
 def faces(sign, row):
@@ -195,15 +238,19 @@ def random_cells(d, v, s, rng):
     return cells
 
 
-def random_text(d, v, s, seed):
+def random_text(d, v, s, seed, materials=None):
     if not (d <= 6 and v <= 4096 and s <= 4096 and (s == 0 or d < v)):
         raise Bad("wanted: dimension 0 to 6, vertices and cells up to 4,096, and more vertices than the dimension where there are cells")
+    if materials is not None and not 1 <= materials <= 1000:
+        raise Bad("wanted: 1 to 1000 materials")
     rng = random.Random(seed)
     n = min(8, d + 1)
-    lines = [f"# dimension {d}, {v} vertices, up to {s} cells, seed {seed}", "steps 1", f"slide {n - 1} 1.0"]
-    lines += [f"dimension {d}"] * (s == 0) + [f"axes {n}"] * (v == 0)
+    named = "" if materials is None else f", {materials} materials"
+    lines = [f"# dimension {d}, {v} vertices, up to {s} cells, seed {seed}{named}", "steps 1", f"slide {n - 1} 1.0"]
+    lines += [f"dimension {d}"] * (s == 0) + [f"axes {n}"] * (v == 0) + ["version 2"] * (s == 0 and materials is not None)
     lines += ["v " + " ".join(str(rng.randrange(-999, 1000) / 8) for _ in range(n)) for _ in range(v)]
-    lines += [("+" if sign > 0 else "-") + " " + " ".join(map(str, row)) for sign, row in random_cells(d, v, s, rng)]
+    cells = random_cells(d, v, s, rng)
+    lines += [cell_line(sign > 0, row, None if materials is None else rng.randrange(materials)) for sign, row in cells]
     return "\n".join(lines) + "\n"
 
 
@@ -236,7 +283,7 @@ def main(words):
         save(path(2), unpack(load(path(1))).encode())
     elif words[:1] == ["explain"] and len(words) == 2 and words[1] in reasons():
         print(refused(words[1]))
-    elif words[:1] == ["random"] and len(words) == 5 and all(w.isdecimal() for w in words[1:]):
+    elif words[:1] == ["random"] and len(words) in (5, 6) and all(w.isdecimal() for w in words[1:]):
         save(None, random_text(*map(int, words[1:])).encode())
     else:
         print("solid.py: wrong usage; try solid.py --help", file=sys.stderr)

@@ -5,7 +5,7 @@ use crate::reference::Reference;
 use std::time::Instant;
 
 /// Bytes enough for every answer.
-pub const ROOM: usize = 1 << 19;
+pub const ROOM: usize = 1 << 20;
 
 /// A lent buffer: the first bytes are lent, and those behind them must stay.
 #[derive(Clone, PartialEq)]
@@ -59,7 +59,7 @@ impl Both {
 
     /// The table of a list, by the reference.
     pub fn table(&mut self, d: usize, v: usize, s: usize, list: &[u8]) -> Result<Vec<u8>, i64> {
-        let (mut table, mut uploaded) = (vec![0; 2 * s * (2 * d + 3)], vec![0; 2 * s * (d + 1)]);
+        let (mut table, mut uploaded) = (vec![0; 2 * s * (2 * d + 4)], vec![0; 2 * s * (d + 1)]);
         let answer = self.reference.call(&Job::new(Call::Wing, d, v, s, 0), list, &mut table, &mut uploaded);
         if answer < 0 { Err(answer) } else { Ok(table) }
     }

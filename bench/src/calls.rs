@@ -18,10 +18,10 @@ impl Call {
         }
     }
 
-    /// The refusals that it has.
+    /// The refusals that it has, in the order in which they are tried.
     pub fn refusals(self) -> &'static [u8] {
         match self {
-            Call::Wing => &[2, 3, 6, 7, 8, 9, 10, 11, 15],
+            Call::Wing => &[2, 3, 6, 7, 8, 18, 9, 10, 11, 15],
             Call::Sweep => &[2, 3, 12, 14, 15],
             Call::Faces => &[2, 3, 14, 15],
         }

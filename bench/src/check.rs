@@ -17,25 +17,25 @@ fn scattered(random: &mut Random, d: usize, s: usize) -> (Vec<Cell>, usize) {
                 vertices.push(x);
             }
         }
-        [&[random.below(2) as u16], &vertices[..]].concat()
+        [&[random.below(2) as u16, 0], &vertices[..]].concat()
     };
     ((0..s).map(|_| cell(random)).collect(), v)
 }
 
 /// Cells put on free faces of others, mostly with a new vertex; accepted unless an old one fits badly.
 fn grown(random: &mut Random, d: usize, s: usize) -> (Vec<Cell>, usize) {
-    let mut cells: Vec<Cell> = vec![[0].into_iter().chain(0..=d as u16).collect()];
+    let mut cells: Vec<Cell> = vec![[0, 0].into_iter().chain(0..=d as u16).collect()];
     let mut free: Vec<(usize, usize)> = (0..=d).map(|a| (0, a)).collect();
     let (mut v, old) = (d + 1, random.pick(&[0, 0, 5, 20]));
     while cells.len() < s && v < 4096 && !free.is_empty() {
         let (p, a) = free.swap_remove(random.below(free.len()));
         let x = if random.chance(old) { random.below(v) } else { v };
         let mut cell = cells[p].clone();
-        if cell[1..].contains(&(x as u16)) {
+        if cell[2..].contains(&(x as u16)) {
             continue;
         }
         cell[0] ^= 1;
-        cell[1 + a] = x as u16;
+        cell[2 + a] = x as u16;
         v = v.max(x + 1);
         free.extend((0..=d).filter(|&b| b != a || d == 0).map(|b| (cells.len(), b)));
         cells.push(cell);
@@ -45,9 +45,21 @@ fn grown(random: &mut Random, d: usize, s: usize) -> (Vec<Cell>, usize) {
 
 /// The boundary of a simplex, which has no empty wing, perhaps less a few cells.
 fn sphere(random: &mut Random, d: usize) -> (Vec<Cell>, usize) {
-    let cell = |lacks: usize| [(lacks % 2) as u16].into_iter().chain((0..d as u16 + 2).filter(|&x| x as usize != lacks)).collect();
+    let cell = |lacks: usize| [(lacks % 2) as u16, 0].into_iter().chain((0..d as u16 + 2).filter(|&x| x as usize != lacks)).collect();
     let least = if d == 0 { d + 2 } else { 1 + random.below(d + 2) };
     ((0..least).map(cell).collect(), d + 2)
+}
+
+/// Gives each cell a material: any, one at an edge, or the same for all.
+fn name_materials(random: &mut Random, cells: &mut [Cell]) {
+    let (kind, one) = (random.below(4), random.below(1000) as u16);
+    for cell in cells {
+        cell[1] = match kind {
+            0 => one,
+            1 => random.pick(&[0, 1, 255, 256, 998, 999]),
+            _ => random.below(1000) as u16,
+        };
+    }
 }
 
 /// A solid, one in twenty without cells.
@@ -56,21 +68,22 @@ fn solid(random: &mut Random, d: usize) -> (Vec<Cell>, usize) {
         return (vec![], random.pick(&[0, 0, 1, 7, 64, 2048, 4096]));
     }
     let s = if random.below(60) == 0 { random.pick(&[300, 585, 1024, 2048, 4000, 4095, 4096]) } else { 1 + random.below(14) };
-    let (cells, v) = match random.below(8) {
+    let (mut cells, v) = match random.below(8) {
         0 => scattered(random, d, s),
         1 => sphere(random, d),
         2 | 3 if d > 0 => grid(d, s.min(4095)),
         _ => grown(random, d, s),
     };
+    name_materials(random, &mut cells);
     if random.chance(70) { (shuffled(&cells, v, random), v) } else { (cells, v) }
 }
 
 /// A table for cells that may be refused: sorted, without wings.
 fn bare_table(d: usize, cells: &[Cell]) -> Vec<u8> {
     let record = |cell: &Cell| {
-        let mut vertices = cell[1..].to_vec();
+        let mut vertices = cell[2..].to_vec();
         vertices.sort();
-        [&cell[..1], &vertices, &vec![65535; d + 1]].concat()
+        [&cell[..2], &vertices, &vec![65535; d + 1]].concat()
     };
     bytes(&cells.iter().map(record).collect::<Vec<_>>())
 }
@@ -120,7 +133,7 @@ fn lent(random: &mut Random, bytes: usize) -> Lent {
 /// Runs so many cases, and sees to it that every answer there is came up.
 pub fn run(both: &mut Both, cases: usize) {
     let mut random = Random(0x1234_5678_9abc_def1);
-    let mut seen = [[0usize; 16]; 3];
+    let mut seen = [[0usize; 19]; 3];
     let (mut whole, mut further) = (vec![0; ROOM], vec![0; ROOM]);
     for _ in 0..cases {
         let (job, input) = case(&mut random, both);

@@ -50,7 +50,7 @@ fn counts(of: &[Weighed], k: usize) -> Vec<usize> {
     sets.pop().unwrap()
 }
 
-/// Adds sets of k of these that have that sum, as plus cells, until there are enough.
+/// Adds sets of k of these that have that sum, as plus cells of one material, until there are enough.
 fn choose(of: &[Weighed], k: usize, sum: usize, chosen: &mut Cell, found: &mut Vec<Cell>) {
     if k == 0 && sum == 0 {
         found.push(chosen.clone());
@@ -75,7 +75,7 @@ fn crafted(d: usize, n: usize) -> Vec<Cell> {
         return crafted(d, n + 1 + n / 16);
     }
     let mut found = vec![];
-    choose(&of, d + 1, sum, &mut vec![0], &mut found);
+    choose(&of, d + 1, sum, &mut vec![0, 7], &mut found);
     found
 }
 
@@ -87,7 +87,7 @@ pub fn run(both: &mut Both, rounds: usize) {
         let (typical, v) = grid(d, CELLS);
         let random = &mut Random(362436069);
         let solids = [(shuffled(&typical, v, random), v), (reordered(&crafted(d, n), random), CELLS)];
-        let vertices = solids[1].0.iter().flat_map(|cell| &cell[1..]).collect::<HashSet<_>>().len();
+        let vertices = solids[1].0.iter().flat_map(|cell| &cell[2..]).collect::<HashSet<_>>().len();
         for call in [Call::Wing, Call::Faces] {
             let [a, b] = solids.each_ref().map(|(cells, v)| {
                 let list = bytes(cells);

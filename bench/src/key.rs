@@ -1,4 +1,4 @@
-//! The key of a file in plain Rust, for good files only.
+//! The key of a file of version 1 or 2 in plain Rust, for good files only.
 
 use crate::reference::Reference;
 use std::io::Write;
@@ -67,7 +67,13 @@ fn number(x: usize, text: &mut Vec<u8>) {
 pub fn key(data: &[u8]) -> Vec<u8> {
     let (d, n, v, s, h) = (data[5] as usize, data[6] as usize, short(data, 7), short(data, 9), short(data, 11));
     let mut points: Vec<f64> = (0..v * n).map(|i| float(data, 40 + 8 * i)).collect();
-    let cells: Vec<u8> = data[40 + 8 * v * n..].chunks_exact(2 * d + 3).flat_map(|c| [(c[0] == b'-') as u8, 0].into_iter().chain(c[1..].iter().copied())).collect();
+    let named = data[3] == 2; // a cell has a material
+    let mut cells: Vec<u8> = vec![];
+    for cell in data[40 + 8 * v * n..].chunks_exact(2 * d + if named { 5 } else { 3 }) {
+        cells.extend([(cell[0] == b'-') as u8, 0]);
+        cells.extend(if named { &cell[1..3] } else { &[0, 0] });
+        cells.extend(&cell[cell.len() - 2 * (d + 1)..]);
+    }
     let (mut table, mut uploaded) = (vec![0; 1 << 17], vec![0; 1 << 16]);
     let (mut swept, mut faces) = (vec![0; 1 << 17], vec![0; 1 << 18]);
     let mut reference = Reference::default();
@@ -76,7 +82,7 @@ pub fn key(data: &[u8]) -> Vec<u8> {
     let (vertices, all) = ((h + 1) * v, s * h * (d + 1));
     let count = reference.faces(d + 1, vertices, all, &swept[..2 * count], &mut faces).unwrap();
     let mut text = Vec::with_capacity(1 << 16);
-    writeln!(text, "key {} {n} {vertices} {}", d + 1, count / (d + 2)).unwrap();
+    writeln!(text, "key {} {n} {vertices} {}", d + 1, count / (d + 3)).unwrap();
     for level in 0..=h {
         for (i, p) in points.chunks_exact(n).enumerate() {
             text.push(b'v');
@@ -86,19 +92,19 @@ pub fn key(data: &[u8]) -> Vec<u8> {
         }
         points = moved(data, n, &points);
     }
-    for face in faces[..2 * count].chunks_exact(2 * (d + 2)) {
+    for face in faces[..2 * count].chunks_exact(2 * (d + 3)) {
         text.push(if face[0] == 0 { b'+' } else { b'-' });
-        face[2..].chunks_exact(2).for_each(|b| number(u16::from_le_bytes([b[0], b[1]]) as usize, &mut text));
+        let end = if named { 2 * (d + 3) } else { 2 * (d + 2) };
+        face[2..end].chunks_exact(2).for_each(|b| number(u16::from_le_bytes([b[0], b[1]]) as usize, &mut text));
         text.push(b'\n');
     }
     text
 }
 
-/// A file of about 20 KB: a strip of triangles among many points, slid once.
-pub fn sample() -> Vec<u8> {
+/// A file of about 20 KB, of version 1 or 2: a strip of triangles among many points, slid once.
+pub fn sample(version: u8) -> Vec<u8> {
     let (d, n, v, s) = (2, 3, 770, 200);
-    let mut data = b"WNG\x01\0".to_vec();
-    data.extend([d as u8, n as u8]);
+    let mut data = [&b"WNG"[..], &[version, 0, d as u8, n as u8]].concat();
     for x in [v, s, 1] {
         data.extend((x as u16).to_le_bytes());
     }
@@ -111,6 +117,9 @@ pub fn sample() -> Vec<u8> {
     }
     for p in 0..s {
         data.push(if p % 2 == 0 { b'+' } else { b'-' });
+        if version == 2 {
+            data.extend((p as u16 * 5 % 1000).to_le_bytes());
+        }
         (p..=p + d).for_each(|x| data.extend((x as u16).to_le_bytes()));
     }
     data

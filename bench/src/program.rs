@@ -1,4 +1,4 @@
-//! The program key beside the reference as a program, on a file of about 20 KB.
+//! The program key beside the reference as a program, on files of about 20 KB, one of each version.
 
 use crate::both::Both;
 use crate::key;
@@ -32,14 +32,16 @@ fn least(both: &mut Both, programs: [&[String]; 2], input: &[u8], rounds: usize)
 pub fn run(both: &mut Both, program: &str, rounds: usize) {
     let ours = vec![program.to_string()];
     let plain = vec![std::env::current_exe().unwrap().display().to_string(), "key".to_string()];
-    let file = key::sample();
-    let [a, b] = least(both, [&ours, &plain], &file, rounds);
-    let [x, y] = least(both, [&ours, &plain], b"", rounds);
     println!("\nmicroseconds of the program key, least of {rounds} rounds in turns");
-    println!("{:30}    library reference   ratio", "");
-    println!("{:30}{a:11.0}{b:10.0}{:8.2}", format!("a file of {} bytes", file.len()), a / b);
-    println!("{:30}{x:11.0}{y:10.0}", "an empty file");
-    println!("{:30}{:11.0}{:10.0}{:8.2}", "its own work: the difference", a - x, b - y, (a - x) / (b - y));
+    println!("{:36}    library reference   ratio", "");
+    let [x, y] = least(both, [&ours, &plain], b"", rounds);
+    println!("{:36}{x:11.0}{y:10.0}", "an empty file");
+    for version in [1, 2] {
+        let file = key::sample(version);
+        let [a, b] = least(both, [&ours, &plain], &file, rounds);
+        println!("{:36}{a:11.0}{b:10.0}{:8.2}", format!("version {version}, a file of {} bytes", file.len()), a / b);
+        println!("{:36}{:11.0}{:10.0}{:8.2}", "its own work: less the empty file", a - x, b - y, (a - x) / (b - y));
+    }
 }
 
 /// The reference as a program: standard input to standard output.

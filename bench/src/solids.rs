@@ -1,4 +1,4 @@
-//! Solids to run the calls on. A cell is its sign word and its vertices.
+//! Solids to run the calls on. A cell is its sign word, its material and its vertices.
 
 pub type Cell = Vec<u16>;
 
@@ -41,11 +41,12 @@ fn sides(d: usize, s: usize) -> Vec<usize> {
     sides
 }
 
-/// Cell number x of a grid of cubes. A cube has d! cells: from its least corner along each axis once, in some order.
+/// Cell number x of a grid of cubes, of a material by its number. A cube has d! cells: from its least corner along each
+/// axis once, in some order.
 /// The digits of x in factorial base are the order, and their sum its parity.
 fn grid_cell(sides: &[usize], mut x: usize) -> Cell {
     let d = sides.len();
-    let (mut order, mut odd) = (vec![], 0);
+    let (mut order, mut odd, material) = (vec![], 0, x % 1000);
     for left in 1..=d {
         order.insert(x % left, left - 1);
         odd += left - 1 - x % left;
@@ -58,7 +59,7 @@ fn grid_cell(sides: &[usize], mut x: usize) -> Cell {
         steps.push(step);
         step *= side + 1;
     }
-    let mut cell = vec![(odd % 2) as u16, at as u16];
+    let mut cell = vec![(odd % 2) as u16, material as u16, at as u16];
     for axis in order {
         at += steps[axis];
         cell.push(at as u16);
@@ -77,7 +78,7 @@ pub fn shuffled(cells: &[Cell], v: usize, random: &mut Random) -> Vec<Cell> {
     let mut names: Vec<u16> = (0..v as u16).collect();
     random.shuffle(&mut names);
     let mut renamed = cells.to_vec();
-    renamed.iter_mut().for_each(|cell| cell[1..].iter_mut().for_each(|x| *x = names[*x as usize]));
+    renamed.iter_mut().for_each(|cell| cell[2..].iter_mut().for_each(|x| *x = names[*x as usize]));
     reordered(&renamed, random)
 }
 
@@ -85,8 +86,8 @@ pub fn shuffled(cells: &[Cell], v: usize, random: &mut Random) -> Vec<Cell> {
 pub fn reordered(cells: &[Cell], random: &mut Random) -> Vec<Cell> {
     let mut result = cells.to_vec();
     for cell in result.iter_mut() {
-        for i in (2..cell.len()).rev() {
-            let j = 1 + random.below(i);
+        for i in (3..cell.len()).rev() {
+            let j = 2 + random.below(i - 1);
             cell.swap(i, j);
             cell[0] ^= (i != j) as u16;
         }

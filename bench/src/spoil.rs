@@ -6,24 +6,25 @@ use crate::solids::{Cell, Random};
 /// A fault in a list, or a change that may be one.
 pub fn spoil_list(random: &mut Random, v: usize, cells: &mut [Cell]) {
     let (p, q) = (random.below(cells.len()), random.below(cells.len()));
-    let (i, j) = (1 + random.below(cells[p].len() - 1), 1 + random.below(cells[p].len() - 1));
-    match random.below(6) {
+    let (i, j) = (2 + random.below(cells[p].len() - 2), 2 + random.below(cells[p].len() - 2));
+    match random.below(7) {
         0 => cells[p][0] = random.pick(&[2, 3, 256, 32768, 65535]),
         1 => cells[p][i] = random.pick(&[v as u16, v as u16 + 1, 4096, 32768, 65535]),
         2 => cells[p][i] = cells[p][j],
-        3 => cells[p] = [&cells[q][..1], &cells[q][1..].iter().rev().copied().collect::<Cell>()].concat(),
+        3 => cells[p] = [&cells[q][..1], &cells[p][1..2], &cells[q][2..].iter().rev().copied().collect::<Cell>()].concat(),
         4 => cells[p][0] ^= 1,
+        5 => cells[p][1] = random.pick(&[999, 1000, 1001, 1024, 32768, 65535]),
         _ => cells[p][i] = random.below(v) as u16,
     }
 }
 
 /// A fault in a table, or a change that may be one.
 pub fn spoil_table(random: &mut Random, d: usize, v: usize, s: usize, table: &mut [u8]) {
-    let size = 2 * d + 3;
+    let size = 2 * d + 4;
     let mut words: Vec<u16> = table.chunks_exact(2).map(|b| u16::from_le_bytes([b[0], b[1]])).collect();
     let (p, q) = (random.below(s) * size, random.below(s) * size);
     let (i, j) = (p + random.below(size), p + random.below(size));
-    match random.below(9) {
+    match random.below(10) {
         0 => words[i] = random.pick(&[0, 1, 2, 4095, 4096, 32768, 65534, 65535]),
         1 => words[i] = words[i].wrapping_add(random.pick(&[1, 2, 65535])),
         2 => words[i] = random.below(v.max(s) + 1) as u16,
@@ -31,8 +32,9 @@ pub fn spoil_table(random: &mut Random, d: usize, v: usize, s: usize, table: &mu
         4 => (0..size).for_each(|k| words.swap(p + k, q + k)),
         5 => words.copy_within(p..p + size, q),
         6 => words.chunks_mut(size).for_each(|record| record[0] ^= 1), // as sound as before
-        7 => part(&mut words, size, p + d + 2 + random.below(d + 1), true),
-        _ => part(&mut words, size, p + d + 2 + random.below(d + 1), false),
+        7 => part(&mut words, size, p + d + 3 + random.below(d + 1), true),
+        8 => part(&mut words, size, p + d + 3 + random.below(d + 1), false),
+        _ => words[p + 1] = random.pick(&[0, 999, 1000, 1024, 32768, 65535]), // the first two as sound as before
     }
     for (b, word) in table.chunks_exact_mut(2).zip(words) {
         b.copy_from_slice(&word.to_le_bytes());

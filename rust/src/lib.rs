@@ -1,17 +1,18 @@
 //! Safe functions over the proved library of winged solids: [`read`], [`wing`], [`sweep`], [`move_points`], [`faces`],
 //! [`list`] and [`key`].
 //!
-//! Words are 16 bits. A list of cells holds a sign word (0 plus, 1 minus) and d + 1 vertices a cell; a table
-//! holds a sign word, d + 1 ascending vertices and d + 1 wings a cell, 65535 for none; a face is a sign word
-//! and d vertices. Points are floats, n for each vertex. A solid may be without cells, and only then without vertices.
-//! Its list and its table are then empty.
+//! Words are 16 bits. A list of cells holds a sign word (0 plus, 1 minus), a material (0 to 999) and d + 1 vertices a
+//! cell; a table holds a sign word, a material, d + 1 ascending vertices and d + 1 wings a cell, 65535 for none; a face
+//! is a sign word, d vertices and the material of its cell. Points are floats, n for each vertex. A solid may be without
+//! cells, and only then without vertices. Its list and its table are then empty. Before version 1.4 there were no
+//! materials: lists, tables and faces have a word more a record since, and [`list`] takes the version first.
 //!
 //! ```
-//! // a segment from vertex 0 to vertex 1, swept in one step, and the boundary of that square
-//! let table = winged::wing(1, 2, 1, &[0, 0, 1])?.table;
+//! // a segment from vertex 0 to vertex 1, of material 7, swept in one step, and the boundary of that square
+//! let table = winged::wing(1, 2, 1, &[0, 7, 0, 1])?.table;
 //! let swept = winged::sweep(1, 2, 1, 1, &table)?;
 //! let faces = winged::faces(2, 4, 2, &swept)?;
-//! assert_eq!(faces, [1, 0, 2, 0, 0, 1, 1, 2, 3, 0, 1, 3]);
+//! assert_eq!(faces, [1, 0, 2, 7, 0, 0, 1, 7, 1, 2, 3, 7, 0, 1, 3, 7]);
 //! # Ok::<(), winged::Refusal>(())
 //! ```
 
@@ -33,8 +34,8 @@ mod ffi {
             levels: *mut u8, levels_len: usize,
         ) -> i64;
         pub fn winged_list(
-            d: u32, n: u32, v: u32, s: u32, table: *const u8, table_len: usize, points: *const u8, points_len: usize, text: *mut u8,
-            text_len: usize,
+            version: u32, d: u32, n: u32, v: u32, s: u32, table: *const u8, table_len: usize, points: *const u8, points_len: usize,
+            text: *mut u8, text_len: usize,
         ) -> i64;
         pub fn winged_key(file: *const u8, file_len: usize, text: *mut u8, text_len: usize) -> i64;
         pub fn winged_faces(d: u32, v: u32, s: u32, table: *const u8, table_len: usize, faces: *mut u8, faces_len: usize) -> i64;
@@ -62,6 +63,7 @@ pub enum Refusal {
     MovedOutOfRange = 13,
     Unsound = 14,
     NoRoom = 15,
+    BadMaterial = 18,
 }
 
 impl Refusal {
@@ -69,7 +71,7 @@ impl Refusal {
         use Refusal::*;
         [
             NotOurs, OutsideLimits, WrongLength, FloatRange, StepUnfit, BadSign, BadVertex, VertexTwice, CellTwice, CrowdedFace,
-            EqualSigns, SweptTooLarge, MovedOutOfRange, Unsound, NoRoom,
+            EqualSigns, SweptTooLarge, MovedOutOfRange, Unsound, NoRoom, BadMaterial,
         ]
         .into_iter()
         .find(|&r| r as i64 == number)
@@ -93,8 +95,9 @@ impl fmt::Display for Refusal {
             Refusal::EqualSigns => "two cells share a face with equal signs",
             Refusal::SweptTooLarge => "the sweep has over 4,096 vertices or cells",
             Refusal::MovedOutOfRange => "a moved coordinate leaves the range",
-            Refusal::Unsound => "the table is not sound: it is not the table of its own cells",
+            Refusal::Unsound => "the table is not sound: it is not the table of its own cells, or has a material above 999",
             Refusal::NoRoom => "an output is shorter than the answer",
+            Refusal::BadMaterial => "a material is above 999",
         };
         write!(f, "refused {}: {reason}", *self as u8)
     }
@@ -119,7 +122,7 @@ fn call(input: &[u16], room: usize, job: impl FnOnce(&[u8], &mut [u8]) -> i64) -
 
 /// Words of a table of `s` cells of dimension `d`; numbers beyond the limits are refused before any room is used.
 fn table_room(d: u32, s: usize) -> usize {
-    s.min(4096) * (2 * d.min(7) as usize + 3)
+    s.min(4096) * (2 * d.min(7) as usize + 4)
 }
 
 /// What [`wing`] writes.
@@ -136,10 +139,10 @@ pub struct Winged {
 /// vertices stand in the list.
 ///
 /// ```
-/// // four triangles: +(2 0 1), -(0 1 3), -(1 2 4) and +(0 2 5)
-/// let winged = winged::wing(2, 6, 4, &[0, 2, 0, 1, 1, 0, 1, 3, 1, 1, 2, 4, 0, 0, 2, 5])?;
+/// // four triangles: +(2 0 1) of material 5, -(0 1 3), -(1 2 4) and +(0 2 5)
+/// let winged = winged::wing(2, 6, 4, &[0, 5, 2, 0, 1, 1, 0, 0, 1, 3, 1, 0, 1, 2, 4, 0, 0, 0, 2, 5])?;
 /// // the first is +(0 1 2) in the table: cell 2 is across from vertex 0, cell 3 from vertex 1, cell 1 from vertex 2
-/// assert_eq!(winged.table[..7], [0, 0, 1, 2, 2, 3, 1]);
+/// assert_eq!(winged.table[..8], [0, 5, 0, 1, 2, 2, 3, 1]);
 /// assert_eq!(winged.uploaded[..3], [1, 2, 3]);
 /// # Ok::<(), winged::Refusal>(())
 /// ```
@@ -169,7 +172,7 @@ pub fn sweep(d: u32, v: u32, s: u32, h: u32, table: &[u16]) -> Result<Vec<u16>, 
 /// The boundary faces of a table.
 pub fn faces(d: u32, v: u32, s: u32, table: &[u16]) -> Result<Vec<u16>, Refusal> {
     let corners = d.min(7) as usize + 1;
-    call(table, (s as usize).min(4096) * corners * corners, |input, out| {
+    call(table, (s as usize).min(4096) * corners * (corners + 1), |input, out| {
         // SAFETY: as for wing.
         unsafe { ffi::winged_faces(d, v, s, input.as_ptr(), input.len(), out.as_mut_ptr(), out.len()) }
     })
@@ -186,6 +189,8 @@ pub enum Step {
 /// What a file says.
 #[derive(Clone, Debug, PartialEq)]
 pub struct File {
+    /// 1, or 2 for a file with materials.
+    pub version: u32,
     pub d: u32,
     pub n: u32,
     pub v: u32,
@@ -212,8 +217,8 @@ fn answered(answer: i64) -> Result<usize, Refusal> {
 
 /// Reads a file's bytes.
 pub fn read(file: &[u8]) -> Result<File, Refusal> {
-    let mut header = [0u8; 40];
-    let mut cells = vec![0u8; 65536];
+    let mut header = [0u8; 42];
+    let mut cells = vec![0u8; 73728];
     let mut points = vec![0u8; 262144];
     // SAFETY: all buffers are valid for their lengths and do not overlap.
     let count = answered(unsafe {
@@ -224,14 +229,14 @@ pub fn read(file: &[u8]) -> Result<File, Refusal> {
     })?;
     let word = |k: usize| u32::from(u16::from_le_bytes([header[2 * k], header[2 * k + 1]]));
     let [d, n, v, s, h, kind, axis, other] = std::array::from_fn(word);
-    let amounts = floats(&header[16..]);
+    let (amounts, version) = (floats(&header[16..40]), word(20));
     let (a, b, c) = (amounts[0], amounts[1], amounts[2]);
     let step = match kind {
         1 => Step::Slide { axis, amount: a },
         2 => Step::Slant { axis, amount: a, other, other_amount: b },
         _ => Step::Turn { cosine: a, sine: b, rise: c },
     };
-    Ok(File { d, n, v, s, h, step, cells: words(&cells[..2 * count]), points: floats(&points[..8 * (v * n) as usize]) })
+    Ok(File { version, d, n, v, s, h, step, cells: words(&cells[..2 * count]), points: floats(&points[..8 * (v * n) as usize]) })
 }
 
 /// The points of levels 0 to `h`: `v` points of `n` axes, moved `h` times.
@@ -254,14 +259,15 @@ pub fn move_points(n: u32, v: u32, h: u32, step: Step, points: &[f64]) -> Result
 }
 
 /// The key's text of a table and its points; 2 MB hold the longest. Coordinates have three decimals; of two equally
-/// near thousandths the even one is written.
-pub fn list(d: u32, n: u32, v: u32, s: u32, table: &[u16], points: &[f64]) -> Result<String, Refusal> {
+/// near thousandths the even one is written. In `version` 2 the line of a face ends with its material; version 1 leaves
+/// materials out, and there is no other.
+pub fn list(version: u32, d: u32, n: u32, v: u32, s: u32, table: &[u16], points: &[f64]) -> Result<String, Refusal> {
     let (table, points) = (bytes(table), float_bytes(points));
     let mut text = vec![0u8; 1 << 21];
     // SAFETY: as for read.
     let count = answered(unsafe {
         ffi::winged_list(
-            d, n, v, s, table.as_ptr(), table.len(), points.as_ptr(), points.len(), text.as_mut_ptr(), text.len(),
+            version, d, n, v, s, table.as_ptr(), table.len(), points.as_ptr(), points.len(), text.as_mut_ptr(), text.len(),
         )
     })?;
     text.truncate(count);

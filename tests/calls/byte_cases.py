@@ -1,12 +1,12 @@
-"""Cases by bytes: lengths that are no whole number of words or floats, a short header, and a step told by numbers that
-the other cases do not send."""
+"""Cases by bytes: lengths that are no whole number of words or floats, a short header, the version behind it, and a step
+told by numbers that the other cases do not send."""
 
 import itertools
 import struct
 
 import winged_reference as reference
+from files import MINUS_ZERO, Case, Solid, bits_of
 from list_cases import plain, strip, table_of
-from read_cases import MINUS_ZERO, Case, Solid, bits_of
 from winged_reference import Slant, Slide, Turn
 
 MOVE, READ, LIST = 6, 7, 8
@@ -66,13 +66,13 @@ def read(name, header, cells, points, row, solid=None):
     """A small file read to buffers of so many bytes more than it needs."""
     solid = solid or Solid()
     data = solid.data()
-    rooms = (40 + header, 2 * solid.s * (solid.d + 2) + cells, 8 * solid.v * solid.n + points)
+    rooms = (42 + header, 2 * solid.s * (solid.d + 3) + cells, 8 * solid.v * solid.n + points)
     sent = struct.pack("<5Q", READ, len(data), *rooms) + data
     if row:
         lines = [f"refused {row}", *((MARK * room).hex() for room in rooms)]
     else:
         a = reference.read(data, 1 << 20, 1 << 20)
-        numbers = struct.pack("<8H", a.d, a.n, a.v, a.s, a.h, solid.kind, *solid.axes) + struct.pack("<3Q", *solid.floats)
+        numbers = struct.pack("<8H3QH", a.d, a.n, a.v, a.s, a.h, solid.kind, *solid.axes, *solid.floats, solid.version)
         parts = (numbers, struct.pack(f"<{len(a.cells)}H", *a.cells), struct.pack(f"<{len(solid.points)}Q", *solid.points))
         lines = [f"read {len(a.cells)}", *((part + MARK * (room - len(part))).hex() for part, room in zip(parts, rooms))]
     lines[3] = "behind " + lines[3]
@@ -80,38 +80,41 @@ def read(name, header, cells, points, row, solid=None):
 
 
 def reads():
-    for header in (-40, -1, 0, 1, 24):
+    for version, header in itertools.product((1, 2), (-42, -2, -1, 0, 1, 2, 24)):
         for cells in (-2, -1, 0, 1, 2):
             for points in (-8, -1, 0, 1, 7, 8):
                 row = 15 if min(header, cells, points) < 0 else 0
-                yield read(f"{header}, {cells}, {points} bytes over", header, cells, points, row)
-    for kind, (_, axes, bits) in STEPS.items():
-        solid = Solid(kind=kind, axes=axes).set(floats=list(bits))
+                solid = Solid(version=version)
+                yield read(f"version {version}: {header}, {cells}, {points} bytes over", header, cells, points, row, solid)
+    for version, (kind, (_, axes, bits)) in itertools.product((1, 2), STEPS.items()):
+        solid = Solid(version=version, kind=kind, axes=axes).set(floats=list(bits))
         solid.points[0] = MINUS_ZERO
-        yield read(f"kind {kind} by bytes", 0, 0, 0, 0, solid)
-    for d, v in itertools.product(range(7), (0, 2)):
-        solid = Solid(d=d, n=d + 1, v=v, s=0)
-        for header, cells, points in ((0, 0, 0), (0, 1, 7), (-1, 0, 0), (-40, 0, 0), *[(0, 0, -1)] * (v > 0)):
+        yield read(f"kind {kind} of version {version} by bytes", 0, 0, 0, 0, solid)
+    for version, d, v in itertools.product((1, 2), range(7), (0, 2)):
+        solid = Solid(version=version, d=d, n=d + 1, v=v, s=0)
+        for header, cells, points in ((0, 0, 0), (0, 1, 7), (-1, 0, 0), (-2, 0, 0), (-42, 0, 0), *[(0, 0, -1)] * (v > 0)):
             row = 15 if min(header, points) < 0 else 0
-            yield read(f"no cells: d {d} v {v}, {header}, {cells}, {points} bytes over", header, cells, points, row, solid)
-    yield read("no header's room, and a vertex too high", -1, 0, 0, 7, bad_vertex())
+            name = f"no cells: version {version} d {d} v {v}, {header}, {cells}, {points} bytes over"
+            yield read(name, header, cells, points, row, solid)
+    yield read("no header's room, and a vertex too high", -1, 0, 0, 7, with_cell_word(2, 5))
+    yield read("no header's room, and a material too great", -1, 0, 0, 18, with_cell_word(1, 1000))
 
 
-def bad_vertex():
+def with_cell_word(place, word):
     solid = Solid()
-    solid.cells[1][1] = 5
+    solid.cells[1][place] = word
     return solid
 
 
 def lists():
-    table = struct.pack("<21H", *table_of(2, 5, strip(2, 3)))
-    floats = plain(15)
-    points = as_floats(floats)
-    answer = reference.list_key(2, 3, 5, 3, table_of(2, 5, strip(2, 3)), floats, 1 << 20)
-    for name, t, p, row in (
+    words, floats = table_of(2, 5, strip(2, 3)), plain(15)
+    table, points = struct.pack("<24H", *words), as_floats(floats)
+    for version, (name, t, p, row) in itertools.product((1, 2), (
             ("whole", table, points, 0), ("a byte over", table + b"\0", points, 3), ("a byte short", table[:-1], points, 3),
             ("points and a byte", table, points + b"\0", 3), ("points, a byte short", table, points[:-1], 3),
-            ("points and seven bytes", table, points + b"\0" * 7, 3), ("no bytes", b"", b"", 3)):
+            ("points and seven bytes", table, points + b"\0" * 7, 3), ("no bytes", b"", b"", 3))):
+        answer = reference.list_key(version, 2, 3, 5, 3, words, floats, 1 << 20)
         room = answer.count + 3
-        sent = struct.pack("<8Q", LIST, 2, 3, 5, 3, len(t), len(p), room) + t + p
-        yield Case(name, sent, said("listed", row or answer.count, None if row else answer.written, room, "buffer "), row)
+        sent = struct.pack("<9Q", LIST, version, 2, 3, 5, 3, len(t), len(p), room) + t + p
+        wanted = said("listed", row or answer.count, None if row else answer.written, room, "buffer ")
+        yield Case(f"version {version}, {name}", sent, wanted, row)

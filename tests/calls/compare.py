@@ -68,7 +68,7 @@ def main():
     seed = int(sys.argv[2]) if len(sys.argv) > 2 else 20262
     tally = Tally(shown=10)
     for name, cases, more, last, wanted in (
-            ("read", read_cases.cases, byte_cases.reads, "behind", {0, 1, 2, 3, 4, 5, 6, 7, 8, 15}),
+            ("read", read_cases.cases, byte_cases.reads, "behind", {0, 1, 2, 3, 4, 5, 6, 7, 8, 18, 15}),
             ("move", move_cases.cases, byte_cases.moves, "buffer", {0, 2, 3, 4, 5, 12, 13, 15}),
             ("list", list_cases.cases, byte_cases.lists, "buffer", {0, 2, 3, 4, 14, 15}),
             ("key", key_cases.cases, tuple, "buffer", {0, 15})):

@@ -5,7 +5,7 @@
  *   1, 2, 3   a move by a slide, a slant, a turn: two axes, three floats by their bits, n, v, h, the floats lent as points
  *             and for the answer; then the points
  *   4         a file to read: its bytes, the words and the floats lent; then the file
- *   5         a table to list: d, n, v, s, its words, the points' floats, the bytes lent; then words and points
+ *   5         a table to list: version, d, n, v, s, its words, the points' floats, the bytes lent; then words and points
  *   6, 7, 8   move, read and list by bytes: the call's numbers, the lengths of all buffers in bytes, then the inputs
  *   9         a file to its key: its bytes, the bytes lent; then the file
  * Every output holds marks before the call. Around all buffers stand guard bytes; a call that touches one, or an input,
@@ -17,7 +17,7 @@
 
 #include "winged.h"
 
-enum { GUARD = 64, EDGE = 0x5a, MARK = 0xa5, HEADER = 40 };
+enum { GUARD = 64, EDGE = 0x5a, MARK = 0xa5, HEADER = 42 };
 
 /* -700001.625 */
 static const uint8_t FLOAT_MARK[8] = {0x00, 0x00, 0x00, 0x40, 0xc3, 0x5c, 0x25, 0xc1};
@@ -173,8 +173,8 @@ static int64_t call_list(const Case *c)
 {
     const uint64_t *k = c->k;
 
-    return winged_list(small(k[0]), small(k[1]), small(k[2]), small(k[3]), c->b[0].bytes, c->b[0].n, c->b[1].bytes, c->b[1].n,
-                       c->b[2].bytes, c->b[2].n);
+    return winged_list(small(k[0]), small(k[1]), small(k[2]), small(k[3]), small(k[4]), c->b[0].bytes, c->b[0].n, c->b[1].bytes,
+                       c->b[1].n, c->b[2].bytes, c->b[2].n);
 }
 
 static int64_t call_key(const Case *c)
@@ -213,14 +213,15 @@ static void move_case(uint64_t kind)
     done(levels, 0);
 }
 
-/* What the header's 40 bytes say. */
+/* What the header's 42 bytes say; the version, which stands last, comes first here. */
 static void print_header(const uint8_t *h)
 {
     uint64_t w[8];
 
     for (int i = 0; i < 8; i++)
         w[i] = number(h + 2 * i, 2);
-    printf("read %" PRIu64 " %" PRIu64 " %" PRIu64 " %" PRIu64 " %" PRIu64 "\n", w[0], w[1], w[2], w[3], w[4]);
+    printf("read %" PRIu64, number(h + 40, 2));
+    printf(" %" PRIu64 " %" PRIu64 " %" PRIu64 " %" PRIu64 " %" PRIu64 "\n", w[0], w[1], w[2], w[3], w[4]);
     if (w[5] == 1)
         printf("slide %" PRIu64 " %016" PRIx64 "\n", w[6], number(h + 16, 8));
     else if (w[5] == 2)
@@ -259,10 +260,10 @@ static void read_case(void)
 
 static void list_bytes(size_t size)
 {
-    uint64_t k[7];
+    uint64_t k[8];
 
-    get_all(k, 7);
-    Buffer table = input(size == 1 ? k[4] : 2 * k[4]), points = input(size == 1 ? k[5] : 8 * k[5]), text = output(k[6]);
+    get_all(k, 8);
+    Buffer table = input(size == 1 ? k[5] : 2 * k[5]), points = input(size == 1 ? k[6] : 8 * k[6]), text = output(k[7]);
     print_answer("listed", answer(call_list, (Case){0, k, {table, points, text}}));
     printf("buffer ");
     print_bytes(text);

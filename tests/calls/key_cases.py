@@ -1,11 +1,12 @@
 """Cases for the key from C: files, good and damaged and at the limit of their length, with text enough and too little."""
 
+import itertools
 import struct
 
 import solids
 import winged_reference as reference
 from byte_cases import said
-from read_cases import Case
+from files import Case
 
 KEY = 9
 LIMIT = 65536  # bytes of the longest file, and of the longest text
@@ -21,8 +22,15 @@ def case(name, data, room):
 def files(rng):
     good = solids.random_file(rng, 2)
     yield from (("no bytes", b""), ("a good file", good))
+    cells = [reference.Cell(1, (0, 1), 0), reference.Cell(1, (1, 2), 999)]
+    for version, material in itertools.product((1, 2), solids.MATERIALS + solids.BAD_MATERIALS):
+        cells[0] = cells[0]._replace(material=material)
+        data = solids.file_bytes(1, 2, 3, 2, reference.Slide(1, 0.5), [0.0, 0.0, 1.0, 0.0, 2.0, 0.0], cells, version)
+        yield f"version {version}, material {material}", data
     for length in (39, 40, LIMIT - 1, LIMIT, LIMIT + 1, 3 * LIMIT):
         yield f"{length} bytes", good[:length] + b"\0" * (length - len(good))
+    for row, data in solids.limit_files():
+        yield f"row {row} of {len(data)} bytes", data
     for d, n, v, h, data in solids.empty_files():
         yield f"no cells: d {d} n {n} v {v} h {h}", data
     for number in range(400):

@@ -7,7 +7,8 @@ from fractions import Fraction
 
 import solids
 import winged_reference as reference
-from read_cases import BIG, INSIDE, OUTSIDE, Case, circle_edges, spaced
+from files import BIG, INSIDE, OUTSIDE, Case, spaced
+from read_cases import circle_edges
 from winged_reference import Slant, Slide, Turn
 
 MARK = -700001.625

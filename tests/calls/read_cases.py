@@ -1,86 +1,13 @@
-"""Cases for the call read: good files, both sides of every limit, two faults at once, and random damage."""
+"""Cases for the call read: good files of both versions, both sides of every limit, two faults at once, and random damage."""
 
-import collections
 import itertools
 import math
 import struct
 
 import solids
-import winged_reference as reference
+from files import BIG, EDGES, FLOATS, MINUS_ZERO, WORDS, Solid, bits_of, case
 
-WORDS, FLOATS = 32768, 8192  # what the program key lends
-Case = collections.namedtuple("Case", "name sent want row")
-
-BIG = 1048576.0
-INSIDE, OUTSIDE = math.nextafter(BIG, 0.0), math.nextafter(BIG, math.inf)
-# floats by their bits, and whether row 4 allows them
-EDGES = [(bits, good) for value, good in (
-    (BIG, False), (-BIG, False), (INSIDE, True), (-INSIDE, True), (OUTSIDE, False), (-OUTSIDE, False),
-    (math.inf, False), (-math.inf, False), (0.0, True), (5e-324, True), (-5e-324, True), (2.2e-308, True), (1.7e308, False))
-    for bits in struct.unpack("<Q", struct.pack("<d", value))]
-EDGES += [(bits, False) for bits in (0x7FF8000000000000, 0xFFF8000000000000, 0x7FF0000000000001, 0xFFFFFFFFFFFFFFFF)]
-MINUS_ZERO = 1 << 63
-
-
-def bits_of(x):
-    return struct.unpack("<Q", struct.pack("<d", x))[0]
-
-
-def spaced(floats):
-    """Floats as the programs print them."""
-    return "".join(f" {bits:016x}" for bits in struct.unpack(f"<{len(floats)}Q", struct.pack(f"<{len(floats)}d", *floats)))
-
-
-def step_text(step):
-    if isinstance(step, reference.Slide):
-        return f"slide {step.axis}{spaced([step.amount])}"
-    if isinstance(step, reference.Slant):
-        return f"slant {step.axis}{spaced([step.amount])} {step.other_axis}{spaced([step.other_amount])}"
-    return f"turn{spaced(list(step))}"
-
-
-def expected(data, words, floats):
-    """What the program is to print."""
-    a = reference.read(data, words, floats)
-    if isinstance(a, reference.Refused):
-        return f"refused {a.number}\nbehind 0 0"
-    cells = "".join(f" {word:04x}" for word in a.cells)
-    return (f"read {a.d} {a.n} {a.v} {a.s} {a.h}\n{step_text(a.step)}\n"
-            f"cells{cells}\npoints{spaced(a.points)}\nbehind 0 0")
-
-
-def case(name, data, words=WORDS, floats=FLOATS, row=None):
-    return Case(name, struct.pack("<4Q", 4, len(data), words, floats) + data, expected(data, words, floats), row)
-
-
-class Solid:
-    """A file before it is put together, so that faults can be set one by one. Its length fits its numbers."""
-
-    def __init__(self, d=2, n=3, v=5, s=4, h=2, kind=1, axes=(0, 0), floats=(1.5, 0.0, 0.0)):
-        self.mark, self.version = b"WNG", 1
-        self.d, self.n, self.v, self.s, self.h, self.kind = d, n, v, s, h, kind
-        self.axes = list(axes)
-        self.floats = [bits_of(x) for x in floats]
-        self.points = [bits_of(k % 97 / 8 - 6) for k in range(v * n)]
-        self.cells = [[43 + 2 * (p % 2)] + [(p + i) % max(v, 1) for i in range(d + 1)] for p in range(s)]
-        self.tail, self.words, self.spaces = 0, None, None
-
-    def data(self):
-        data = self.mark + struct.pack("<HBBHHHBBB3Q", self.version, self.d, self.n, self.v, self.s, self.h, self.kind,
-                                       *self.axes, *self.floats)
-        data += struct.pack(f"<{len(self.points)}Q", *self.points)
-        data += b"".join(struct.pack(f"<B{self.d + 1}H", *cell) for cell in self.cells)
-        return data[:self.tail] if self.tail < 0 else data + b"\0" * self.tail
-
-    def case(self, name, row=None):
-        words = WORDS if self.words is None else self.s * (self.d + 2) + self.words
-        floats = FLOATS if self.spaces is None else self.v * self.n + self.spaces
-        return case(name, self.data(), words, floats, row)
-
-    def set(self, **values):
-        for name, value in values.items():
-            setattr(self, name, value)
-        return self
+ORDER = (1, 2, 3, 4, 5, 6, 7, 8, 18, 15)  # in which the rows are tried
 
 
 def limits():
@@ -91,8 +18,8 @@ def limits():
     yield Solid(d=255, n=255).case("d and n 255", 2)
     for v in (0, 1, 2, 4095, 4096, 4097, 5000):
         yield Solid(d=0, n=1, v=v).case(f"v {v}", 0 if 1 <= v <= 4096 else 2)
-    for s in (0, 1, 2, 4095, 4096, 4097, 5000):
-        yield Solid(d=0, n=1, s=s).case(f"s {s}", 0 if s <= 4096 else 2)
+    for version, s in itertools.product((1, 2), (0, 1, 2, 4095, 4096, 4097, 5000)):
+        yield Solid(d=0, n=1, s=s, version=version).case(f"version {version} s {s}", 0 if s <= 4096 else 2)
     for h in (0, 1, 2, 63, 64, 65, 66, 256, 65535):
         yield Solid(h=h).case(f"h {h}", 0 if 1 <= h <= 64 else 2)
     for kind in range(256):
@@ -109,27 +36,32 @@ def no_cells():
         for more in (0, 1, -1) if v else (0, 1):
             yield case(f"no cells: d {d} n {n} v {v} h {h}, {more} floats over", data, 0, v * n + more, 15 if more < 0 else 0)
         if v == 0:
-            cell = struct.pack(f"<B{d + 1}H", 43, *range(d + 1))
+            cell = struct.pack(f"<B{d + data[3]}H", 43, *range(d + data[3]))  # in version 2 with a material
             yield case(f"no vertices, one cell: d {d} n {n}", data[:9] + b"\1\0" + data[11:] + cell, row=2)
         yield case(f"no cells, a byte too many: d {d} n {n} v {v}", data + b"+", row=3)
 
 
 def starts():
-    """Row 1: every byte of mark and version, and every short length."""
-    data = Solid(d=0, n=1, v=1, s=1).data()
-    for place, bit in itertools.product(range(5), range(8)):
-        damaged = bytearray(data)
-        damaged[place] ^= 1 << bit
-        yield case(f"byte {place} bit {bit}", bytes(damaged), row=1)
-    for length in range(len(data) + 1):
-        yield case(f"length {length}", data[:length], row=0 if length == len(data) else 1 if length < 40 else 3)
+    """Row 1: every byte of mark and version, other versions, and every short length."""
+    for version in (1, 2):
+        data = Solid(d=0, n=1, v=1, s=1, version=version).data()
+        for place, bit in itertools.product(range(5), range(8)):
+            damaged = bytearray(data)
+            damaged[place] ^= 1 << bit
+            yield case(f"version {version} byte {place} bit {bit}", bytes(damaged), row=1)
+        for length in range(len(data) + 1):
+            row = 0 if length == len(data) else 1 if length < 40 else 3
+            yield case(f"version {version} length {length}", data[:length], row=row)
+        for other in (0, 1, 2, 3, 4, 255, 256, 257, 258, 512, 513, 514, 32769, 65535):
+            row = 0 if other == version else 3 if other in (1, 2) else 1
+            yield case(f"version {version} told as {other}", data[:3] + struct.pack("<H", other) + data[5:], row=row)
 
 
 def lengths():
     """Row 3: one byte, one float or one cell too few or too many."""
-    for d in range(7):
-        for tail in (-8, -2, -1, 1, 2, 8, 1 + 2 * (d + 1), -1 - 2 * (d + 1)):
-            yield Solid(d=d, n=7, v=8).set(tail=tail).case(f"d {d} tail {tail}", 3)
+    for d, version in itertools.product(range(7), (1, 2)):
+        for tail in (-8, -2, -1, 1, 2, 8, 1 + 2 * (d + 1), -1 - 2 * (d + 1), 3 + 2 * (d + 1), -3 - 2 * (d + 1)):
+            yield Solid(d=d, n=7, v=8, version=version).set(tail=tail).case(f"d {d} version {version} tail {tail}", 3)
 
 
 def kinds():
@@ -168,39 +100,47 @@ def axes():
 
 
 def cells():
-    """Rows 6 to 8: every sign byte, vertices about V, every pair of places."""
+    """Rows 6, 7, 8 and 18: every sign byte, vertices about V, every pair of places, materials about 999."""
     for place, byte in itertools.product((0, 1, -1), range(256)):
-        solid = Solid()
+        solid = Solid(version=1 + byte % 2)
         solid.cells[place][0] = byte
         yield solid.case(f"cell {place} sign {byte}", 0 if byte in (43, 45) else 6)
-    for d in range(7):
-        for place, at, x in itertools.product((0, 1, -1), range(1, d + 2), (7, 8, 9, 255, 256, 65535)):
-            solid = Solid(d=d, n=8, v=8)
-            solid.cells[place] = [45] + list(range(d + 1))
+    for d, version in itertools.product(range(7), (1, 2)):
+        for place, at, x in itertools.product((0, 1, -1), range(2, d + 3), (7, 8, 9, 255, 256, 65535)):
+            solid = Solid(d=d, n=8, v=8, version=version)
+            solid.cells[place][2:] = range(d + 1)
             solid.cells[place][at] = x
-            yield solid.case(f"d {d} cell {place} vertex {at} is {x}", 0 if x < 8 else 7)
-        for place, (i, j) in itertools.product((0, 1, -1), itertools.combinations(range(1, d + 2), 2)):
-            solid = Solid(d=d, n=8, v=8)
+            yield solid.case(f"d {d} version {version} cell {place} vertex {at} is {x}", 0 if x < 8 else 7)
+        for place, (i, j) in itertools.product((0, 1, -1), itertools.combinations(range(2, d + 3), 2)):
+            solid = Solid(d=d, n=8, v=8, version=version)
             solid.cells[place][i] = solid.cells[place][j]
-            yield solid.case(f"d {d} cell {place} vertices {i} and {j} equal", 8)
+            yield solid.case(f"d {d} version {version} cell {place} vertices {i} and {j} equal", 8)
+        for place, x in itertools.product((0, 1, -1), (*solids.MATERIALS, *solids.BAD_MATERIALS, 100, 65534)):
+            solid = Solid(d=d, n=8, v=8, version=version)
+            solid.cells[place][1] = x
+            yield solid.case(f"d {d} version {version} cell {place} material {x}", 18 if x > 999 and version == 2 else 0)
 
 
 def rooms():
     """Row 15: each buffer as long as its answer, one longer and one shorter, in small files and in the largest."""
-    for d, words, floats in itertools.product(range(7), (-1, 0, 1, None), (-1, 0, 1, None)):
-        solid = Solid(d=d, n=7, v=8, s=6).set(words=words, spaces=floats)
-        yield solid.case(f"d {d} room {words} {floats}", 15 if -1 in (words, floats) else 0)
+    for version, d, words, floats in itertools.product((1, 2), range(7), (-1, 0, 1, None), (-1, 0, 1, None)):
+        solid = Solid(d=d, n=7, v=8, s=6, version=version).set(words=words, spaces=floats)
+        yield solid.case(f"version {version} d {d} room {words} {floats}", 15 if -1 in (words, floats) else 0)
     yield case("no room at all", Solid().data(), 0, 0, 15)
     # of these the first has 65,536 bytes and the second one more
     for n, v, s, row in ((8, 1023, 8, 0), (2, 4093, 3, 0), (2, 4096, 1, 0), (8, 1024, 1, 0), (3, 2731, 1, 15),
                          (3, 4096, 9, 15)):
-        yield Solid(d=0, n=n, v=v, s=s).case(f"{n} axes of {v} points", row)
-    largest = Solid(d=6, n=8, v=4096, s=4096)
-    assert len(largest.data()) == 323624
-    yield largest.case("the largest file, and too few floats", 15)
-    yield case("the largest file", largest.data(), 32768, 32768, 0)
-    yield case("the largest file, a word short", largest.data(), 32767, 32768, 15)
-    yield case("the largest file, a float short", largest.data(), 32768, 32767, 15)
+        yield Solid(d=0, n=n, v=v, s=s, version=1).case(f"{n} axes of {v} points", row)
+    # lists of 32,760 words and of 32,769, which are more than the program lends
+    for version, (s, row) in itertools.product((1, 2), ((3640, 0), (3641, 15))):
+        yield Solid(d=6, n=7, v=8, s=s, version=version).case(f"version {version}: {s} cells of dimension 6", row)
+    for version, length in ((1, 323624), (2, 331816)):
+        largest, name = Solid(d=6, n=8, v=4096, s=4096, version=version), f"the largest file of version {version}"
+        assert len(largest.data()) == length
+        yield largest.case(f"{name}, and too few floats", 15)
+        yield case(name, largest.data(), 36864, 32768, 0)
+        yield case(f"{name}, a word short", largest.data(), 36863, 32768, 15)
+        yield case(f"{name}, a float short", largest.data(), 36864, 32767, 15)
     yield case("400,000 zeros", bytes(400000), row=1)
 
 
@@ -217,16 +157,20 @@ def sign_bad(cell):
 
 
 def vertex_bad(cell):
-    cell[1] = 5
+    cell[2] = 5
 
 
 def vertex_again(cell):
     cell[-1] = cell[-2]
 
 
+def material_bad(cell):
+    cell[1] = 1000
+
+
 # a row and what makes it apply; places from the first cell or point to the last
 FAULTS = [
-    (1, lambda f: f.set(version=2)), (1, lambda f: f.set(mark=b"WNg")),
+    (1, lambda f: f.set(version=3)), (1, lambda f: f.set(mark=b"WNg")),
     (2, lambda f: f.set(h=0)), (2, lambda f: f.set(h=65)),
     (3, lambda f: f.set(tail=1)),
     (4, lambda f: f.floats.__setitem__(2, 0x7FF0000000000000)), (4, point_bad(0)), (4, point_bad(-1)),
@@ -235,6 +179,7 @@ FAULTS = [
     (6, cell_bad(0, sign_bad)), (6, cell_bad(-1, sign_bad)),
     (7, cell_bad(0, vertex_bad)), (7, cell_bad(-1, vertex_bad)),
     (8, cell_bad(0, vertex_again)), (8, cell_bad(-1, vertex_again)),
+    (18, cell_bad(0, material_bad)), (18, cell_bad(-1, material_bad)),
     (15, lambda f: f.set(words=-1)), (15, lambda f: f.set(spaces=-1)),
 ]
 
@@ -249,7 +194,7 @@ def two_faults():
         solid = Solid()
         fault(solid)
         second(solid)
-        yield solid.case(f"faults {i} and {j}", min(row, other))
+        yield solid.case(f"faults {i} and {j}", min(row, other, key=ORDER.index))
     solid = Solid()
     sign_bad(solid.cells[-1])
     vertex_bad(solid.cells[0])
@@ -289,7 +234,7 @@ def random_files(rng, count):
         words, floats = WORDS, FLOATS
         if rng.random() < 0.3 and len(data) >= 40:
             d, n, v, s, _ = solids.file_numbers(data)
-            words = min(32768, max(0, s * (d + 2) + rng.choice((-1, 0, 0, 1, 5))))
+            words = min(32768, max(0, s * (d + 3) + rng.choice((-1, 0, 0, 1, 5))))
             floats = min(32768, max(0, v * n + rng.choice((-1, 0, 0, 1, 5))))
         yield case(f"random {k}", data, words, floats)
 

@@ -10,19 +10,19 @@ enum { V = 4096, S = 4089 };
 static uint8_t list[WINGED_LIST_BYTES(7, S)];
 static uint8_t table[WINGED_TABLE_BYTES(7, WINGED_MAX_CELLS)];
 static uint8_t uploaded[WINGED_UPLOADED_BYTES(7, WINGED_MAX_CELLS)];
-static uint8_t file[40 + 8 * 8 * 4096 + 3 * 4096], points[WINGED_POINTS_BYTES(8, 4096)], levels[WINGED_POINTS_BYTES(8, 4096)];
+static uint8_t file[40 + 8 * 8 * 4096 + 5 * 4096], points[WINGED_POINTS_BYTES(8, 4096)], levels[WINGED_POINTS_BYTES(8, 4096)];
 static uint8_t header[WINGED_HEADER_BYTES], text[1 << 21];
 /* a point slid once on its axis */
 static const uint8_t small[51] = {'W', 'N', 'G', 1, 0, 0, 1, 1, 0, 1, 0, 1, 0, 1, [48] = '+'};
 static uint8_t out[WINGED_FACES_BYTES(7, WINGED_MAX_CELLS)];
 
-/* A strip of s cells of dimension d: cell p is on p, p + 1, .. , p + d. Its bytes. */
+/* A strip of s cells of dimension d: cell p is on p, p + 1, .. , p + d, of material p % 1000. Its bytes. */
 static size_t strip(unsigned d, unsigned s)
 {
     size_t n = 0;
     for (unsigned p = 0; p < s; p++)
-        for (unsigned j = 0; j < d + 2; j++) {
-            unsigned word = j == 0 ? p * (d + 1) % 2 : p + j - 1;
+        for (unsigned j = 0; j < WINGED_LIST_CELL(d); j++) {
+            unsigned word = j == 0 ? p * (d + 1) % 2 : j == 1 ? p % (WINGED_MAX_MATERIAL + 1) : p + j - 2;
             list[n++] = (uint8_t)(word & 255);
             list[n++] = (uint8_t)(word >> 8);
         }
@@ -38,21 +38,21 @@ static int refused(const char *call, int64_t answer)
     return 1;
 }
 
-/* A file of 4,096 points, each a cell, in eight axes. */
+/* A file of version 2: 4,096 points, each a cell, in eight axes. */
 static size_t file_of_points(void)
 {
-    static const uint8_t start[14] = {'W', 'N', 'G', 1, 0, 0, 8, 0, 16, 0, 16, 1, 0, 1};
+    static const uint8_t start[14] = {'W', 'N', 'G', 2, 0, 0, 8, 0, 16, 0, 16, 1, 0, 1};
 
     for (size_t i = 0; i < sizeof start; i++)
         file[i] = start[i];
     for (size_t p = 0; p < 4096; p++) {
-        uint8_t *cell = file + 40 + 8 * 8 * 4096 + 3 * p;
+        uint8_t *cell = file + 40 + 8 * 8 * 4096 + 5 * p;
 
         cell[0] = '+';
-        cell[1] = (uint8_t)(p & 255);
-        cell[2] = (uint8_t)(p >> 8);
+        cell[3] = (uint8_t)(p & 255);
+        cell[4] = (uint8_t)(p >> 8);
     }
-    return 40 + 8 * 8 * 4096 + 3 * 4096;
+    return sizeof file;
 }
 
 static int long_calls(void)
@@ -60,8 +60,11 @@ static int long_calls(void)
     size_t n = file_of_points();
     int64_t words = winged_wing(7, V, S, list, strip(7, S), table, sizeof table, uploaded, sizeof uploaded);
 
-    if (refused("wing", words) || refused("list", winged_list(7, 8, V, S, table, 2 * (size_t)words, points, sizeof points, text, sizeof text)))
+    if (refused("wing", words))
         return 1;
+    for (uint32_t version = 1; version <= 2; version++)
+        if (refused("list", winged_list(version, 7, 8, V, S, table, 2 * (size_t)words, points, sizeof points, text, sizeof text)))
+            return 1;
     return refused("key", winged_key(file, n, text, sizeof text)) || refused("key", winged_key(small, sizeof small, text, sizeof text));
 }
 

@@ -15,7 +15,7 @@ import sys
 import tempfile
 import time
 
-from common import K1, NOTHING, ROOT, SIX, check, key_of, run, tally
+from common import K1, NOTHING, ROOT, SIX, SQUARE, check, key_of, run, tally
 
 COMMAND = ROOT / "key"
 REASONS = dict(line.split("\t") for line in (ROOT / "docs" / "refusals.txt").read_text().splitlines())
@@ -56,10 +56,11 @@ def limited(what, size):
 def check_usage():
     answers("key FILE", run([COMMAND, K1]), 0, key_of(K1))
     answers("key FILE without cells", run([COMMAND, NOTHING]), 0, key_of(NOTHING))
+    answers("key FILE with materials", run([COMMAND, SQUARE]), 0, key_of(SQUARE))
     answers("key -", run([COMMAND, "-"], K1.read_bytes()), 0, key_of(K1))
     for words in ([], ["a", "b"], ["--no-such-option"], ["no such file"], [ROOT]):
         answers(f"key {words}", run([COMMAND, *words]), 2, b"", b"try key --help")
-    for word, start in (("--help", b"usage: key FILE"), ("--version", b"key 1.3")):
+    for word, start in (("--help", b"usage: key FILE"), ("--version", b"key 1.4")):
         said = run([COMMAND, word])
         check(f"key {word}", said.returncode == 0 and said.stdout.startswith(start) and said.stderr == b"")
 
@@ -147,7 +148,7 @@ def check_cut_keys(folder):
     """A program that stops half-way, or prints a key that lacks a part of it."""
     command = beside(folder, '#!/bin/sh\n. "$(dirname "$0")/does"\n')
     text, does = folder / "text", folder / "target" / "bin" / "does"
-    whole, empty = key_of(K1), key_of(NOTHING)
+    whole, empty, composite = key_of(K1), key_of(NOTHING), key_of(SQUARE)
     does.write_text(f"cat '{text}'\n")
     cuts = {f"{len(key)} bytes cut to {n}": key[:n] for key in (whole, empty) for n in range(len(key))}
     others = {
@@ -159,7 +160,7 @@ def check_cut_keys(folder):
     for name, cut in {**cuts, **others}.items():
         text.write_bytes(cut)
         answers(name, run([command, K1]), 3, b"", b"did not print a key with all its lines")
-    for key in (empty, whole):
+    for key in (empty, whole, composite):
         text.write_bytes(key)
         answers(f"a whole key of {len(key)} bytes", run([command, K1]), 0, key)
     ends = {"kill -KILL $$": b"signal KILL", "kill -SEGV $$": b"signal SEGV", "exit 1": b"exit status 1", "echo no >&2": b"text: no\n"}

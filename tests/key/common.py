@@ -14,6 +14,7 @@ PROGRAM = sys.argv[1] if len(sys.argv) > 1 else str(ROOT / "target" / "bin" / "k
 K1 = ROOT / "examples" / "marked" / "k1.wng"
 NOTHING = ROOT / "examples" / "empty" / "dimension-0.wng"
 SIX = ROOT / "examples" / "high" / "six.wng"
+SQUARE = ROOT / "examples" / "materials" / "square.wng"
 
 tally = Tally()
 check = tally.check

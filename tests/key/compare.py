@@ -2,7 +2,8 @@
 
 usage: compare.py [PROGRAM [SEED]]
 
-Thousands of random files, good and damaged, files at the limits, and files without cells of every dimension and step. Last line: 'N passed, M failed'.
+Thousands of random files of both versions, good and damaged, files at the limits, and files without cells of every
+dimension and step. Last line: 'N passed, M failed'.
 """
 
 import collections
@@ -15,20 +16,22 @@ from tally import Tally
 
 FILES = 3000
 # row 14 cannot come out of the program: it lists only tables that it made
-OUTCOMES = {"key"} | {f"refused {n}" for n in range(1, 16) if n != 14}
+OUTCOMES = {"key"} | {f"refused {n}" for n in (*range(1, 16), 18) if n != 14}
 
 
 def edge_files(rng):
-    """Inputs at the program's limits: empty, 65,536 bytes and one more, and long ones."""
+    """Inputs at the program's limits: empty, 65,536 bytes and one more, long ones, and those with tables as long."""
     yield b""
     good = solids.random_file(rng, 2)
     for length in (39, 40, 65535, 65536, 65537, 200000):
         yield good[:length] + b"\0" * (length - len(good))
     # good files of 8 axes: one of just under 65,536 bytes, with too many points for a key, and one with nearly the longest key
     for v, s in ((1000, 300), (512, 400)):
-        cells = [(1, (p,)) for p in range(s)]
+        cells = [reference.Cell(1, (p,), p) for p in range(s)]
         points = [rng.uniform(-9, 9) for _ in range(8 * v)]
-        yield solids.file_bytes(0, 8, v, 1, reference.Slide(7, 1.0), points, cells)
+        for version in (1, 2):
+            yield solids.file_bytes(0, 8, v, 1, reference.Slide(7, 1.0), points, cells, version)
+    yield from (data for _, data in solids.limit_files())
 
 
 def files(rng):

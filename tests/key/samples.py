@@ -21,6 +21,7 @@ from compare import edge_files
 TOOL = [sys.executable, "-B", str(ROOT / "tools" / "solid.py")]
 FILES = sorted((ROOT / "examples").glob("*/*.wng"))
 STACK = 1 << 20  # bytes, as docs/man/key.1 says
+ROOM = 10**6
 UNREAD = b"key: the input could not be read\n"
 UNWRITTEN = b"key: the text could not be written\n"
 
@@ -42,7 +43,7 @@ def in_pieces(data, size):
 
 def check_samples():
     check("there are samples", len(FILES) >= 25)
-    kinds, dimensions, refusals = set(), set(), set()
+    kinds, dimensions, versions, refusals = set(), set(), set(), set()
     for file in FILES:
         data, want = file.read_bytes(), key_of(file)
         check(f"{file}: the program's key", run([PROGRAM], data).stdout == want)
@@ -50,6 +51,7 @@ def check_samples():
         if want.startswith(b"key"):
             kinds.add(data[13])
             dimensions.add(data[5])
+            versions.add(data[3])
         else:
             refusals.add(int(want.split()[1]))
         text = file.with_suffix(".txt")
@@ -59,12 +61,13 @@ def check_samples():
             check(f"{file}: its text packs to it again", run([*TOOL, "pack"], again).stdout == data)
     check("a sample for each kind of step", kinds == {1, 2, 3})
     check("a sample for each dimension", dimensions == set(range(7)))
-    check("a sample for each refusal that reaches the program", refusals == set(range(1, 16)) - {14})
+    check("a sample for each version", versions == {1, 2})
+    check("a sample for each refusal that reaches the program", refusals == {*range(1, 16), 18} - {14})
 
 
 def check_halves():
     """Among the samples are odd sixteenths that go up, and that go down, on both sides of zero, with both neighbours."""
-    points = {x for file in FILES if file.parent.name == "halves" for x in reference.read(file.read_bytes(), 10**6, 10**6).points}
+    points = {x for file in FILES if file.parent.name == "halves" for x in reference.read(file.read_bytes(), ROOM, ROOM).points}
     ties = [x for x in points if abs(x) * 16 % 2 == 1 and {math.nextafter(x, -math.inf), math.nextafter(x, math.inf)} <= points]
     for side, lower in itertools.product((-1, 1), (0, 1)):
         some = [x for x in ties if x * side > 0 and math.floor(abs(x) * 1000) % 2 == lower]
@@ -81,6 +84,44 @@ def check_empty():
     lesson = [size for file, size in sorted(sizes.items()) if file.name.startswith("lesson")]
     check("a lesson that begins with nothing", lesson[0][2:] == (0, 0) and lesson[1][2] > 0 == lesson[1][3])
     check("a lesson that adds to it", all(a[3] < b[3] for a, b in zip(lesson[1:], lesson[2:])) and len(lesson) >= 4)
+
+
+def composite(f):
+    """Whether a file read has two cells of different materials that share a face."""
+    table = reference.wing(f.d, f.v, f.s, f.cells, ROOM, ROOM).written
+    materials = [cell.material for cell in reference.table_cells(f.d, table)]
+    wings = reference.table_wings(f.d, table)
+    return any(materials[q] != materials[p] for p, row in enumerate(wings) for q in row if q != reference.EMPTY)
+
+
+def check_materials():
+    """Among the samples of version 2 are a composite one, one of material 0 alone, which prints materials all the same, and
+    one without cells; the others are of version 1."""
+    read = {file: reference.read(file.read_bytes(), ROOM, ROOM) for file in FILES if key_of(file).startswith(b"key")}
+    named = {file: f for file, f in read.items() if f.version == 2}
+    check("the folder of version 2", named and {file.parent.name for file in named} == {"materials"})
+    check("a face between two materials", any(composite(f) for f in named.values() if f.s))
+    check("no cells in version 2", any(f.s == 0 for f in named.values()))
+    plain = [file for file, f in named.items() if f.s and not any(f.cells[1::reference.list_size(f.d)])]
+    lines = [line.split() for file in plain for line in key_of(file).decode().splitlines() if line[0] in "+-"]
+    check("material 0 alone, and printed", lines and all(line[-1] == "0" and len(line) == 2 + read[plain[0]].d + 1 for line in lines))
+
+
+def check_longer_records():
+    """A sample of version 1 whose table fitted into the program's 65,536 bytes when its records had no material; all else of it
+    fits. It is refused by 15; with a step less it is not."""
+    file = ROOT / "examples" / "refused" / "15-longer-records.wng"
+    f = reference.read(file.read_bytes(), ROOM, ROOM)
+    cells, vertices = f.h * f.s * (f.d + 1), (f.h + 1) * f.v
+    swept = reference.sweep(f.d, f.v, f.s, f.h, reference.wing(f.d, f.v, f.s, f.cells, ROOM, ROOM).written, ROOM).written
+    levels = reference.move(f.n, f.v, f.h, f.step, f.points, ROOM).written
+    text = reference.list_key(f.version, f.d + 1, f.n, vertices, cells, swept, levels, ROOM).written
+    check("of version 1", f.version == 1)
+    check("its table fitted, and fits no longer", 2 * (len(swept) - cells) <= 65536 < 2 * len(swept))
+    check("its points and its text fit", 8 * len(levels) <= 65536 and len(text) <= 65536)
+    less = bytearray(file.read_bytes())
+    less[11] -= 1
+    check("with a step less", run([PROGRAM], bytes(less)).stdout == reference.key(bytes(less)) != b"refused 15\n")
 
 
 def check_pieces():
@@ -133,6 +174,8 @@ def main():
     check_samples()
     check_halves()
     check_empty()
+    check_materials()
+    check_longer_records()
     check_pieces()
     check_endless()
     check_failures()

@@ -1,4 +1,5 @@
-"""Checks the reference: the marked keys, the refusal table, wings in uploaded order, the third term, random files."""
+"""Checks the reference: the marked keys, the refusal table, wings in uploaded order, the third term, materials, random
+files."""
 
 import itertools
 import math
@@ -12,9 +13,10 @@ from decimal import ROUND_HALF_EVEN, Decimal
 from fractions import Fraction
 
 sys.dont_write_bytecode = True
+import material_laws
 import solids
 import winged_reference as ref
-from winged_reference import EMPTY, Answer, Refused, Slant, Slide, Turn, WingAnswer
+from winged_reference import EMPTY, Answer, Cell, Refused, Slant, Slide, Turn, WingAnswer
 
 ROOM = 10**6
 BIG = 1048576.0
@@ -34,41 +36,45 @@ def check(name, got, wanted=True):
 
 # Short writing of cells, as in the marked keys.
 def cells_from(text):
-    """+012 -123 as signed cells of one-digit vertices."""
-    return [(1 if w[0] == "+" else -1, tuple(map(int, w[1:]))) for w in text.split()]
+    """+012 -123 as cells of one-digit vertices, of material 0 or of that behind a colon."""
+    found = []
+    for word in text.split():
+        cell, _, material = word.partition(":")
+        found.append(Cell(1 if cell[0] == "+" else -1, tuple(map(int, cell[1:])), int(material or 0)))
+    return found
 
 def text_from(cells):
-    """Signed cells of one-digit vertices as +012 -123."""
-    return " ".join("-+"[sign > 0] + "".join(map(str, vertices)) for sign, vertices in cells)
+    """Cells of one-digit vertices as +012 -123, without their materials."""
+    return " ".join("-+"[cell.sign > 0] + "".join(map(str, cell.vertices)) for cell in cells)
 
 def wing_of(d, v, cells, room=ROOM, uploaded_room=ROOM):
-    """Wing over signed cells."""
+    """Wing over cells."""
     return ref.wing(d, v, len(cells), solids.cell_words(cells), room, uploaded_room)
 
 def wing_text(v, text, room=ROOM, uploaded_room=ROOM):
     """Wing over cells written short."""
     cells = cells_from(text)
-    return wing_of(len(cells[0][1]) - 1, v, cells, room, uploaded_room)
+    return wing_of(len(cells[0].vertices) - 1, v, cells, room, uploaded_room)
 
 def records_of(d, answer):
-    """The signed faces that faces wrote."""
-    return [(1 if row[0] == 0 else -1, tuple(row[1:])) for row in ref.split(answer.written, d + 1)]
+    """The faces that faces wrote."""
+    return [Cell(1 if row[0] == 0 else -1, tuple(row[1:-1]), row[-1]) for row in ref.split(answer.written, d + 2)]
 
 def swept_of(v, h, text):
     """The swept table and the records of its faces, of cells written short."""
     cells = cells_from(text)
-    d, s = len(cells[0][1]) - 1, len(cells)
+    d, s = len(cells[0].vertices) - 1, len(cells)
     swept = ref.sweep(d, v, s, h, wing_text(v, text).written, ROOM)
     found = ref.faces(d + 1, (h + 1) * v, h * s * (d + 1), swept.written, ROOM)
     return d + 1, swept.written, records_of(d + 1, found)
 
-def one_file(d=0, n=1, v=1, h=1, step=Slide(0, 1.0), points=(0.5,), cells=((1, (0,)),)):
-    """A small file, that of K1 unless told otherwise."""
-    return solids.file_bytes(d, n, v, h, step, points, cells)
+def one_file(d=0, n=1, v=1, h=1, step=Slide(0, 1.0), points=(0.5,), cells="+0", version=1):
+    """A small file, that of K1 unless told otherwise; its cells written short."""
+    return solids.file_bytes(d, n, v, h, step, points, cells_from(cells), version)
 
 def triangle_file(n=3, v=3, **changes):
     """A file of one triangle."""
-    told = dict(d=2, n=n, v=v, points=[0.0] * (n * v), cells=[(1, (0, 1, 2))])
+    told = dict(d=2, n=n, v=v, points=[0.0] * (n * v), cells="+012")
     return one_file(**{**told, **changes})
 
 def patched(data, place, form, *values):
@@ -98,7 +104,7 @@ def check_keys():
           "-024 +014 -012 -145 +456 +246 +135 +123 -236 -567 +367 -357")
     d, swept, found = swept_of(1, 3, "+0")
     check("K3", (text_from(ref.table_cells(d, swept)), text_from(found)), ("+01 +12 +23", "-0 +3"))
-    check("K4", wing_text(3, "+210").written[:4], [1, 0, 1, 2])
+    check("K4", wing_text(3, "+210").written[:5], [1, 0, 0, 1, 2])
     d, swept, found = swept_of(2, 1, "+01")
     check("K5", (text_from(ref.table_cells(d, swept)), text_from(found)),
           ("+012 -123", "-02 +01 -23 +13"))
@@ -113,7 +119,7 @@ def check_keys():
 
 def check_k9():
     """The edges of row 12, in sweep and in move."""
-    point = [0, 0, EMPTY]
+    point = [0, 0, 0, EMPTY]
     for v, h, wanted in ((2048, 1, 0), (1366, 2, 12), (1365, 2, 0), (2049, 1, 12)):
         check(f"K9 sweep {v} {h}", number(ref.sweep(0, v, 1, h, point, ROOM)), wanted)
         check(f"K9 move {v} {h}", number(ref.move(1, v, h, Slide(0, 0.0), [0.0] * v, ROOM)), wanted)
@@ -125,8 +131,7 @@ def check_read_rows():
     check("read accepts", read_number(good), 0)
     check("row 1 empty file", ref.key(b""), b"refused 1\n")
     for name, data in (("39 bytes", good[:39]), ("mark", b"WNH" + good[3:]),
-                       ("version 0", patched(good, 3, "H", 0)),
-                       ("version 257", patched(good, 3, "H", 257))):
+                       *((f"version {x}", patched(good, 3, "H", x)) for x in (0, 3, 256, 257, 258, 65535))):
         check(f"row 1 {name}", read_number(data), 1)
     for name, place, form, value in (
             ("d 7", 5, "B", 7), ("n 0", 6, "B", 0), ("n 9", 6, "B", 9), ("n under d+1", 6, "B", 2),
@@ -143,19 +148,23 @@ def check_read_rows():
     check("row 4 read below", read_number(patched(good, 40, "d", -below)), 0)
     check_read_steps(good)
     check("row 6 byte 42", read_number(patched(good, 112, "B", 42)), 6)
-    check("row 7 read", read_number(triangle_file(cells=[(1, (0, 1, 3))])), 7)
-    check("row 8 read", read_number(triangle_file(cells=[(1, (0, 1, 1))])), 8)
-    worst = triangle_file(step=Slide(3, 1.0), cells=[(1, (0, 1, 1)), (1, (0, 1, 3)), (1, (0, 1, 2))])
-    worst = patched(patched(worst, 126, "B", 42), 104, "d", BIG)
-    mends = ((104, "d", 0.0), (14, "B", 0), (126, "B", 43), (124, "H", 2), (117, "H", 2))
-    lowest = [read_number(worst, 0, 0)]
+    check("row 7 read", read_number(triangle_file(cells="+013")), 7)
+    check("row 8 read", read_number(triangle_file(cells="+011")), 8)
+    for material, wanted in ((0, 0), (1, 0), (256, 0), (999, 0), (1000, 18), (1024, 18), (65535, 18)):
+        named = triangle_file(cells=f"+012:{material}", version=2)
+        check(f"row 18 read {material}", read_number(named), wanted)
+        check(f"row 18 key {material}", ref.key(named).startswith(b"refused 18\n"), wanted == 18)
+    worst = triangle_file(step=Slide(3, 1.0), cells="+011 +013 +012:1000", version=2)
+    worst = patched(patched(worst, 130, "B", 42), 104, "d", BIG)
+    mends = ((104, "d", 0.0), (14, "B", 0), (130, "B", 43), (128, "H", 2), (119, "H", 2), (131, "H", 999))
+    first = [read_number(worst, 0, 0)]
     for mend in mends:
         worst = patched(worst, *mend)
-        lowest.append(read_number(worst, 0, 0))
-    check("read lowest first", lowest, [4, 5, 6, 7, 8, 15])
-    check("row 15 cells", read_number(good, 3, 9), 15)
-    check("row 15 points", read_number(good, 4, 8), 15)
-    check("row 15 enough", read_number(good, 4, 9), 0)
+        first.append(read_number(worst, 0, 0))
+    check("read in order", first, [4, 5, 6, 7, 8, 18, 15])
+    check("row 15 cells", read_number(good, 4, 9), 15)
+    check("row 15 points", read_number(good, 5, 8), 15)
+    check("row 15 enough", read_number(good, 5, 9), 0)
 
 def check_read_steps(good):
     """Row 5 in read."""
@@ -178,13 +187,13 @@ def check_read_steps(good):
 
 def check_wing_rows():
     """The rows of wing."""
-    lone = [0, 0, 1, 2]
-    check("wing accepts", ref.wing(2, 3, 1, lone, 7, 3), WingAnswer(7, lone + [EMPTY] * 3, [EMPTY] * 3))
+    lone = [0, 0, 0, 1, 2]
+    check("wing accepts", ref.wing(2, 3, 1, lone, 8, 3), WingAnswer(8, lone + [EMPTY] * 3, [EMPTY] * 3))
     for d, v, s in ((8, 3, 1), (2, 0, 1), (2, 4097, 1), (2, 4097, 0), (2, 3, 4097), (10**9, 3, 1), (8, 0, 0)):
         check(f"row 2 wing {d} {v} {s}", ref.wing(d, v, s, lone, ROOM, ROOM), Refused(2))
     check("row 3 wing", [number(ref.wing(2, 3, 1, c, ROOM, ROOM)) for c in ([], lone[1:], lone + [0])],
           [3, 3, 3])
-    check("row 6 wing", ref.wing(2, 3, 1, [2, 0, 1, 2], ROOM, ROOM), Refused(6))
+    check("row 6 wing", ref.wing(2, 3, 1, [2, 0, 0, 1, 2], ROOM, ROOM), Refused(6))
     check("row 7 wing", wing_text(3, "+013"), Refused(7))
     check("row 8 wing", wing_text(3, "+011"), Refused(8))
     check("row 9", [wing_text(3, "+012 " + c) for c in ("-210", "+210", "+012")], [Refused(9)] * 3)
@@ -192,12 +201,14 @@ def check_wing_rows():
     check("row 10", wing_text(5, "+012 +013 +014"), Refused(10))
     check("row 11", wing_text(4, "+012 +123"), Refused(11))
     check("row 11 not", number(wing_text(4, "+012 -123")), 0)
-    rooms = ((7, 3), (8, 4), (6, 3), (7, 2), (6, 2), (0, 3), (7, 0), (0, 0), (ROOM, 2), (6, ROOM))
+    for material, wanted in ((0, 0), (999, 0), (1000, 18), (65535, 18)):
+        check(f"row 18 wing {material}", number(wing_text(3, f"+012:{material}")), wanted)
+    rooms = ((8, 3), (9, 4), (7, 3), (8, 2), (7, 2), (0, 3), (8, 0), (0, 0), (ROOM, 2), (7, ROOM))
     check("row 15 wing", [number(ref.wing(2, 3, 1, lone, *both)) for both in rooms], [0, 0] + [15] * 8)
-    faults = ("+013 +011 +012 +012", "+011 +012 +012 +012", "+012 +012 +013 +014",
-              "+012 +013 +014 +234")
-    check("wing lowest first", [number(wing_text(n, f, *both)) for n, f in zip((3, 4, 5, 5), faults)
-                                for both in ((0, ROOM), (ROOM, 0))], [7, 7, 8, 8, 9, 9, 10, 10])
+    faults = ("+013 +011 +012 +012:1000", "+011 +012:1000 +012 +012", "+012:1000 +012 +013 +014", "+012 +013 +014 +014:1000",
+              "+012 +013 +014:1000 +234", "+012 +123:1000", "+012 +012 +013 +014", "+012 +013 +014 +234")
+    check("wing in order", [number(wing_text(n, f, *both)) for n, f in zip((3, 4, 5, 5, 5, 4, 5, 5), faults)
+                            for both in ((0, ROOM), (ROOM, 0))], [x for x in (7, 8, 18, 18, 18, 18, 9, 10) for _ in "ab"])
 
 # Wings in uploaded order.
 def uploaded_by_definition(rows):
@@ -212,7 +223,7 @@ def places_of(row):
 
 def check_uploaded(name, d, cells, answer):
     """The wings in uploaded order by definition, and at the places of the ascending vertices: those of the table."""
-    rows, uploaded = [vertices for _, vertices in cells], ref.split(answer.uploaded, d + 1)
+    rows, uploaded = [cell.vertices for cell in cells], ref.split(answer.uploaded, d + 1)
     check(name + " uploaded", uploaded, uploaded_by_definition(rows))
     at_places = [[wings[place] for place in places_of(row)] for row, wings in zip(rows, uploaded)]
     check(name + " places", at_places, ref.table_wings(d, answer.written))
@@ -220,7 +231,8 @@ def check_uploaded(name, d, cells, answer):
 def star(d):
     """A cell on the vertices 0 to d, and at the face without vertex i cell i + 1; in dimension 0 two points."""
     rests = [tuple(x for x in range(d + 1) if x != i) for i in range(d + 1)]
-    return [(1, tuple(range(d + 1)))] + [((-1) ** (d + i + 1), rest + (d + 1 + i,)) for i, rest in enumerate(rests)]
+    others = [Cell((-1) ** (d + i + 1), rest + (d + 1 + i,), 111 * i) for i, rest in enumerate(rests)]
+    return [Cell(1, tuple(range(d + 1)), 999)] + others
 
 def check_orders():
     """The first cell of a star in every order of its vertices; its sign must follow."""
@@ -231,67 +243,76 @@ def check_orders():
     for text, wanted in (("+012", [2, 3, 1]), ("-021", [2, 1, 3]), ("-102", [3, 2, 1]),
                          ("+120", [3, 1, 2]), ("+201", [1, 2, 3]), ("-210", [1, 3, 2])):
         answer = wing_text(6, text + " -013 -124 +025")
-        check(f"triangle {text}", (answer.written[:7], answer.uploaded[:3]), ([0, 0, 1, 2, 2, 3, 1], wanted))
+        check(f"triangle {text}", (answer.written[:8], answer.uploaded[:3]), ([0, 0, 0, 1, 2, 2, 3, 1], wanted))
     for d in range(6):
         for order in itertools.permutations(range(d + 1)):
             name, sign = f"order {order}", ref.ascending(1, order)[0]
-            cells = [(sign, order)] + star(d)[1:]
+            cells = [Cell(sign, order, 999)] + star(d)[1:]
             answer = wing_of(d, 2 * d + 2, cells)
             check(name, answer.uploaded[:d + 1], [x + 1 for x in order] if d else [EMPTY])
             check_uploaded(name, d, cells, answer)
-            check(name + " turned", number(wing_of(d, 2 * d + 2, [(-sign, order)] + cells[1:])), 11 if d else 0)
+            check(name + " turned", number(wing_of(d, 2 * d + 2, [Cell(-sign, order)] + cells[1:])), 11 if d else 0)
 
 def check_table_rows():
     """The rows of sweep, faces and list over tables."""
-    lone = [0, 0, 1, 2, EMPTY, EMPTY, EMPTY]
+    lone = [0, 0, 0, 1, 2, EMPTY, EMPTY, EMPTY]
     for d, v, s, h in ((7, 3, 1, 1), (2, 0, 1, 1), (7, 0, 0, 1), (2, 4097, 1, 1), (2, 3, 4097, 1),
                        (2, 3, 1, 0), (2, 3, 1, 65)):
         check(f"row 2 sweep {d} {v} {s} {h}", ref.sweep(d, v, s, h, lone, ROOM), Refused(2))
     for d, v, s in ((8, 3, 1), (2, 0, 1), (8, 0, 0), (2, 4097, 1), (2, 3, 4097)):
         check(f"row 2 faces {d} {v} {s}", ref.faces(d, v, s, lone, ROOM), Refused(2))
-        check(f"row 2 list {d} {v} {s}", ref.list_key(d, 1, v, s, lone, [0.0] * 3, ROOM), Refused(2))
-    check("row 2 list n", [number(ref.list_key(2, n, 3, 1, lone, [0.0] * 3, ROOM)) for n in (0, 9)],
+        check(f"row 2 list {d} {v} {s}", ref.list_key(1, d, 1, v, s, lone, [0.0] * 3, ROOM), Refused(2))
+    check("row 2 list n", [number(ref.list_key(2, 2, n, 3, 1, lone, [0.0] * 3, ROOM)) for n in (0, 9)],
           [2, 2])
+    check("row 2 list version", [number(ref.list_key(version, 2, 1, 3, 1, lone, [0.0] * 3, ROOM))
+                                 for version in (0, 1, 2, 3, 255, 256, 257, 2**32)], [2, 0, 0, 2, 2, 2, 2, 2])
+    check("row 2 list version, before all", ref.list_key(3, 2, 1, 3, 1, [], [], 0), Refused(2))
     for table in (lone + [0], lone[:-1], []):
         check("row 3 sweep", ref.sweep(2, 3, 1, 1, table, ROOM), Refused(3))
         check("row 3 faces", ref.faces(2, 3, 1, table, ROOM), Refused(3))
-        check("row 3 list table", ref.list_key(2, 1, 3, 1, table, [0.0] * 3, ROOM), Refused(3))
-    check("row 3 list points", ref.list_key(2, 1, 3, 1, lone, [0.0] * 4, ROOM), Refused(3))
-    check("row 4 list", [number(ref.list_key(2, 1, 3, 1, lone, [0.0, x, 0.0], ROOM))
+        check("row 3 list table", ref.list_key(1, 2, 1, 3, 1, table, [0.0] * 3, ROOM), Refused(3))
+    check("row 3 list points", ref.list_key(1, 2, 1, 3, 1, lone, [0.0] * 4, ROOM), Refused(3))
+    check("row 4 list", [number(ref.list_key(1, 2, 1, 3, 1, lone, [0.0, x, 0.0], ROOM))
                          for x in (BIG, -BIG, math.nan, math.inf, BIG - 1)], [4, 4, 4, 4, 0])
-    check("row 12 sweep", ref.sweep(2, 3, 1000, 2, [0] * 7000, 0), Refused(12))
-    check("row 15 sweep", ref.sweep(0, 1, 1, 1, [0, 0, EMPTY], 4), Refused(15))
-    check("row 15 sweep enough", number(ref.sweep(0, 1, 1, 1, [0, 0, EMPTY], 5)), 0)
-    check("row 15 faces", [number(ref.faces(2, 3, 1, lone, room)) for room in (8, 9)], [15, 0])
+    check("row 12 sweep", ref.sweep(2, 3, 1000, 2, [0] * 8000, 0), Refused(12))
+    check("row 15 sweep", ref.sweep(0, 1, 1, 1, [0, 0, 0, EMPTY], 5), Refused(15))
+    check("row 15 sweep enough", number(ref.sweep(0, 1, 1, 1, [0, 0, 0, EMPTY], 6)), 0)
+    check("row 15 faces", [number(ref.faces(2, 3, 1, lone, room)) for room in (11, 12)], [15, 0])
     text = b"key 2 1 3 3\nv 0 0.000\nv 1 0.000\nv 2 0.000\n+ 1 2\n- 0 2\n+ 0 1\n"
-    rooms = [ref.list_key(2, 1, 3, 1, lone, [0.0] * 3, len(text) - less) for less in (0, 1)]
-    check("row 15 list", rooms, [Answer(len(text), text), Refused(15)])
-    check("dimension 0", (ref.faces(0, 2, 1, [1, 1, EMPTY], 0),
-                          ref.list_key(0, 1, 2, 1, [1, 1, EMPTY], [0.0, -1.0], ROOM).written),
-          (Answer(0, []), b"key 0 1 2 0\nv 0 0.000\nv 1 -1.000\n"))
+    for version, text in ((1, text), (2, text.replace(b" 2\n", b" 2 0\n").replace(b"0 1\n", b"0 1 0\n"))):
+        rooms = [ref.list_key(version, 2, 1, 3, 1, lone, [0.0] * 3, len(text) - less) for less in (0, 1)]
+        check(f"row 15 list, version {version}", rooms, [Answer(len(text), text), Refused(15)])
+    for version in (1, 2):
+        check("dimension 0", (ref.faces(0, 2, 1, [1, 999, 1, EMPTY], 0),
+                              ref.list_key(version, 0, 1, 2, 1, [1, 999, 1, EMPTY], [0.0, -1.0], ROOM).written),
+              (Answer(0, []), b"key 0 1 2 0\nv 0 0.000\nv 1 -1.000\n"))
 
 def check_unsound():
     """Row 14: tables with one thing wrong each."""
     e = EMPTY
-    pair = [0, 0, 1, 2, 1, e, e, 1, 1, 2, 3, e, e, 0]
+    pair = [0, 7, 0, 1, 2, 1, e, e, 1, 999, 1, 2, 3, e, e, 0]
     tables = [
-        (2, 3, 1, [0, 0, 1, 2, 0, e, e]), (2, 3, 1, [0, 0, 1, 2, e, 0, e]),
-        (2, 3, 1, [0, 0, 1, 2, e, e, 0]), (2, 3, 1, [0, 0, 1, 2, 0, 0, 0]),
-        (2, 3, 1, [2, 0, 1, 2, e, e, e]), (2, 3, 1, [0, 0, 2, 1, e, e, e]),
-        (2, 3, 1, [0, 0, 1, 1, e, e, e]), (2, 3, 1, [0, 0, 1, 1, e, 0, 0]),
-        (2, 3, 1, [0, 0, 1, 3, e, e, e]), (2, 4, 1, [0, 1, 0, 2, e, e, e]),
-        (2, 4, 2, pair[:4] + [e] + pair[5:]), (2, 4, 2, pair[:13] + [e]),
-        (2, 4, 2, pair[:4] + [e] + pair[5:13] + [e]), (2, 4, 2, [1] + pair[1:]),
-        (2, 4, 2, [0, 0, 1, 2, e, e, e] * 2), (2, 4, 2, [0, 0, 1, 2, e, e, e, 1, 0, 1, 2, e, e, e]),
-        (0, 2, 2, [0, 1, e, 1, 1, e]), (0, 2, 2, [0, 0, 1, 1, 1, 0]), (0, 2, 1, [0, 0, 0]),
-        (1, 4, 3, [0, 0, 1, e, e, 0, 0, 2, e, e, 0, 0, 3, e, e]),
+        (2, 3, 1, [0, 0, 0, 1, 2, 0, e, e]), (2, 3, 1, [0, 0, 0, 1, 2, e, 0, e]),
+        (2, 3, 1, [0, 0, 0, 1, 2, e, e, 0]), (2, 3, 1, [0, 0, 0, 1, 2, 0, 0, 0]),
+        (2, 3, 1, [2, 0, 0, 1, 2, e, e, e]), (2, 3, 1, [0, 0, 0, 2, 1, e, e, e]),
+        (2, 3, 1, [0, 0, 0, 1, 1, e, e, e]), (2, 3, 1, [0, 0, 0, 1, 1, e, 0, 0]),
+        (2, 3, 1, [0, 0, 0, 1, 3, e, e, e]), (2, 4, 1, [0, 0, 1, 0, 2, e, e, e]),
+        (2, 4, 2, pair[:5] + [e] + pair[6:]), (2, 4, 2, pair[:15] + [e]),
+        (2, 4, 2, pair[:5] + [e] + pair[6:15] + [e]), (2, 4, 2, [1] + pair[1:]),
+        (2, 4, 2, [0, 0, 0, 1, 2, e, e, e] * 2), (2, 4, 2, [0, 0, 0, 1, 2, e, e, e, 1, 0, 0, 1, 2, e, e, e]),
+        (2, 4, 2, [0, 5, 0, 1, 2, e, e, e, 1, 6, 0, 1, 2, e, e, e]),
+        (0, 2, 2, [0, 0, 1, e, 1, 0, 1, e]), (0, 2, 2, [0, 0, 0, 1, 1, 0, 1, 0]), (0, 2, 1, [0, 0, 0, 0]),
+        (1, 4, 3, [0, 0, 0, 1, e, e, 0, 0, 0, 2, e, e, 0, 0, 0, 3, e, e]),
     ]
+    tables += [(2, 4, 2, pair[:at] + [bad] + pair[at + 1:]) for at in (1, 9) for bad in (1000, 1001, 65535)]
+    tables += [(0, 1, 1, [1, 1000, 0, e]), (2, 4, 2, pair[:5] + [e] + pair[6:9] + [1000] + pair[10:])]
     check("row 14 not", ref.faces(2, 4, 2, pair, ROOM).count, 4)
     for d, v, s, table in tables:
         name = f"row 14 {d} {table}"
         check(name + " sweep", ref.sweep(d, v, s, 1, table, 0), Refused(14))
         check(name + " faces", ref.faces(d, v, s, table, 0), Refused(14))
-        check(name + " list", ref.list_key(d, 1, v, s, table, [0.0] * v, 0), Refused(14))
+        for version in (1, 2):
+            check(f"{name} list {version}", ref.list_key(version, d, 1, v, s, table, [0.0] * v, 0), Refused(14))
 
 def check_move_rows():
     """The rows of move, and moved points."""
@@ -328,8 +349,9 @@ def check_no_cells():
         name = f"no cells, d {d} v {v}"
         check(name + " wing", ref.wing(d, v, 0, [], 0, 0), WingAnswer(0, [], []))
         check(name + " faces", ref.faces(d, v, 0, [], 0), Answer(0, []))
-        check(name + " list", ref.list_key(d, 1, v, 0, [], [0.5] * v, ROOM).written.decode().splitlines(),
-              [f"key {d} 1 {v} 0"] + [f"v {k} 0.500" for k in range(v)])
+        for version in (1, 2):
+            check(f"{name} list {version}", ref.list_key(version, d, 1, v, 0, [], [0.5] * v, ROOM).written.decode().splitlines(),
+                  [f"key {d} 1 {v} 0"] + [f"v {k} 0.500" for k in range(v)])
         check(name + " a word", (ref.wing(d, v, 0, [0], ROOM, ROOM), ref.faces(d, v, 0, [0], ROOM)), (Refused(3),) * 2)
     for d, h in ((d, h) for d in range(7) for h in (1, 2, 64)):
         check(f"no cells, sweep {d} {h}", ref.sweep(d, 0, 0, h, [], 0), Answer(0, []))
@@ -349,28 +371,34 @@ def check_no_cells():
 def check_program_and_c():
     """The program's limits, its command line, and the calls as C has them."""
     check("program 65,537", ref.key(bytes(65537)), b"refused 3\n")
+    for version, ends in ((1, ("", "")), (2, (" 999", " 999"))):
+        text = "key 1 1 2 2\nv 0 0.500\nv 1 1.500\n+ 1{}\n- 0{}\n".format(*ends).encode()
+        check(f"program, version {version}", ref.key(one_file(cells="+0:999", version=version)), text)
     check("program 65,536", ref.key(bytes(65536)), b"refused 1\n")
     many = one_file(v=4096, points=[0.0] * 4096)
     check("program row 12", ref.key(many), b"refused 12\n")
     wide = one_file(n=3, v=2000, points=[0.0] * 6000)
     check("program row 15", ref.key(wide), b"refused 15\n")
+    for wanted, data in solids.limit_files():
+        text = ref.key(data).decode().splitlines()[0]
+        check(f"program, {len(data)} bytes", text if wanted else text.split()[0], f"refused {wanted}" if wanted else "key")
     script = os.path.join(os.path.dirname(os.path.abspath(__file__)), "winged_reference.py")
     run = subprocess.run([sys.executable, script, "key"], input=one_file(), capture_output=True)
     check("command line", (run.returncode, run.stdout), (0, K1_TEXT))
-    cells = struct.pack("<4H", 1, 2, 0, 1)
-    table = struct.pack("<7H", 1, 0, 1, 2, EMPTY, EMPTY, EMPTY)
-    check("c wing", ref.c_wing(2, 3, 1, cells, 14, 6), (7, table, table[8:]))
-    check("c wing odd room", [ref.c_wing(2, 3, 1, cells, *both) for both in ((13, 6), (14, 5))],
+    cells = struct.pack("<5H", 1, 258, 2, 0, 1)
+    table = struct.pack("<8H", 1, 258, 0, 1, 2, EMPTY, EMPTY, EMPTY)
+    check("c wing", ref.c_wing(2, 3, 1, cells, 16, 6), (8, table, table[10:]))
+    check("c wing odd room", [ref.c_wing(2, 3, 1, cells, *both) for both in ((15, 6), (16, 5))],
           [(-15, b"", b"")] * 2)
-    check("c wing odd room over", ref.c_wing(2, 3, 1, cells, 15, 7), (7, table, table[8:]))
-    check("c wing odd input", [ref.c_wing(d, 3, 1, cells + b"\0", 14, 6)[0] for d in (2, 8)], [-3, -2])
-    four = struct.pack("<16H", 0, 2, 0, 1, 1, 0, 1, 3, 1, 1, 2, 4, 0, 0, 2, 5)
-    check("c wing, four triangles", ref.c_wing(2, 6, 4, four, 56, 24)[2][:6], struct.pack("<3H", 1, 2, 3))
-    calls = ((ref.c_wing, b"\0", 14, 6), (ref.c_sweep, 1, b"\0", 14), (ref.c_faces, b"\0", 14))
+    check("c wing odd room over", ref.c_wing(2, 3, 1, cells, 17, 7), (8, table, table[10:]))
+    check("c wing odd input", [ref.c_wing(d, 3, 1, cells + b"\0", 16, 6)[0] for d in (2, 8)], [-3, -2])
+    four = struct.pack("<20H", 0, 9, 2, 0, 1, 1, 8, 0, 1, 3, 1, 7, 1, 2, 4, 0, 6, 0, 2, 5)
+    check("c wing, four triangles", ref.c_wing(2, 6, 4, four, 64, 24)[2][:6], struct.pack("<3H", 1, 2, 3))
+    calls = ((ref.c_wing, b"\0", 16, 6), (ref.c_sweep, 1, b"\0", 16), (ref.c_faces, b"\0", 16))
     check("c odd input, no cells", [call(2, 3, 0, *more)[0] for call, *more in calls], [-3, -3, -3])
-    check("c faces", ref.c_faces(2, 3, 1, table, 18)[0], 9)
-    check("c sweep", ref.c_sweep(2, 3, 1, 1, table, 54)[0], 27)
-    check("c sweep short", ref.c_sweep(2, 3, 1, 1, table, 53), (-15, b""))
+    check("c faces", ref.c_faces(2, 3, 1, table, 24)[0], 12)
+    check("c sweep", ref.c_sweep(2, 3, 1, 1, table, 60)[0], 30)
+    check("c sweep short", ref.c_sweep(2, 3, 1, 1, table, 59), (-15, b""))
 
 def check_printing(rng):
     """Printed coordinates against decimal arithmetic, which is exact here too; ties are the odd sixteenths."""
@@ -396,10 +424,10 @@ def check_side_pairs():
 
 # Random solids: wings by definition, and the third term.
 def third_term_lists(d, cells, v, h):
-    """The signed cells that the third term asks of the swept boundary."""
+    """The cells that the third term asks of the swept boundary, each of the material of the cell that it comes from."""
     turned = (-1) ** d
-    top = [(turned * sign, vertices) for sign, vertices in ref.top_copy(cells, v, h)]
-    bottom = [(-turned * sign, vertices) for sign, vertices in cells]
+    top = [cell._replace(sign=turned * cell.sign) for cell in ref.top_copy(cells, v, h)]
+    bottom = [cell._replace(sign=-turned * cell.sign) for cell in cells]
     return top + bottom + ref.sweep_plain(ref.own_boundary(cells), v, h)
 
 def check_third_term(name, d, cells, v, h, boundary, rng):
@@ -407,9 +435,9 @@ def check_third_term(name, d, cells, v, h, boundary, rng):
     wanted = third_term_lists(d, cells, v, h)
     check(name + " faces wanted", all(boundary.count(c) == wanted.count(c) for c in wanted))
     check(name + " faces given", all(boundary.count(c) == wanted.count(c) for c in boundary))
-    check(name + " distinct", len({vertices for _, vertices in boundary}), len(boundary))
+    check(name + " distinct", len({face.vertices for face in boundary}), len(boundary))
     most = (h + 1) * v
-    rows = [vertices for _, vertices in boundary + wanted]
+    rows = [face.vertices for face in boundary + wanted]
     rows = rng.sample(rows, min(len(rows), 20))
     rows += [tuple(sorted(rng.sample(range(most), d + 1))) for _ in range(10) if most > d]
     sides, top = ref.sweep_plain(ref.own_boundary(cells), v, h), ref.top_copy(cells, v, h)
@@ -476,22 +504,27 @@ def check_files(rng):
         else:
             f = ref.read(data, ROOM, ROOM)
             if number(f) != 5:
-                cells = [(-1 if r[0] else 1, r[1:]) for r in ref.split(f.cells, f.d + 2)]
-                again = solids.file_bytes(f.d, f.n, f.v, f.h, f.step, f.points, cells)
+                cells = [Cell(-1 if r[0] else 1, r[2:], r[1]) for r in ref.split(f.cells, f.d + 3)]
+                again = solids.file_bytes(f.d, f.n, f.v, f.h, f.step, f.points, cells, f.version)
                 check(f"file {trial} read back", again, data)
         text = ref.key(data)
         words = text.split()
         seen[int(words[1]) if words[0] == b"refused" else 0] += 1
         if words[0] == b"key":
             check(f"file {trial} lines", text.count(b"\n"), 1 + int(words[3]) + int(words[4]))
-    check("all outcomes seen", sorted(seen), [0, 1, 2, 3, 4, 5, 6, 7, 8, 9, 10, 11, 12, 13, 15])
+    check("all outcomes seen", sorted(seen), [0, 1, 2, 3, 4, 5, 6, 7, 8, 9, 10, 11, 12, 13, 15, 18])
+
+def check_materials(rng):
+    """The laws of materials, on random solids and by hand."""
+    for name, got, wanted in material_laws.laws(rng):
+        check(name, got, wanted)
 
 def main():
     """All checks, with a fixed seed; a check that breaks off is a failure too."""
     groups = (check_keys, check_read_rows, check_wing_rows, check_orders, check_table_rows, check_unsound,
               check_move_rows, check_no_cells, check_program_and_c, check_side_pairs,
               lambda: check_printing(random.Random(1)), lambda: check_solids(random.Random(2)),
-              lambda: check_files(random.Random(3)))
+              lambda: check_files(random.Random(3)), lambda: check_materials(random.Random(4)))
     for place, group in enumerate(groups):
         try:
             group()

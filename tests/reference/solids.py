@@ -1,6 +1,6 @@
 """Random solids, points, steps and files for comparison tests, sound and damaged.
 
-A signed cell is a pair (sign, vertices): +1 or -1, and a tuple of vertices.
+A cell is a sign, +1 or -1, a tuple of vertices, and a material.
 All chance comes from the random.Random that the caller lends.
 """
 
@@ -8,11 +8,13 @@ import itertools
 import math
 import struct
 
-from winged_reference import EMPTY, Slant, Slide, Turn, ascending
+from winged_reference import EMPTY, VERSIONS, Cell, Slant, Slide, Turn, ascending, file_cell_size, record_size
 
 BIG = 1048576.0
 BELOW_BIG = math.nextafter(BIG, 0.0)
 MANNERS = ("connected", "scattered", "mixed")
+MATERIALS = (0, 1, 255, 256, 998, 999)  # those that may be, at their edges
+BAD_MATERIALS = (1000, 1001, 1023, 1024, 4096, 32768, 65535)
 
 # Solids.
 class Growth:
@@ -33,7 +35,7 @@ class Growth:
         found = self.faces(sign, vertices)
         if vertices in self.taken or any(self.signs.get(f) not in (None, -s) for f, s in found):
             return False
-        self.cells.append((sign, vertices))
+        self.cells.append(Cell(sign, vertices))
         self.taken.add(vertices)
         for f, s in found:
             self.signs[f] = s if f not in self.signs else "full"
@@ -43,10 +45,18 @@ class Growth:
         """Vertices of a next cell: any, or those of a cell with one changed."""
         if not (connected and self.cells and v > d + 1):
             return tuple(sorted(rng.sample(range(v), d + 1)))
-        vertices = list(rng.choice(self.cells)[1])
+        vertices = list(rng.choice(self.cells).vertices)
         vertices[rng.randrange(d + 1)] = rng.choice([x for x in range(v) if x not in vertices]
                                                     if v < 40 else [rng.randrange(v)])
         return tuple(sorted(set(vertices)))
+
+def with_materials(cells, rng):
+    """The cells with materials: in most solids each its own, in some all the same, in some all 0."""
+    chance = rng.random()
+    if chance < 0.15:
+        return [cell._replace(material=0) for cell in cells]
+    some = MATERIALS if chance < 0.5 else (rng.randrange(1000),) if chance < 0.6 else range(1000)
+    return [cell._replace(material=rng.choice(some)) for cell in cells]
 
 def random_solid(d, v, s, rng, manner="mixed"):
     """An accepted solid of up to s ascending cells, v at least d+1; never empty."""
@@ -59,27 +69,28 @@ def random_solid(d, v, s, rng, manner="mixed"):
         sign = rng.choice((1, -1))
         if len(vertices) == d + 1:
             growth.add(sign, vertices) or growth.add(-sign, vertices)
-    return growth.cells
+    return with_materials(growth.cells, rng)
 
 def closed_solid(d, v, rng):
     """All faces of a simplex of dimension d+1: no boundary; v at least d+2, d at least 1."""
     vertices = sorted(rng.sample(range(v), d + 2))
     sign = rng.choice((1, -1))
-    cells = [(sign * (-1) ** i, tuple(vertices[:i] + vertices[i + 1:])) for i in range(d + 2)]
+    cells = [Cell(sign * (-1) ** i, tuple(vertices[:i] + vertices[i + 1:])) for i in range(d + 2)]
     rng.shuffle(cells)
-    return cells
+    return with_materials(cells, rng)
 
 def shuffled(cells, rng, adjust=True):
     """Cells in random vertex order; without adjusting, odd reorderings turn cells over."""
     result = []
-    for sign, vertices in cells:
-        order = rng.sample(vertices, len(vertices))
-        result.append((ascending(sign, order)[0] if adjust else sign, tuple(order)))
+    for cell in cells:
+        order = rng.sample(cell.vertices, len(cell.vertices))
+        sign = ascending(cell.sign, order)[0] if adjust else cell.sign
+        result.append(Cell(sign, tuple(order), cell.material))
     return result
 
 def cell_words(cells):
     """The list of cells that wing takes."""
-    return [word for sign, vertices in cells for word in (0 if sign == 1 else 1, *vertices)]
+    return [word for cell in cells for word in (0 if cell.sign == 1 else 1, cell.material, *cell.vertices)]
 
 def small_solid(d, rng):
     """A small solid of dimension d, of any manner: (v, cells)."""
@@ -152,12 +163,14 @@ def steps_of_each_kind(n):
     return steps[:min(n, 3)]
 
 def empty_files():
-    """Files without cells, of every dimension and kind of step, with many vertices only slid; (d, n, v, h, file)."""
+    """Files without cells, of every dimension, kind of step and version, with many vertices only slid and in one version;
+    (d, n, v, h, file)."""
     for d, (v, h) in itertools.product(range(7), empty_sizes()):
         for n in {d + 1, max(d + 1, 3), 8} if v < 1000 else {d + 1}:
             points = [(k * 37 % 101 - 50) / 16 for k in range(v * n)]
-            for step in steps_of_each_kind(n)[:3 if v < 1000 else 1]:
-                yield d, n, v, h, file_bytes(d, n, v, h, step, points, [])
+            few = v < 1000
+            for version, step in itertools.product(VERSIONS if few else (1 + d % 2,), steps_of_each_kind(n)[:3 if few else 1]):
+                yield d, n, v, h, file_bytes(d, n, v, h, step, points, [], version)
 
 # Files.
 def step_bytes(step):
@@ -169,16 +182,18 @@ def step_bytes(step):
                            step.amount, step.other_amount, 0.0)
     return struct.pack("<3B3d", 3, 0, 0, *step)
 
-def file_bytes(d, n, v, h, step, points, cells):
-    """A file of the given solid."""
-    data = b"WNG" + struct.pack("<HBBHHH", 1, d, n, v, len(cells), h) + step_bytes(step)
+def file_bytes(d, n, v, h, step, points, cells, version):
+    """A file of the given solid; version 1 leaves its materials out."""
+    data = b"WNG" + struct.pack("<HBBHHH", version, d, n, v, len(cells), h) + step_bytes(step)
     data += struct.pack(f"<{len(points)}d", *points)
-    for sign, vertices in cells:
-        data += struct.pack(f"<B{d + 1}H", 43 if sign == 1 else 45, *vertices)
+    for sign, vertices, material in cells:
+        words = vertices if version == 1 else (material, *vertices)
+        data += struct.pack(f"<B{len(words)}H", 43 if sign == 1 else 45, *words)
     return data
 
 def random_file(rng, d=None):
-    """A file of a random accepted solid, shuffled; most are small, some too big to sweep, some without cells."""
+    """A file of a random accepted solid, shuffled; most are small, some too big to sweep, some without cells. Most are of
+    version 2."""
     d = rng.randint(0, 6) if d is None else d
     n = rng.randint(d + 1, 8)
     v, cells = small_solid(d, rng)
@@ -190,13 +205,51 @@ def random_file(rng, d=None):
     elif rng.random() < 0.05:
         v, cells = rng.choice((0, 1, v)), []
     cells = shuffled(cells, rng, adjust=rng.random() < 0.9)
-    return file_bytes(d, n, v, h, random_step(n, rng), random_points(v, n, rng), cells)
+    version = rng.choice((1, 2, 2))
+    return file_bytes(d, n, v, h, random_step(n, rng), random_points(v, n, rng), cells, version)
+
+# Files about as long as the program has room for, on the way to their keys.
+def apart(d, v, s):
+    """The first s cells on v vertices with a sum that v divides: no two of them share a face."""
+    rows = (row for row in itertools.combinations(range(v), d + 1) if sum(row) % v == 0)
+    return [Cell(1, row, p % 1000) for p, row in enumerate(itertools.islice(rows, s))]
+
+def ring(s):
+    """A closed row of s segments."""
+    return [Cell(1, (p, p + 1), p) for p in range(s - 1)] + [Cell(-1, (0, s - 1))]
+
+def sheet(side):
+    """A square of side by side squares, of two triangles each."""
+    width = side + 1
+    corners = [y * width + x for y in range(side) for x in range(side)]
+    return [cell for a in corners for cell in (Cell(1, (a, a + 1, a + width), a), Cell(-1, (a + 1, a + width, a + width + 1)))]
+
+def limit_files():
+    """Files whose list, table or swept table just fits into the program's 65,536 bytes, or is longer by a cell or a step;
+    (the refusal or 0, file)."""
+    for version in VERSIONS:
+        # tables of 32,768 words at most, whose sweep is too large, and longer ones
+        for d, v, s, row in ((2, 161, 4096, 12), (3, 46, 3276, 12), (3, 46, 3277, 15), (6, 20, 2048, 12), (6, 20, 2049, 15)):
+            yield row, file_bytes(d, d + 1, v, 1, Slide(d, 1.0), [0.0] * (v * (d + 1)), apart(d, v, s), version)
+        # lists of 32,760 words and of 32,769, with a cell twice: where the list is read, wing says so
+        for s, row in ((3640, 9), (3641, 15)):
+            cells = apart(6, 20, s - 1)
+            yield row, file_bytes(6, 7, 20, 1, Slide(6, 1.0), [0.0] * 140, cells + cells[:1], version)
+        # swept tables of 32,768 words, of 32,400 and of 32,940
+        for d, v, h, cells, row in ((1, 32, 64, ring(32), 0), (2, 16, 60, sheet(3), 0), (2, 16, 61, sheet(3), 15)):
+            yield row, file_bytes(d, d + 1, v, h, Slide(d, 0.5), [0.0] * (v * (d + 1)), cells, version)
 
 # Damage. Each fault takes a bytearray and returns it changed.
 def file_numbers(data):
     """d, n, V and S as the header says, and where the cells start."""
     d, n, v, s = struct.unpack_from("<BBHH", data, 5)
     return d, n, v, s, 40 + 8 * n * v
+
+def cell_layout(data):
+    """The bytes of a cell by the header, and how many of them stand before its vertices."""
+    version, d = struct.unpack_from("<HB", data, 3)
+    size = file_cell_size(version, d)
+    return size, size - 2 * (d + 1)
 
 def fault_byte(data, rng):
     """One byte changed, as often in the header as elsewhere."""
@@ -215,7 +268,7 @@ def fault_extended(data, rng):
     return data + bytes(rng.randrange(256) for _ in range(rng.choice((1, 1, 2, 3, 8))))
 
 HEADER_EDGES = (
-    (3, "<H", (0, 1, 2, 256, 65535)),
+    (3, "<H", (0, 1, 2, 3, 256, 257, 258, 65535)),
     (5, "<B", (0, 1, 5, 6, 7, 8, 255)),
     (6, "<B", (0, 1, 2, 3, 7, 8, 9, 255)),
     (7, "<H", (0, 1, 2, 2048, 2049, 4096, 4097, 65535)),
@@ -228,8 +281,8 @@ HEADER_EDGES = (
 
 def refitted(data, rng):
     """The data cut or filled to the length that its header says, if that is not large."""
-    d, _, _, s, start = file_numbers(data)
-    length = start + s * (1 + 2 * (d + 1))
+    _, _, _, s, start = file_numbers(data)
+    length = start + s * cell_layout(data)[0]
     if length > 70000:
         return data
     return data[:length] + bytes(rng.choice((0, 0, 43, 45, 1)) for _ in range(length - len(data)))
@@ -260,15 +313,15 @@ def fault_step(data, rng):
     return data
 
 def fault_cell(data, rng):
-    """A sign, a vertex or a whole cell changed in one cell."""
+    """A sign, a material, a vertex or a whole cell changed in one cell."""
     if len(data) < 40:
         return data
     d, _, v, s, start = file_numbers(data)
-    size = 1 + 2 * (d + 1)
+    size, before = cell_layout(data)
     place = start + size * rng.randrange(max(s, 1))
     if place + size > len(data):
         return data
-    what = rng.randrange(5)
+    what = rng.randrange(6)
     if what == 0:
         data[place] = rng.choice((0, 42, 43, 44, 45, 46))
     elif what == 1:
@@ -276,9 +329,12 @@ def fault_cell(data, rng):
     elif what == 2:
         other = start + size * rng.randrange(max(s, 1))
         data[place + 1:place + size] = data[other + 1:other + size]
+    elif what == 3:
+        if before == 3:
+            struct.pack_into("<H", data, place + 1, rng.choice(MATERIALS + BAD_MATERIALS))
     else:
-        old = place + 1 + 2 * rng.randrange(d + 1)
-        twice = struct.unpack_from("<H", data, place + 1 + 2 * rng.randrange(d + 1))[0]
+        old = place + before + 2 * rng.randrange(d + 1)
+        twice = struct.unpack_from("<H", data, place + before + 2 * rng.randrange(d + 1))[0]
         new = rng.choice((twice, max(v - 1, 0), v, 65535, rng.randrange(max(v, 1))))
         struct.pack_into("<H", data, old, new)
     return data
@@ -288,11 +344,11 @@ def fault_added(data, rng):
     if len(data) < 40:
         return data
     d, _, v, s, start = file_numbers(data)
-    size = 1 + 2 * (d + 1)
+    size, before = cell_layout(data)
     if len(data) != start + s * size or s == 0 or v == 0:
         return data
     model = start + size * rng.randrange(s)
-    changed = 1 + 2 * rng.randrange(d + 1)
+    changed = before + 2 * rng.randrange(d + 1)
     for _ in range(rng.randint(1, 2)):
         cell = data[model:model + size]
         cell[0] = rng.choice((43, 45))
@@ -313,17 +369,19 @@ def damaged(data, rng):
     return bytes(data)
 
 def damaged_table(table, d, v, s, rng):
-    """The words of a table with one or two faults, of the same length."""
+    """The words of a table with one or two faults, of the same length; another material may be none."""
     table = list(table)
-    size = 2 * d + 3
+    size = record_size(d)
     for _ in range(rng.randint(1, 2)):
         place = rng.randrange(len(table))
         at = place % size
         if at == 0:
             table[place] = rng.choice((0, 1, 2, 65535))
-        elif at <= d + 1:
+        elif at == 1:
+            table[place] = rng.choice(MATERIALS + BAD_MATERIALS)
+        elif at <= d + 2:
             table[place] = rng.choice((0, v - 1, v, 65535, rng.randrange(v),
-                                       table[place - at + 1 + rng.randrange(d + 1)]))
+                                       table[place - at + 2 + rng.randrange(d + 1)]))
         else:
             table[place] = rng.choice((EMPTY, 0, s - 1, s, place // size, rng.randrange(s)))
         if rng.random() < 0.1:

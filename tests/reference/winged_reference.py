@@ -1,6 +1,6 @@
 """A brute-force reference for winged solids, written from the rules of the paper alone, apart from the engine.
 
-A signed cell is a pair (sign, vertices): +1 or -1, and a tuple of ascending vertices.
+A cell is a sign, +1 or -1, a tuple of ascending vertices, and a material; so is a face, with the material of its cell.
 Every call returns Refused(number), or an answer with a count and what is written.
 """
 
@@ -13,14 +13,18 @@ from fractions import Fraction
 EMPTY = 65535
 SIGNS = (1, -1)  # by sign word
 MOST = 4096
+MOST_MATERIAL = 999
+VERSIONS = (1, 2)  # of files; from the second on a cell has a material there
 PROGRAM_BYTES = 65536
+
+Cell = namedtuple("Cell", "sign vertices material", defaults=(0,))
 
 # Answers: a count of words (wing, sweep), records (faces), floats (move) or bytes (list).
 # Wing writes a table, whose words it counts, and the wings in uploaded order.
 Refused = namedtuple("Refused", "number")
 Answer = namedtuple("Answer", "count written")
 WingAnswer = namedtuple("WingAnswer", "count written uploaded")
-ReadAnswer = namedtuple("ReadAnswer", "d n v s h step cells points")
+ReadAnswer = namedtuple("ReadAnswer", "version d n v s h step cells points")
 
 # The three kinds of step.
 Slide = namedtuple("Slide", "axis amount")
@@ -35,23 +39,23 @@ def ascending(sign, vertices):
     return (-sign if crossed % 2 else sign), tuple(sorted(vertices))
 
 def faces_of(cell):
-    """All faces of a cell by position, with their signs; in dimension 0 none."""
-    sign, vertices = cell
+    """All faces of a cell by position, with their signs and its material; in dimension 0 none."""
+    sign, vertices, material = cell
     if len(vertices) == 1:
         return []
-    return [(sign * (-1) ** i, vertices[:i] + vertices[i + 1:]) for i in range(len(vertices))]
+    return [Cell(sign * (-1) ** i, vertices[:i] + vertices[i + 1:], material) for i in range(len(vertices))]
 
 def owners(cells):
     """For the vertices of every face: the list of (cell number, position, sign)."""
     found = {}
     for p, cell in enumerate(cells):
-        for i, (sign, vertices) in enumerate(faces_of(cell)):
-            found.setdefault(vertices, []).append((p, i, sign))
+        for i, face in enumerate(faces_of(cell)):
+            found.setdefault(face.vertices, []).append((p, i, face.sign))
     return found
 
 def wings_of(cells):
     """The wings of cells in which no face belongs to more than two."""
-    wings = [[EMPTY] * len(vertices) for _, vertices in cells]
+    wings = [[EMPTY] * len(cell.vertices) for cell in cells]
     for owned in owners(cells).values():
         if len(owned) == 2:
             (p, i, _), (q, j, _) = owned
@@ -61,12 +65,12 @@ def wings_of(cells):
 
 def neighbours_by_definition(cells):
     """The wings again, by comparing every face with every face of every other cell."""
-    every = [(q, vertices) for q, cell in enumerate(cells) for _, vertices in faces_of(cell)]
+    every = [(q, face.vertices) for q, cell in enumerate(cells) for face in faces_of(cell)]
     wings = []
     for p, cell in enumerate(cells):
         row = []
-        for _, mine in faces_of(cell):
-            others = [q for q, vertices in every if vertices == mine and q != p]
+        for mine in faces_of(cell):
+            others = [q for q, vertices in every if vertices == mine.vertices and q != p]
             row.append(others[0] if others else EMPTY)
         wings.append(row or [EMPTY])
     return wings
@@ -87,60 +91,74 @@ def uploaded_wings(rows):
 
 # Lists of signed cells.
 def coefficient(cells, row):
-    """Plus cells less minus cells on an ascending row of vertices."""
-    return sum(sign for sign, vertices in cells if vertices == tuple(row))
+    """Plus cells less minus cells on an ascending row of vertices, whatever their materials."""
+    return sum(cell.sign for cell in cells if cell.vertices == tuple(row))
 
 def own_boundary(cells):
     """The faces that belong to one cell only, told from the cells alone."""
     found = owners(cells)
-    return [face for cell in cells for face in faces_of(cell) if len(found[face[1]]) == 1]
+    return [face for cell in cells for face in faces_of(cell) if len(found[face.vertices]) == 1]
 
 def top_copy(cells, v, h):
     """The cells with hV added to each vertex."""
-    return [(sign, tuple(x + h * v for x in vertices)) for sign, vertices in cells]
+    return [cell._replace(vertices=tuple(x + h * v for x in cell.vertices)) for cell in cells]
 
 def swept_cell(cell, k, i, v):
-    """Cell k of the d+1 that a cell gives at level i."""
-    sign, vertices = cell
+    """Cell k of the d+1 that a cell gives at level i, of its material."""
+    sign, vertices, material = cell
     d = len(vertices) - 1
     lower = [x + i * v for x in vertices[k:]]
     upper = [x + (i + 1) * v for x in vertices[:k + 1]]
-    return sign * (-1) ** (k * d), tuple(lower + upper)
+    return Cell(sign * (-1) ** (k * d), tuple(lower + upper), material)
 
 def sweep_plain(cells, v, h):
     """The swept cells without wings, in the order of their numbers."""
     return [swept_cell(cell, k, i, v)
-            for i in range(h) for cell in cells for k in range(len(cell[1]))]
+            for i in range(h) for cell in cells for k in range(len(cell.vertices))]
 
-# Tables.
+# Words: how many a cell of a list, a record of a table and a face have.
+def list_size(d):
+    """Sign, material, d + 1 vertices."""
+    return d + 3
+
+def record_size(d):
+    """Sign, material, d + 1 vertices, d + 1 wings."""
+    return 2 * d + 4
+
+def face_size(d):
+    """Sign, d vertices, material."""
+    return d + 2
+
 def split(words, size):
     """The list cut into rows of the given size."""
     return [list(words[i:i + size]) for i in range(0, len(words), size)]
 
+# Tables.
 def join_table(cells, wings):
     """The words of a table."""
-    return [word for (sign, vertices), row in zip(cells, wings)
-            for word in (SIGNS.index(sign), *vertices, *row)]
+    return [word for cell, row in zip(cells, wings)
+            for word in (SIGNS.index(cell.sign), cell.material, *cell.vertices, *row)]
 
 def table_cells(d, table):
-    """The signed cells of a table."""
-    return [(SIGNS[row[0]], tuple(row[1:d + 2])) for row in split(table, 2 * d + 3)]
+    """The cells of a table."""
+    return [Cell(SIGNS[row[0]], tuple(row[2:d + 3]), row[1]) for row in split(table, record_size(d))]
 
 def table_wings(d, table):
     """The wings of a table, a row per cell."""
-    return [row[d + 2:] for row in split(table, 2 * d + 3)]
+    return [row[d + 3:] for row in split(table, record_size(d))]
 
 def row_in_order(row, d, v):
-    """Sign 0 or 1, vertices different, ascending and below V."""
-    vertices = row[1:d + 2]
-    return row[0] in (0, 1) and vertices == sorted(set(vertices)) and max(vertices) < v
+    """Sign 0 or 1, material up to 999, vertices different, ascending and below V."""
+    vertices = row[2:d + 3]
+    in_order = vertices == sorted(set(vertices)) and max(vertices) < v
+    return row[0] in (0, 1) and row[1] <= MOST_MATERIAL and in_order
 
 def sound(d, v, table):
     """Soundness of a table whose numbers and length are right already."""
-    if not all(row_in_order(row, d, v) for row in split(table, 2 * d + 3)):
+    if not all(row_in_order(row, d, v) for row in split(table, record_size(d))):
         return False
     cells = table_cells(d, table)
-    if len({vertices for _, vertices in cells}) != len(cells):
+    if len({cell.vertices for cell in cells}) != len(cells):
         return False
     for owned in owners(cells).values():
         if len(owned) > 2 or len(owned) == 2 and owned[0][2] == owned[1][2]:
@@ -148,7 +166,7 @@ def sound(d, v, table):
     return table_wings(d, table) == wings_of(cells)
 
 def table_boundary(d, table):
-    """One signed face per empty wing, by cell and then position; none in dimension 0."""
+    """One face per empty wing, by cell and then position; none in dimension 0."""
     return [face for cell, wings in zip(table_cells(d, table), table_wings(d, table))
             for face, neighbour in zip(faces_of(cell), wings) if neighbour == EMPTY]
 
@@ -157,35 +175,37 @@ def sizes_fit(v, s):
     return v <= MOST and s <= MOST and (v >= 1 or s == 0)
 
 def rows_refusal(rows, signs, v):
-    """Rows 6 to 8 over rows of a sign and vertices, or None."""
+    """Rows 6, 7, 8 and 18, in this order, over rows of a sign, a material and vertices, or None."""
     if any(row[0] not in signs for row in rows):
         return Refused(6)
-    if any(x >= v for row in rows for x in row[1:]):
+    if any(x >= v for row in rows for x in row[2:]):
         return Refused(7)
-    if any(len(set(row[1:])) != len(row) - 1 for row in rows):
+    if any(len(set(row[2:])) != len(row) - 2 for row in rows):
         return Refused(8)
+    if any(row[1] > MOST_MATERIAL for row in rows):
+        return Refused(18)
 
 def wing(d, v, s, cells, room, uploaded_room):
     """The table of a list of cells, and their wings in uploaded order."""
     if not (0 <= d <= 7 and sizes_fit(v, s)):
         return Refused(2)
-    if len(cells) != s * (d + 2):
+    if len(cells) != s * list_size(d):
         return Refused(3)
-    rows = split(cells, d + 2)
+    rows = split(cells, list_size(d))
     if refusal := rows_refusal(rows, (0, 1), v):
         return refusal
-    ordered = [ascending(SIGNS[row[0]], row[1:]) for row in rows]
-    if len({vertices for _, vertices in ordered}) != s:
+    ordered = [Cell(*ascending(SIGNS[row[0]], row[2:]), row[1]) for row in rows]
+    if len({cell.vertices for cell in ordered}) != s:
         return Refused(9)
     shared = list(owners(ordered).values())
     if any(len(owned) > 2 for owned in shared):
         return Refused(10)
     if any(len(owned) == 2 and owned[0][2] == owned[1][2] for owned in shared):
         return Refused(11)
-    if room < s * (2 * d + 3) or uploaded_room < s * (d + 1):
+    if room < s * record_size(d) or uploaded_room < s * (d + 1):
         return Refused(15)
     table = join_table(ordered, wings_of(ordered))
-    uploaded = [word for wings in uploaded_wings([row[1:] for row in rows]) for word in wings]
+    uploaded = [word for wings in uploaded_wings([row[2:] for row in rows]) for word in wings]
     return WingAnswer(len(table), table, uploaded)
 
 def side_pairs(d, a):
@@ -221,13 +241,13 @@ def sweep(d, v, s, h, table, room):
     """The table of the swept solid, one dimension higher."""
     if not (0 <= d <= 6 and sizes_fit(v, s) and 1 <= h <= 64):
         return Refused(2)
-    if len(table) != s * (2 * d + 3):
+    if len(table) != s * record_size(d):
         return Refused(3)
     if (h + 1) * v > MOST or h * s * (d + 1) > MOST:
         return Refused(12)
     if not sound(d, v, table):
         return Refused(14)
-    if room < h * s * (d + 1) * (2 * d + 5):
+    if room < h * s * (d + 1) * record_size(d + 1):
         return Refused(15)
     cells = sweep_plain(table_cells(d, table), v, h)
     swept = join_table(cells, swept_wings(d, s, h, table_wings(d, table)))
@@ -237,14 +257,14 @@ def faces(d, v, s, table, room):
     """The records of the boundary faces, and how many."""
     if not (0 <= d <= 7 and sizes_fit(v, s)):
         return Refused(2)
-    if len(table) != s * (2 * d + 3):
+    if len(table) != s * record_size(d):
         return Refused(3)
     if not sound(d, v, table):
         return Refused(14)
     records = table_boundary(d, table)
-    if room < len(records) * (d + 1):
+    if room < len(records) * face_size(d):
         return Refused(15)
-    words = [word for sign, vertices in records for word in (SIGNS.index(sign), *vertices)]
+    words = [word for face in records for word in (SIGNS.index(face.sign), *face.vertices, face.material)]
     return Answer(len(records), words)
 
 # Points.
@@ -310,17 +330,29 @@ def read_step(kind, axes, floats, data):
         return Slant(axes[0], floats[0], axes[1], floats[1]), data[32:40]
     return Turn(*floats), data[14:16]
 
+def file_cell_size(version, d):
+    """The bytes of a cell in a file: sign, in version 2 a material, d + 1 vertices."""
+    return (3 if version == 2 else 1) + 2 * (d + 1)
+
+def file_rows(version, d, data):
+    """Rows of a sign byte, a material and vertices; in version 1 all materials are 0."""
+    if version == 2:
+        return list(struct.iter_unpack(f"<BH{d + 1}H", data))
+    return [(sign, 0, *vertices) for sign, *vertices in struct.iter_unpack(f"<B{d + 1}H", data)]
+
 def read(data, cells_room, points_room):
-    """The numbers, step, cells and points of a file."""
-    if len(data) < 40 or data[0:3] != b"WNG" or data[3:5] != b"\x01\x00":
+    """The version, numbers, step, cells and points of a file."""
+    if len(data) < 40 or data[0:3] != b"WNG":
         return Refused(1)
-    d, n, v, s, h, kind, *axes = struct.unpack_from("<BBHHHBBB", data, 5)
+    version, d, n, v, s, h, kind, *axes = struct.unpack_from("<HBBHHHBBB", data, 3)
+    if version not in VERSIONS:
+        return Refused(1)
     floats = struct.unpack_from("<3d", data, 16)
     in_limits = d <= 6 and 1 <= n <= 8 and n >= d + 1 and sizes_fit(v, s) and 1 <= h <= 64
     if not (in_limits and kind in (1, 2, 3)):
         return Refused(2)
     cells_start = 40 + 8 * v * n
-    if len(data) != cells_start + s * (1 + 2 * (d + 1)):
+    if len(data) != cells_start + s * file_cell_size(version, d):
         return Refused(3)
     points = list(struct.unpack_from(f"<{v * n}d", data, 40))
     if not all(float_fits(x) for x in [*floats, *points]):
@@ -328,13 +360,13 @@ def read(data, cells_room, points_room):
     step, unused = read_step(kind, axes, floats, data)
     if any(unused) or not step_fits(step, n):
         return Refused(5)
-    rows = list(struct.iter_unpack(f"<B{d + 1}H", data[cells_start:]))
+    rows = file_rows(version, d, data[cells_start:])
     if refusal := rows_refusal(rows, (43, 45), v):
         return refusal
-    if cells_room < s * (d + 2) or points_room < v * n:
+    if cells_room < s * list_size(d) or points_room < v * n:
         return Refused(15)
     cells = [word for row in rows for word in (0 if row[0] == 43 else 1, *row[1:])]
-    return ReadAnswer(d, n, v, s, h, step, cells, points)
+    return ReadAnswer(version, d, n, v, s, h, step, cells, points)
 
 def coordinate(x):
     """Three decimals of the exact float, a half to the even thousandth, no minus on zero."""
@@ -342,11 +374,11 @@ def coordinate(x):
     minus = "-" if x < 0 and thousandths > 0 else ""
     return f"{minus}{thousandths // 1000}.{thousandths % 1000:03d}"
 
-def list_key(d, n, v, s, table, points, room):
-    """The text of the key of a table and its points."""
-    if not (0 <= d <= 7 and 1 <= n <= 8 and sizes_fit(v, s)):
+def list_key(version, d, n, v, s, table, points, room):
+    """The text of the key of a table and its points; from version 2 on a face's line ends with its material."""
+    if not (version in VERSIONS and 0 <= d <= 7 and 1 <= n <= 8 and sizes_fit(v, s)):
         return Refused(2)
-    if len(table) != s * (2 * d + 3) or len(points) != v * n:
+    if len(table) != s * record_size(d) or len(points) != v * n:
         return Refused(3)
     if not all(float_fits(x) for x in points):
         return Refused(4)
@@ -356,8 +388,8 @@ def list_key(d, n, v, s, table, points, room):
     lines = [["key", d, n, v, len(records)]]
     for number, point in enumerate(split(points, n)):
         lines.append(["v", number, *map(coordinate, point)])
-    for sign, vertices in records:
-        lines.append(["+" if sign == 1 else "-", *vertices])
+    for face in records:
+        lines.append(["+" if face.sign == 1 else "-", *face.vertices] + [face.material] * (version == 2))
     text = "".join(" ".join(map(str, line)) + "\n" for line in lines).encode()
     if room < len(text):
         return Refused(15)
@@ -380,7 +412,7 @@ def run_key(data):
     points = move(f.n, f.v, f.h, f.step, f.points, floats)
     if isinstance(points, Refused):
         return points
-    return list_key(f.d + 1, f.n, (f.h + 1) * f.v, f.h * f.s * (f.d + 1),
+    return list_key(f.version, f.d + 1, f.n, (f.h + 1) * f.v, f.h * f.s * (f.d + 1),
                     swept.written, points.written, PROGRAM_BYTES)
 
 def key(data):

@@ -1,6 +1,6 @@
 //! Faces: a record for each empty wing.
 
-use super::rows::{put_row, without, Row};
+use super::rows::{put, put_row, without, Row};
 use super::{refuse_if, Reference, Refusal, EMPTY};
 
 impl Reference {
@@ -10,18 +10,19 @@ impl Reference {
             return Ok(0);
         }
         let empty: usize = self.wings[..s].iter().map(|wings| wings[..N].iter().filter(|&&wing| wing == EMPTY).count()).sum();
-        refuse_if(out.len() / 2 < empty * N, 15)?;
-        let mut records = out.chunks_exact_mut(2 * N);
+        refuse_if(out.len() / 2 < empty * (N + 1), 15)?;
+        let mut records = out.chunks_exact_mut(2 * (N + 1));
         for p in 0..s {
             for a in 0..N {
                 if self.wings[p][a] == EMPTY {
-                    // The record has at most eight words, so it is a row too.
+                    // Sign and vertices are at most eight words, so they are a row too; the material stands behind.
                     let sign = (self.signs[p] ^ a as u16) & 1;
-                    let record = without::<N>(self.rows[p], a) << 16 | sign as Row;
-                    put_row(records.next().unwrap(), record);
+                    let record = records.next().unwrap();
+                    put_row(&mut record[..2 * N], without::<N>(self.rows[p], a) << 16 | sign as Row);
+                    put(record, N, self.materials[p]);
                 }
             }
         }
-        Ok(empty * N)
+        Ok(empty * (N + 1))
     }
 }

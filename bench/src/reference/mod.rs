@@ -15,6 +15,7 @@ use slots::Slots;
 pub const EMPTY: u16 = 65535;
 /// Most vertices, and most cells.
 pub const MOST: usize = 4096;
+pub const MOST_MATERIAL: u16 = 999;
 
 /// The number of a refusal.
 pub type Refusal = u8;
@@ -26,6 +27,7 @@ fn refuse_if(bad: bool, number: Refusal) -> Result<(), Refusal> {
 /// What a call works in, with room for the largest solid. The face of cell p at position a is number 8 p + a.
 pub struct Reference {
     signs: Vec<u16>,
+    materials: Vec<u16>,
     rows: Vec<Row>,
     wings: Vec<[u16; 8]>,
     slots: Slots,
@@ -48,7 +50,8 @@ fn within(d: usize, greatest: usize, v: usize, s: usize) -> bool {
 
 impl Default for Reference {
     fn default() -> Reference {
-        Reference { signs: vec![0; MOST], rows: vec![0; MOST], wings: vec![[EMPTY; 8]; MOST], slots: Slots::default() }
+        let words = || vec![0; MOST];
+        Reference { signs: words(), materials: words(), rows: vec![0; MOST], wings: vec![[EMPTY; 8]; MOST], slots: Slots::default() }
     }
 }
 
@@ -69,20 +72,20 @@ impl Reference {
         &mut self, d: usize, v: usize, s: usize, cells: &[u8], out: &mut [u8], uploaded: &mut [u8],
     ) -> Result<usize, Refusal> {
         refuse_if(!within(d, 7, v, s), 2)?;
-        refuse_if(cells.len() != 2 * s * (d + 2), 3)?;
+        refuse_if(cells.len() != 2 * s * (d + 3), 3)?;
         by_dimension!(d, self.wing_of(v, s, cells, out, uploaded), 0 1 2 3 4 5 6 7)
     }
 
     pub fn sweep(&mut self, d: usize, v: usize, s: usize, h: usize, table: &[u8], out: &mut [u8]) -> Result<usize, Refusal> {
         refuse_if(!within(d, 6, v, s) || !(1..=64).contains(&h), 2)?;
-        refuse_if(table.len() != 2 * s * (2 * d + 3), 3)?;
+        refuse_if(table.len() != 2 * s * (2 * d + 4), 3)?;
         refuse_if((h + 1) * v > MOST || h * s * (d + 1) > MOST, 12)?;
         by_dimension!(d, self.sweep_of(v, s, h, table, out), 0 1 2 3 4 5 6)
     }
 
     pub fn faces(&mut self, d: usize, v: usize, s: usize, table: &[u8], out: &mut [u8]) -> Result<usize, Refusal> {
         refuse_if(!within(d, 7, v, s), 2)?;
-        refuse_if(table.len() != 2 * s * (2 * d + 3), 3)?;
+        refuse_if(table.len() != 2 * s * (2 * d + 4), 3)?;
         by_dimension!(d, self.faces_of(v, s, table, out), 0 1 2 3 4 5 6 7)
     }
 

@@ -4,7 +4,7 @@
 //! Two cells on the same vertices have two equal faces or more, of which a wing joins one at most.
 
 use super::rows::{self, ascending, hash, vertex, without, word};
-use super::{refuse_if, Reference, Refusal, EMPTY};
+use super::{refuse_if, Reference, Refusal, EMPTY, MOST_MATERIAL};
 
 /// Where p first stands among the wings, or 32.
 #[inline(always)]
@@ -21,16 +21,18 @@ impl Reference {
         refuse_if(!sound, 14)
     }
 
-    /// Whether signs are 0 or 1 and vertices ascend and are below v.
+    /// Whether signs are 0 or 1, materials up to 999, and vertices ascend and are below v.
     fn read_table<const N: usize>(&mut self, v: usize, table: &[u8]) -> bool {
         let mut fine = true;
-        let cells = self.signs.iter_mut().zip(&mut self.rows).zip(&mut self.wings);
-        for (record, ((sign, row), wings)) in table.chunks_exact(2 * (2 * N + 1)).zip(cells) {
+        let cells = self.signs.iter_mut().zip(&mut self.materials).zip(&mut self.rows).zip(&mut self.wings);
+        for (record, (((sign, material), row), wings)) in table.chunks_exact(2 * (2 * N + 2)).zip(cells) {
             *sign = word(record, 0);
-            *row = rows::row::<N>(record, 1);
-            let wing = rows::row::<N>(record, 1 + N);
+            *material = word(record, 1);
+            *row = rows::row::<N>(record, 2);
+            let wing = rows::row::<N>(record, 2 + N);
             *wings = std::array::from_fn(|a| vertex(wing, a));
-            fine &= (*sign <= 1) & ((vertex(*row, N - 1) as usize) < v) & ascending::<N>(*row);
+            let below = (vertex(*row, N - 1) as usize) < v;
+            fine &= (*sign <= 1) & (*material <= MOST_MATERIAL) & below & ascending::<N>(*row);
         }
         fine
     }

@@ -7,10 +7,10 @@ use super::{refuse_if, Reference, Refusal, EMPTY};
 impl Reference {
     pub(super) fn sweep_of<const N: usize>(&mut self, v: usize, s: usize, h: usize, table: &[u8], out: &mut [u8]) -> Result<usize, Refusal> {
         self.read_sound::<N>(v, s, table)?;
-        let words = s * N * (2 * N + 3);
+        let words = s * N * (2 * N + 4);
         refuse_if(out.len() / 2 < h * words, 15)?;
         let swept = &mut out[..2 * h * words];
-        for (p, column) in swept[..2 * words].chunks_exact_mut(2 * N * (2 * N + 3)).enumerate() {
+        for (p, column) in swept[..2 * words].chunks_exact_mut(2 * N * (2 * N + 4)).enumerate() {
             self.put_column::<N>(v, p, column);
         }
         raise_levels::<N>(v, s, h, swept);
@@ -35,7 +35,7 @@ impl Reference {
         }
         let mut pairs_before = 0;
         for k in 0..N {
-            let record = &mut column[2 * k * (2 * N + 3)..2 * (k + 1) * (2 * N + 3)];
+            let record = &mut column[2 * k * (2 * N + 4)..2 * (k + 1) * (2 * N + 4)];
             // Pair k of each side is with the neighbour's cell k, or k + 1 from its place on: bit 15 is left there.
             let from_place = ((ones << 15) + ones * k as Row - places) >> 15 & ones;
             let pairs = (firsts + ones * k as Row + from_place) | empty;
@@ -43,8 +43,9 @@ impl Reference {
             let next = if k + 1 < N { base + k as Row + 1 } else { EMPTY as Row };
             let last = if k > 0 { base + k as Row - 1 } else { EMPTY as Row };
             put(record, 0, self.signs[p] ^ (k * (N - 1)) as u16 & 1);
-            put_row(&mut record[2..4 + 2 * N], row >> (16 * k) | raised << (16 * (N - k)));
-            put_row(&mut record[4 + 2 * N..], next | sides << 16 | last << (16 * N));
+            put(record, 1, self.materials[p]);
+            put_row(&mut record[4..6 + 2 * N], row >> (16 * k) | raised << (16 * (N - k)));
+            put_row(&mut record[6 + 2 * N..], next | sides << 16 | last << (16 * N));
             pairs_before = pairs;
         }
     }
@@ -52,12 +53,12 @@ impl Reference {
 
 /// Each level is the one below with its vertices and cells raised; empty wings, being 65535, stay so.
 fn raise_levels<const N: usize>(v: usize, s: usize, h: usize, swept: &mut [u8]) {
-    let (size, level) = (2 * N + 3, 2 * s * N * (2 * N + 3));
+    let (size, level) = (2 * N + 4, 2 * s * N * (2 * N + 4));
     // What is added to eight records.
-    let mut added = [0u16; 8 * 17];
+    let mut added = [0u16; 8 * 18];
     for record in added.chunks_exact_mut(size).take(8) {
-        record[1..N + 2].fill(v as u16);
-        record[N + 2..].fill((s * N) as u16);
+        record[2..N + 3].fill(v as u16);
+        record[N + 3..].fill((s * N) as u16);
     }
     for i in 1..h {
         let (below, here) = swept.split_at_mut(i * level);
@@ -71,10 +72,10 @@ fn raise_levels<const N: usize>(v: usize, s: usize, h: usize, swept: &mut [u8]) 
 
 /// The last cell over each p and the first cell over p at the next level are each other's wings.
 fn join_levels<const N: usize>(s: usize, swept: &mut [u8]) {
-    let (size, cells) = (2 * N + 3, swept.len() / (2 * (2 * N + 3)));
+    let (size, cells) = (2 * N + 4, swept.len() / (2 * (2 * N + 4)));
     for next in (s * N..cells).step_by(N) {
         let last = next - s * N + N - 1;
-        put(swept, last * size + N + 2, next as u16);
-        put(swept, next * size + 2 * N + 2, last as u16);
+        put(swept, last * size + N + 3, next as u16);
+        put(swept, next * size + 2 * N + 3, last as u16);
     }
 }

@@ -28,11 +28,11 @@ empty-keep : (g : Row → ℕ) (L : List Cell) → atEmpty L (map (λ f. g (f .r
 empty-keep g [] = refl
 empty-keep g (c ∷ L) = ap (λ r. cond (eqb (g (c .row)) 65535) (c ∷ r) r) (empty-keep g L)
 
-faces-have : (s : Bool) (v : Row) → 2 ≤ length v → All (λ w. hasFace w v ≡ true) (faces s v)
-faces-have s v l =
-    All-map (λ w. (0 < total w (faces s v)) × (filled w ≡ true)) (λ w. hasFace w v ≡ true) (faces s v)
-    (λ w h. rw (h .1) (lt-ltb 0 (total w (faces true v)) (omega (arith, h .0, total-faces w s v, total-faces w true v))))
-    (All-both (λ w. 0 < total w (faces s v)) (λ w. filled w ≡ true) (faces s v) (all-in (faces s v)) (faces-filled s v l))
+faces-have : (s : Bool) (m : ℕ) (v : Row) → 2 ≤ length v → All (λ w. hasFace w v ≡ true) (faces s m v)
+faces-have s m v l =
+    All-map (λ w. (0 < total w (faces s m v)) × (filled w ≡ true)) (λ w. hasFace w v ≡ true) (faces s m v)
+    (λ w h. rw (h .1) (lt-ltb 0 (total w (faces true 0 v)) (omega (arith, h .0, total-faces w s m v, total-faces w true 0 v))))
+    (All-both (λ w. 0 < total w (faces s m v)) (λ w. filled w ≡ true) (faces s m v) (all-in (faces s m v)) (faces-filled s m v l))
 
 module _ (nv : ℕ) (all : List Cell) (s : Solid nv all) (two : All (λ v. 2 ≤ length v) all) (small : length all ≤ empty) where
   lone-eq : (p : ℕ) (w : Row) → p < length all → hasFace w (rowAt all p) ≡ true →
@@ -64,14 +64,15 @@ module _ (nv : ℕ) (all : List Cell) (s : Solid nv all) (two : All (λ v. 2 ≤
   bd-from p [] a l h = refl
   bd-from p (c ∷ cs) a l h =
       ap₂ {C = List Cell} (λ a b. a ++ b)
-      (ap (keep (λ f. filled (f .row))) (empty-keep (λ w. neighbourFrom p 0 w all) (faces (c .sign) (c .row)))
-      ∙ keep-all filled (keep (λ f. eqb (neighbourFrom p 0 (f .row) all) 65535) (faces (c .sign) (c .row))) (All-keep (λ w. filled w ≡ true)
-      (λ f. eqb (neighbourFrom p 0 (f .row) all) 65535) (faces (c .sign) (c .row)) (faces-filled (c .sign) (c .row) (a .0)))
+      (ap (keep (λ f. filled (f .row))) (empty-keep (λ w. neighbourFrom p 0 w all) (faces (c .sign) (c .material) (c .row)))
+      ∙ keep-all filled (keep (λ f. eqb (neighbourFrom p 0 (f .row) all) 65535) (faces (c .sign) (c .material) (c .row)))
+      (All-keep (λ w. filled w ≡ true) (λ f. eqb (neighbourFrom p 0 (f .row) all) 65535) (faces (c .sign) (c .material) (c .row))
+      (faces-filled (c .sign) (c .material) (c .row) (a .0)))
       ∙ keep-ext (λ w. hasFace w (c .row) ≡ true) (λ w. eqb (neighbourFrom p 0 w all) 65535)
-      (loneIn (allFaces all)) (faces (c .sign) (c .row)) (faces-have (c .sign) (c .row) (a .0))
+      (loneIn (allFaces all)) (faces (c .sign) (c .material) (c .row)) (faces-have (c .sign) (c .material) (c .row) (a .0))
       (λ w e. lone-eq p w (omega arith) (subst (λ v. hasFace w v ≡ true) (h 0 (omega arith) ∙ ap (rowAt all) (add-zero p)) e)))
       (bd-from (suc p) cs (a .1) (omega arith) (λ n k. h (suc n) (omega arith) ∙ ap (rowAt all) (omega arith)))
-      ∙ sym (keep-append (λ c. loneIn (allFaces all) (c .row)) (faces (c .sign) (c .row)) (allFaces cs))
+      ∙ sym (keep-append (λ c. loneIn (allFaces all) (c .row)) (faces (c .sign) (c .material) (c .row)) (allFaces cs))
 
   pub boundary-told : boundaryOf (tableOf all) ≡ ownBoundary all
   boundary-told = bd-from 0 all two (omega arith) (λ n k. ap (rowAt all) (sym (zero-add n)))
@@ -81,17 +82,17 @@ module _ (nv : ℕ) (all : List Cell) (s : Solid nv all) (two : All (λ v. 2 ≤
 points-none : (all : List Cell) (p : ℕ) (cs : List Cell) → All (Long 1) cs → boundaryOf (entriesFrom all p cs) ≡ []
 points-none all p [] a = refl
 points-none all p (c ∷ cs) a =
-    ap₂ {C = List Cell} (λ a b. a ++ b) (one-point (c .sign) (c .row) (wingsOf all p c) (a .0)) (points-none all (suc p) cs (a .1))
+    ap₂ {C = List Cell} (λ a b. a ++ b) (one-point (c .sign) (c .material) (c .row) (wingsOf all p c) (a .0)) (points-none all (suc p) cs (a .1))
   where
-    one-point : (s : Sign) (v : Row) (ws : List ℕ) → length v ≡ 1 → keep (λ f. filled (f .row)) (atEmpty (faces s v) ws) ≡ []
-    one-point s [] ws e = refl
-    one-point s (x ∷ []) [] e = refl
-    one-point s (x ∷ []) (w ∷ ws) e = go (eqb w empty)
+    one-point : (s : Sign) (m : ℕ) (v : Row) (ws : List ℕ) → length v ≡ 1 → keep (λ f. filled (f .row)) (atEmpty (faces s m v) ws) ≡ []
+    one-point s m [] ws e = refl
+    one-point s m (x ∷ []) [] e = refl
+    one-point s m (x ∷ []) (w ∷ ws) e = go (eqb w empty)
       where
-        go : (t : Bool) → keep (λ f. filled (f .row)) (cond t (cell s [] ∷ []) []) ≡ []
+        go : (t : Bool) → keep (λ f. filled (f .row)) (cond t (cell s m [] ∷ []) []) ≡ []
         go true = refl
         go false = refl
-    one-point s (x ∷ (y ∷ v)) ws e = absurd (omega arith)
+    one-point s m (x ∷ (y ∷ v)) ws e = absurd (omega arith)
 
 -- for every dimension
 pub boundary-own : (nv d : ℕ) (cs : List Cell) → Solid nv cs → All (Long (suc d)) cs → length cs ≤ empty →

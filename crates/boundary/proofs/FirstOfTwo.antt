@@ -21,10 +21,10 @@ unfolding computing facesRules facesOutcome
 length-before-sound = refl
 
 -- a segment on vertices 0 and 1 of one, and no room for its two ends
-pub sound-before-room : facesOutcome (told 1 (0 ∷ 0 ∷ 1 ∷ 65535 ∷ 65535 ∷ []) 0) ≡ refused 14
+pub sound-before-room : facesOutcome (told 1 (0 ∷ 0 ∷ 0 ∷ 1 ∷ 65535 ∷ 65535 ∷ []) 0) ≡ refused 14
 unfolding computing boundaryCells facesRules facesOutcome
 sound-before-room = refl
 
-pub untouched : facesBuffer (told 1 (0 ∷ 0 ∷ 1 ∷ 65535 ∷ 65535 ∷ []) 0) (7 ∷ 7 ∷ []) ≡ 7 ∷ 7 ∷ []
+pub untouched : facesBuffer (told 1 (0 ∷ 0 ∷ 0 ∷ 1 ∷ 65535 ∷ 65535 ∷ []) 0) (7 ∷ 7 ∷ []) ≡ 7 ∷ 7 ∷ []
 unfolding computing boundaryCells facesRules facesOutcome facesBuffer
 untouched = refl

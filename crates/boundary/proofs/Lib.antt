@@ -2,6 +2,7 @@
 pub mod EmptyWings
 pub mod Lone
 pub mod FaceWords
+pub mod FaceCodec
 pub mod Sizes
 pub mod Walking
 pub mod Order

@@ -49,13 +49,13 @@ module _ (d : ℕ) where
   boundary-few : d ≤ 7 → (n : ℕ) (f : ℕ → Entry) → ((p : ℕ) → p < n → length (f p .cell .row) ≡ suc d) → length (boundaryOf (tabulate n f)) ≤ n * 8
   boundary-few h zero f e = omega arith
   boundary-few h (suc n) f e =
-      let fs = faces (f 0 .cell .sign) (f 0 .cell .row) in
+      let fs = faces (f 0 .cell .sign) (f 0 .cell .material) (f 0 .cell .row) in
       omega (
         arith,
         length-append (cellFrom 0 (f 0)) (boundaryOf (tabulate n (λ p. f (suc p)))),
         keep-few (λ c. filled (c .row)) (atEmpty fs (f 0 .wings)),
         empty-few fs (f 0 .wings),
-        faces-length (f 0 .cell .sign) (f 0 .cell .row),
+        faces-length (f 0 .cell .sign) (f 0 .cell .material) (f 0 .cell .row),
         e 0 (omega arith),
         boundary-few h n (λ p. f (suc p)) (λ p l. e (suc p) (omega arith)),
       )
@@ -63,15 +63,23 @@ module _ (d : ℕ) where
   boundary-rows : (n : ℕ) (f : ℕ → Entry) → ((p : ℕ) → p < n → length (f p .cell .row) ≡ suc d) → All (Long d) (boundaryOf (tabulate n f))
   boundary-rows zero f e = tt
   boundary-rows (suc n) f e =
-      let fs = faces (f 0 .cell .sign) (f 0 .cell .row) in
+      let fs = faces (f 0 .cell .sign) (f 0 .cell .material) (f 0 .cell .row) in
       All-append (Long d) (cellFrom 0 (f 0)) (boundaryOf (tabulate n (λ p. f (suc p))))
       (All-keep (Long d) (λ c. filled (c .row)) (atEmpty fs (f 0 .wings))
-      (empty-all (Long d) fs (f 0 .wings) (faces-long d (f 0 .cell .sign) (f 0 .cell .row) (e 0 (omega arith)))))
+      (empty-all (Long d) fs (f 0 .wings) (faces-long d (f 0 .cell .sign) (f 0 .cell .material) (f 0 .cell .row) (e 0 (omega arith)))))
       (boundary-rows n (λ p. f (suc p)) (λ p l. e (suc p) (omega arith)))
 
   rows-words : (fs : List Cell) → All (Long d) fs → length (facesWords fs) ≡ length fs * faceSize d
   rows-words [] a = omega arith
-  rows-words (f ∷ fs) a = omega (arith, length-append (faceWords f) (facesWords fs), a .0, rows-words fs (a .1), suc-mul (length fs) (faceSize d))
+  rows-words (f ∷ fs) a =
+      omega (
+        arith,
+        length-append (faceWords f) (facesWords fs),
+        length-append (f .row) (f .material ∷ []),
+        a .0,
+        rows-words fs (a .1),
+        suc-mul (length fs) (faceSize d),
+      )
 
 module _ (d s : ℕ) (ws : List ℕ) (t : Table d s ws) where
   rows : (p : ℕ) → p < s → length (entryIn d ws p .cell .row) ≡ suc d

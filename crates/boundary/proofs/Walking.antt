@@ -19,7 +19,7 @@ use Rattle.words.specs.Inner.Placed.{Put}
 use Rattle.words.proofs.Records.{tabulate-length}
 use Rattle.words.proofs.Loops.{drop-next}
 use Rattle.words.proofs.Writing.{Left, left-starts, left-ends, left-fits, left-goes}
-use Rattle.simplex.specs.Cell.{Row, Cell, cell, filled}
+use Rattle.simplex.specs.Cell.{Row, Cell, cell, filled, noCell}
 use Rattle.simplex.specs.Faces.{face, faces, keep, without}
 use Rattle.simplex.proofs.Faces.{faces-length, face-at}
 use Rattle.simplex.proofs.FaceCounts.{without-filled}
@@ -67,7 +67,7 @@ module _ (d s : ℕ) (ws : List ℕ) (size : length ws ≡ tableLength d s) (p a
   here = entryIn d ws p
 
   abbrev fs : List Cell
-  fs = faces (here .cell .sign) (here .cell .row)
+  fs = faces (here .cell .sign) (here .cell .material) (here .cell .row)
 
   entries-next : drop p (entriesOf d s ws) ≡ here ∷ drop (p + 1) (entriesOf d s ws)
   entries-next =
@@ -81,7 +81,7 @@ module _ (d s : ℕ) (ws : List ℕ) (size : length ws ≡ tableLength d s) (p a
   row = row-long d (part (recordSize d) p ws) long
 
   many : length fs ≡ suc d
-  many = faces-length (here .cell .sign) (here .cell .row) ∙ row
+  many = faces-length (here .cell .sign) (here .cell .material) (here .cell .row) ∙ row
 
   pub from-next : d < a → facesFrom d s ws p a ≡ facesFrom d s ws (p + 1) 0
   unfolding facesFrom
@@ -91,8 +91,8 @@ module _ (d s : ℕ) (ws : List ℕ) (size : length ws ≡ tableLength d s) (p a
   module _ (ha : a ≤ d) where
     faces-next : drop a fs ≡ faceAt d ws p a ∷ drop (a + 1) fs
     faces-next =
-        drop-next (cell true []) fs a (omega (arith, many))
-        ∙ ap (λ f. f ∷ drop (a + 1) fs) (face-at (here .cell .sign) (here .cell .row) a (omega (arith, row)))
+        drop-next noCell fs a (omega (arith, many))
+        ∙ ap (λ f. f ∷ drop (a + 1) fs) (face-at (here .cell .sign) (here .cell .material) (here .cell .row) a (omega (arith, row)))
 
     wings-next : drop a (here .wings) ≡ wingIn d ws p a ∷ drop (a + 1) (here .wings)
     wings-next = drop-next empty (here .wings) a (omega (arith, wings-long d (part (recordSize d) p ws) long))

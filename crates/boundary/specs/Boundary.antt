@@ -19,7 +19,7 @@ atEmpty (f ∷ fs) (w ∷ ws) = let r = atEmpty fs ws in cond (eqb w empty) (f �
 
 abbrev pub boundaryOf : List Entry → List Cell
 boundaryOf [] = []
-boundaryOf (e ∷ es) = keep (λ f. filled (f .row)) (atEmpty (faces (e .cell .sign) (e .cell .row)) (e .wings)) ++ boundaryOf es
+boundaryOf (e ∷ es) = keep (λ f. filled (f .row)) (atEmpty (faces (e .cell .sign) (e .cell .material) (e .cell .row)) (e .wings)) ++ boundaryOf es
 
 abbrev pub ownBoundary : List Cell → List Cell
 ownBoundary cs = let fs = facets cs in keep (λ f. eqb (total (f .row) fs) 1) fs

@@ -1,4 +1,4 @@
--- The call faces: it takes a table and writes one record for each boundary face: sign word, d vertices. Paper, sections 5 and 9.
+-- The call faces: it takes a table and writes one record for each boundary face: sign word, d vertices, material. Paper, sections 5 and 9.
 --   facesInput            what the call is told
 --   boundaryCells i       the boundary of the table
 --   facesTests            its refusals in order, but for row 15

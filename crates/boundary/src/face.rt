@@ -1,4 +1,4 @@
-// One face of a cell of a table: its sign word, its vertices, and the words of its record.
+// One face of a cell of a table: its sign word, its vertices, its material, and the words of its record.
 ghost use mathlib.Core.Path.{_≡_};
 ghost use Prim.Native.Nat.{_<_, _≤_};
 ghost use lib.ListN.{getD};
@@ -6,6 +6,7 @@ ghost use Rattle.simplex.specs.SignWords.{signWord};
 ghost use Rattle.records.specs.Layout.{faceSize, faceWords};
 ghost use Rattle.records.specs.Inner.Inside.{Inside};
 ghost use Rattle.boundary.specs.Inner.Walk.{faceAt};
+use records::reading::material;
 use records::reading::sign;
 use records::reading::vertex;
 use simplex::sign_words::turned;
@@ -36,6 +37,9 @@ pub fn face_word(d: usize, s: usize, table: &[u16], p: usize, a: usize, j: usize
 {
     if j == 0 {
         return face_sign(d, s, table, p, a);
+    }
+    if d < j {
+        return material(d, s, table, p);
     }
     face_vertex(d, s, table, p, a, j - 1)
 }

@@ -19,7 +19,7 @@ pub mod face;
 pub mod walk;
 pub mod writing;
 
-// Writes the faces from the start of out, a sign word and d vertices each, and answers their count, or says why not.
+// Writes the faces from the start of out, a sign word, d vertices and the material each, and answers their count, or says why not.
 pub fn faces(d: usize, v: usize, s: usize, table: &[u16], out: &mut [u16]) -> Answer
     ensures answer { λ r. ⌜ outcomeOf r ≡ facesOutcome (facesInput d v s (now (table .entry)) (length (now (out .entry)))) ⌝ }
     ensures buffer { λ r. ⌜ now (out .exit) ≡ facesBuffer (facesInput d v s (now (table .entry)) (length (now (out .entry)))) (now (out .entry)) ⌝ }

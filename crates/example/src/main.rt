@@ -31,9 +31,10 @@ fn print_vertex(x: u16) {
     io::print_decimal(1, x as u64);
 }
 
-// The face at a place of the list: a sign word, 0 for plus and 1 for minus, and three vertices.
+// The face at a place of the list: a sign word, 0 for plus and 1 for minus, three vertices, and a material, which is not
+// printed.
 fn print_face(faces: &[u16], at: usize)
-    requires { ⌜ at + 4 ≤ length (now faces) ⌝ }
+    requires { ⌜ at + 5 ≤ length (now faces) ⌝ }
 {
     if faces[at] == 0 {
         io::write_all(1, b"+");
@@ -51,32 +52,32 @@ fn print_faces(faces: &[u16], count: usize) {
     let mut left = count;
     let mut at: usize = 0;
     while left > 0 {
-        if faces.len() - at < 4 {
+        if faces.len() - at < 5 {
             return;
         }
         print_face(faces, at);
-        at += 4;
+        at += 5;
         left -= 1;
     }
 }
 
 fn main() {
-    // +(0 1 2) and -(1 2 3) on 4 vertices: a sign word and d + 1 vertices for each cell
-    let cells = [0u16, 0, 1, 2, 1, 1, 2, 3];
-    // 2 d + 3 words for each cell
-    let mut table = [0u16; 14];
+    // +(0 1 2) and -(1 2 3) on 4 vertices, of material 0: a sign word, a material and d + 1 vertices for each cell
+    let cells = [0u16, 0, 0, 1, 2, 1, 0, 1, 2, 3];
+    // 2 d + 4 words for each cell
+    let mut table = [0u16; 16];
     // d + 1 for each cell: its wings in the order in which its vertices stand above
     let mut uploaded = [0u16; 6];
     if !accepted(wing::wing(2, 4, 2, &cells, &mut table, &mut uploaded)) {
         return;
     }
     // h s (d + 1) cells of dimension d + 1 on (h + 1) v vertices, here 6 tetrahedra on 8 vertices
-    let mut swept = [0u16; 54];
+    let mut swept = [0u16; 60];
     if !accepted(sweep::sweep(2, 4, 2, 1, &table, &mut swept)) {
         return;
     }
-    // at most d + 1 faces of each cell, with a sign word and d vertices each
-    let mut faces = [0u16; 96];
+    // at most d + 1 faces of each cell, with a sign word, d vertices and a material each
+    let mut faces = [0u16; 120];
     match boundary::faces(3, 8, 6, &swept, &mut faces) {
         Answer::Written(count) => print_faces(&faces, count),
         Answer::Refused(r) => print_refusal(r),

@@ -1,4 +1,6 @@
--- A file: 40 bytes of header, v n floats, then s cells of a sign byte and d + 1 vertices. Numbers are little-endian. Paper, section 7.
+-- A file: 40 bytes of header, v n floats, then s cells: a sign byte, in version 2 a material, and d + 1 vertices. Numbers are
+-- little-endian. Paper, section 7.
+--   versionOf b           1 or 2; files of version 1 have no materials
 --   dimensionOf, axesOf, vertexCountOf, cellCountOf, stepsOf     the header's numbers d, n, v, s, h
 --   kindOf, axisOf b k, amountOf b k                      the step's kind, its two axis bytes, its three floats
 --   stepOf b              the step
@@ -6,6 +8,7 @@
 --   fileLength b          the length that the header's numbers say
 --   filePoints b          the points, vertex by vertex
 --   signBytes b           the sign bytes of the cells
+--   materialOf b p        the material of cell p: 0 in version 1
 --   fileCells b           the cells, in file order
 use mathlib.Core.Bool.{Bool, not, cond, _||_}
 use mathlib.Core.List.{List}
@@ -20,12 +23,12 @@ use Rattle.simplex.specs.Cell.{Cell, cell}
 use Rattle.points.specs.declared.step.Step.{Step}
 use Rattle.points.specs.declared.step.Step.the-variants as S
 
--- the letters WNG, and the version
+-- the letters WNG
 abbrev pub mark : List ℕ
 mark = ascii "WNG"
 
-abbrev pub version : ℕ
-version = 1
+abbrev pub versionOf : List ℕ → ℕ
+versionOf b = word16 b 3
 
 abbrev pub headerSize : ℕ
 headerSize = 40
@@ -80,29 +83,35 @@ unusedSet b =
 abbrev pub pointCount : List ℕ → ℕ
 pointCount b = vertexCountOf b * axesOf b
 
--- where the cells begin, the bytes of a cell before its vertices, and all its bytes
+-- where the cells begin, and, by version, the bytes of a cell before its vertices, and all its bytes
 abbrev pub cellsStart : List ℕ → ℕ
 cellsStart b = headerSize + pointCount b * 8
 
-abbrev pub cellHead : ℕ
-cellHead = 1
+abbrev pub cellHead : ℕ → ℕ
+cellHead k = cond (eqb k 2) 3 1
 
-abbrev pub cellBytes : ℕ → ℕ
-cellBytes d = cellHead + suc d * 2
+abbrev pub cellBytes : ℕ → ℕ → ℕ
+cellBytes k d = cellHead k + suc d * 2
 
 abbrev pub fileLength : List ℕ → ℕ
-fileLength b = cellsStart b + cellCountOf b * cellBytes (dimensionOf b)
+fileLength b = cellsStart b + cellCountOf b * cellBytes (versionOf b) (dimensionOf b)
 
 unfoldable pub filePoints : List ℕ → List Float
 filePoints b = tabulate (pointCount b) (λ k. float64 b (headerSize + k * 8))
 
 -- the bytes of cell p
 abbrev pub cellPart : List ℕ → ℕ → List ℕ
-cellPart b p = part (cellBytes (dimensionOf b)) p (drop (cellsStart b) b)
+cellPart b p = part (cellBytes (versionOf b) (dimensionOf b)) p (drop (cellsStart b) b)
 
 abbrev pub signBytes : List ℕ → List ℕ
 signBytes b = tabulate (cellCountOf b) (λ p. getD (cellPart b p) 0 0)
 
+abbrev pub materialOf : List ℕ → ℕ → ℕ
+materialOf b p = cond (eqb (versionOf b) 2) (word16 (cellPart b p) 1) 0
+
 -- 43 is plus, 45 is minus
+abbrev pub fileCell : List ℕ → ℕ → Cell
+fileCell b p = cell (eqb (getD (cellPart b p) 0 0) 43) (materialOf b p) (words16 (drop (cellHead (versionOf b)) (cellPart b p)))
+
 unfoldable pub fileCells : List ℕ → List Cell
-fileCells b = tabulate (cellCountOf b) (λ p. cell (eqb (getD (cellPart b p) 0 0) 43) (words16 (drop cellHead (cellPart b p))))
+fileCells b = tabulate (cellCountOf b) (fileCell b)

@@ -1,3 +1,4 @@
 -- Files of solids, byte by byte, and each test of a file by itself.
 pub mod File
 pub mod Tests
+pub mod Inner

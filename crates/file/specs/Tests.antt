@@ -3,25 +3,24 @@
 --   numbersFit, numbersOk     row 2, of the numbers by themselves and of a file
 --   floatsOk          row 4
 --   cellsLength       words of the cells
---   fileWords         these words: sign word and vertices in file order
+--   fileWords         these words: sign word, material and vertices in file order
 use mathlib.Core.Bool.{Bool, not, _&&_, _||_}
 use mathlib.Core.List.{List, map}
 use Prim.Native.Nat.{ℕ, suc, _*_}
 use lib.Dec.{eqb, leb, ltb}
 use lib.ListN.{length, take}
 use Rattle.words.specs.Records.{tabulate, concat, allOf}
-use Rattle.words.specs.Bytes.{word16}
-use Rattle.rules.specs.Limits.{maxSource, axesOk, stepsOk, within}
+use Rattle.rules.specs.Limits.{maxSource, axesOk, stepsOk, versionOk, within}
 use Rattle.rules.specs.Shapes.{shapeOk}
 use Rattle.simplex.specs.Cell.{sameRow}
 use Rattle.records.specs.Layout.{listSize, cellWords}
 use Rattle.points.specs.Step.{inRange}
-use Rattle.file.specs.File.{mark, version, headerSize, dimensionOf, axesOf, vertexCountOf, cellCountOf, stepsOf, kindOf, amountOf, filePoints}
+use Rattle.file.specs.File.{mark, versionOf, headerSize, dimensionOf, axesOf, vertexCountOf, cellCountOf, stepsOf, kindOf, amountOf, filePoints}
 use Rattle.file.specs.File.{fileCells}
 
 -- 1: under 40 bytes, or mark or version wrong
 abbrev pub notOurs : List ℕ → Bool
-notOurs b = ltb (length b) headerSize || not (sameRow (take 3 b) mark && eqb (word16 b 3) version)
+notOurs b = ltb (length b) headerSize || not (sameRow (take 3 b) mark && versionOk (versionOf b))
 
 -- 2, of the numbers by themselves: d 0 to 6, n from d + 1 to 8, sizes, steps, kind
 abbrev pub numbersFit : ℕ → ℕ → ℕ → ℕ → ℕ → ℕ → Bool
@@ -37,6 +36,6 @@ floatsOk b = allOf inRange (tabulate 3 (amountOf b)) && allOf inRange (filePoint
 abbrev pub cellsLength : List ℕ → ℕ
 cellsLength b = cellCountOf b * listSize (dimensionOf b)
 
--- the words of the cells: sign word and vertices in file order
+-- the words of the cells: sign word, material and vertices in file order
 unfoldable pub fileWords : List ℕ → List ℕ
 fileWords b = concat (map cellWords (fileCells b))

@@ -1,35 +1,56 @@
-// The cells of a file, and rows 6 to 8 of the refusal table.
+// The cells of a file, and rows 6 to 8 and 18 of the refusal table.
 use crate::numbers;
-use crate::numbers::HEAD;
+use records::sizes::MATERIAL;
 use records::sizes::VERTICES;
 use records::sizes::list_size;
+use rules::limits::Shape;
 use simplex::sign_words::sign_word;
 use words::copy;
 use words::little;
 ghost use mathlib.Core.Path.{_≡_};
 ghost use mathlib.Core.Bool.{not, _||_};
-ghost use mathlib.Core.List.{_∷_};
-ghost use Prim.Native.Nat.{_+_, _*_, _<_, _≤_};
+ghost use Prim.Native.Nat.{suc, _+_, _*_, _<_, _≤_};
 ghost use lib.Dec.{eqb, leb};
-ghost use lib.ListN.{length, getD};
+ghost use lib.ListN.{length};
 ghost use Rattle.words.specs.Records.{anyOf};
 ghost use Rattle.words.specs.Bytes.{wordsFrom};
 ghost use Rattle.words.specs.Inner.Placed.{placed};
 ghost use Rattle.rules.specs.Calls.{written};
-ghost use Rattle.simplex.specs.SignWords.{signWord};
-ghost use Rattle.solids.specs.Accept.{vertexBeyond, vertexTwice, repeats};
-ghost use Rattle.file.specs.File.{headerSize, dimensionOf, vertexCountOf, cellCountOf, cellsStart, cellBytes, fileLength, signBytes, fileCells};
+ghost use Rattle.solids.specs.Accept.{vertexBeyond, vertexTwice, repeats, badMaterial};
+ghost use Rattle.file.specs.File.{headerSize, versionOf, dimensionOf, vertexCountOf, cellCountOf, cellsStart, cellHead, cellBytes};
+ghost use Rattle.file.specs.File.{fileLength, signBytes, fileCells};
 ghost use Rattle.file.specs.Tests.{cellsLength, fileWords};
+ghost use Rattle.file.specs.Inner.Places.{materialAt, wordsAt};
 
 // Where cell p stands.
 fn cell_at(b: &[u8], p: usize) -> usize
     requires { ⌜ (length (now b) ≡ fileLength (now b)) × (p < cellCountOf (now b)) ⌝ }
-    ensures { λ r. ⌜ (r ≡ cellsStart (now (b .entry)) + p * cellBytes (dimensionOf (now (b .entry))))
-        × (r + cellBytes (dimensionOf (now (b .entry))) ≤ length (now (b .entry))) ⌝ }
+    ensures { λ r. ⌜ (r ≡ cellsStart (now (b .entry)) + p * cellBytes (versionOf (now (b .entry))) (dimensionOf (now (b .entry))))
+        × (r + cellBytes (versionOf (now (b .entry))) (dimensionOf (now (b .entry))) ≤ length (now (b .entry))) ⌝ }
 {
     let points = numbers::point_count(b);
-    let size = numbers::cell_size(numbers::dimension(b));
+    let size = numbers::cell_size(numbers::version(b), numbers::dimension(b));
     40 + points * 8 + p * size
+}
+
+// Where its vertices stand.
+fn vertices_at(b: &[u8], p: usize) -> usize
+    requires { ⌜ (length (now b) ≡ fileLength (now b)) × (p < cellCountOf (now b)) ⌝ }
+    ensures { λ r. ⌜ (r ≡ cellsStart (now (b .entry)) + p * cellBytes (versionOf (now (b .entry))) (dimensionOf (now (b .entry)))
+        + cellHead (versionOf (now (b .entry)))) × (r + suc (dimensionOf (now (b .entry))) * 2 ≤ length (now (b .entry))) ⌝ }
+{
+    cell_at(b, p) + numbers::head(numbers::version(b))
+}
+
+// The material of the cell at `at`: files of version 1 have none.
+fn material(b: &[u8], version: usize, at: usize) -> u16
+    requires { ⌜ at + cellHead version ≤ length (now b) ⌝ }
+    ensures { λ r. ⌜ r ≡ materialAt version (now (b .entry)) at ⌝ }
+{
+    if version == 2 {
+        return little::word16(b, at + 1);
+    }
+    0
 }
 
 fn no_sign(x: u8) -> bool
@@ -83,8 +104,8 @@ pub fn bad_vertex(b: &[u8]) -> bool
     let m = numbers::dimension(b) + 1;
     let mut p: usize = 0;
     while p < count {
-        let at = cell_at(b, p);
-        if beyond(b, at + HEAD, m, v) {
+        let at = vertices_at(b, p);
+        if beyond(b, at, m, v) {
             return true;
         }
         p += 1;
@@ -137,8 +158,8 @@ pub fn vertex_twice(b: &[u8]) -> bool
     let m = numbers::dimension(b) + 1;
     let mut p: usize = 0;
     while p < count {
-        let at = cell_at(b, p);
-        if repeated(b, at + HEAD, m) {
+        let at = vertices_at(b, p);
+        if repeated(b, at, m) {
             return true;
         }
         p += 1;
@@ -146,7 +167,25 @@ pub fn vertex_twice(b: &[u8]) -> bool
     false
 }
 
-// Words of all cells, each a sign word and its vertices.
+// Row 18: a material above the largest.
+pub fn bad_material(b: &[u8]) -> bool
+    requires { ⌜ length (now b) ≡ fileLength (now b) ⌝ }
+    ensures { λ r. ⌜ r ≡ badMaterial (fileCells (now (b .entry))) ⌝ }
+{
+    let count = numbers::cell_count(b);
+    let version = numbers::version(b);
+    let mut p: usize = 0;
+    while p < count {
+        let at = cell_at(b, p);
+        if Shape::MAX_MATERIAL < material(b, version, at) {
+            return true;
+        }
+        p += 1;
+    }
+    false
+}
+
+// Words of all cells, each a list cell.
 pub fn words(b: &[u8]) -> usize
     requires { ⌜ headerSize ≤ length (now b) ⌝ }
     ensures { λ r. ⌜ r ≡ cellsLength (now (b .entry)) ⌝ }
@@ -154,29 +193,32 @@ pub fn words(b: &[u8]) -> usize
     numbers::cell_count(b) * list_size(numbers::dimension(b))
 }
 
-// Writes the sign word and the m vertices of the cell at `at` to the places from `to`.
-fn write_cell(b: &[u8], at: usize, m: usize, out: &mut [u16], to: usize)
-    requires { ⌜ (at + 1 + m * 2 ≤ length (now b)) × (to + 1 + m ≤ length (now out)) ⌝ }
-    ensures { λ _. ⌜ now (out .exit)
-        ≡ placed to (signWord (eqb (getD (now (b .entry)) at 0) 43) ∷ wordsFrom (now (b .entry)) (at + 1) m) (now (out .entry)) ⌝ }
+// Writes the words of the cell of m vertices at `at` to the places from `to`.
+fn write_cell(b: &[u8], version: usize, m: usize, at: usize, out: &mut [u16], to: usize)
+    requires { ⌜ (at + cellHead version + m * 2 ≤ length (now b)) × (to + 2 + m ≤ length (now out)) ⌝ }
+    ensures { λ _. ⌜ now (out .exit) ≡ placed to (wordsAt version (now (b .entry)) at m) (now (out .entry)) ⌝ }
 {
     out[to] = sign_word(b[at] == 43);
-    copy::copy16(b, at + HEAD, m, out, to + VERTICES);
+    out[to + MATERIAL] = material(b, version, at);
+    copy::copy16(b, at + numbers::head(version), m, out, to + VERTICES);
 }
 
-// Writes the cells from the start of `out`.
+// Writes the cells from the start of `out`. What the header says is looked up once.
 pub fn write_cells(b: &[u8], out: &mut [u16])
     requires { ⌜ (length (now b) ≡ fileLength (now b)) × (cellsLength (now b) ≤ length (now out)) ⌝ }
     ensures { λ _. ⌜ now (out .exit) ≡ written (fileWords (now (b .entry))) (now (out .entry)) ⌝ }
 {
     let count = numbers::cell_count(b);
+    let version = numbers::version(b);
     let d = numbers::dimension(b);
+    let bytes = numbers::cell_size(version, d);
     let size = list_size(d);
     let mut p: usize = 0;
+    let mut at = 40 + numbers::point_count(b) * 8;
     let mut to: usize = 0;
     while p < count {
-        let at = cell_at(b, p);
-        write_cell(b, at, d + 1, out, to);
+        write_cell(b, version, d + 1, at, out, to);
+        at += bytes;
         to += size;
         p += 1;
     }

@@ -5,6 +5,7 @@ use rules::compare::less;
 use rules::limits::Shape;
 use rules::limits::axes_ok;
 use rules::limits::steps_ok;
+use rules::limits::version_ok;
 use words::little;
 ghost use mathlib.Core.Path.{_≡_};
 ghost use mathlib.Core.Bool.{not};
@@ -12,7 +13,8 @@ ghost use Prim.Native.Nat.{_+_, _<_, _≤_};
 ghost use lib.Dec.{eqb};
 ghost use lib.ListN.{length, getD, take};
 ghost use Rattle.simplex.specs.Cell.{sameRow};
-ghost use Rattle.file.specs.File.{headerSize, dimensionOf, axesOf, vertexCountOf, cellCountOf, stepsOf, pointCount, cellBytes, fileLength};
+ghost use Rattle.file.specs.File.{headerSize, versionOf, dimensionOf, axesOf, vertexCountOf, cellCountOf, stepsOf, pointCount};
+ghost use Rattle.file.specs.File.{cellHead, cellBytes, fileLength};
 ghost use Rattle.file.specs.Tests.{notOurs, numbersFit, numbersOk};
 
 fn wide(x: u8) -> usize
@@ -32,6 +34,13 @@ pub(crate) fn byte_at(b: &[u8], at: usize) -> usize
     ensures { λ r. ⌜ (r ≡ getD (now (b .entry)) at 0) × (r < 256) ⌝ }
 {
     wide(b[at])
+}
+
+pub fn version(b: &[u8]) -> usize
+    requires { ⌜ headerSize ≤ length (now b) ⌝ }
+    ensures { λ r. ⌜ (r ≡ versionOf (now (b .entry))) × (r < 65536) ⌝ }
+{
+    long(little::word16(b, 3))
 }
 
 pub fn dimension(b: &[u8]) -> usize
@@ -77,15 +86,22 @@ pub fn point_count(b: &[u8]) -> usize
     vertex_count(b) * axes(b)
 }
 
-// Bytes of a cell before its vertices.
-pub(crate) const HEAD: usize = 1;
+// Bytes of a cell before its vertices: the sign, and in version 2 the material.
+pub(crate) fn head(version: usize) -> usize
+    ensures { λ r. ⌜ (r ≡ cellHead version) × (r ≤ 3) ⌝ }
+{
+    if version == 2 {
+        return 3;
+    }
+    1
+}
 
 // Bytes of a cell of dimension d.
-pub(crate) fn cell_size(d: usize) -> usize
+pub(crate) fn cell_size(version: usize, d: usize) -> usize
     requires { ⌜ d < 256 ⌝ }
-    ensures { λ r. ⌜ (r ≡ cellBytes d) × (r < 1024) ⌝ }
+    ensures { λ r. ⌜ (r ≡ cellBytes version d) × (r < 1024) ⌝ }
 {
-    HEAD + (d + 1) * 2
+    head(version) + (d + 1) * 2
 }
 
 // Whether the bytes begin with the mark.
@@ -111,7 +127,7 @@ pub fn not_ours(b: &[u8]) -> bool
         return true;
     }
     if starts_with(b, b"WNG") {
-        return little::word16(b, 3) != 1;
+        return !version_ok(version(b));
     }
     true
 }
@@ -146,6 +162,6 @@ pub fn wrong_length(b: &[u8]) -> bool
 {
     let points = point_count(b);
     let count = cell_count(b);
-    let size = cell_size(dimension(b));
+    let size = cell_size(version(b), dimension(b));
     b.len() != 40 + points * 8 + count * size
 }

@@ -4,7 +4,7 @@
 --   list-needs, list-small    what the tests say of the numbers and the lengths
 --   list-decodes              list on what is decoded
 -- Assumes nothing.
-use mathlib.Core.Path.{_≡_, refl, sym}
+use mathlib.Core.Path.{_≡_, refl, sym, ap}
 use mathlib.Core.Bool.{Bool, true, false, not, _&&_}
 use mathlib.Core.List.{List}
 use Prim.Native.Nat.{ℕ, _*_, _≤_}
@@ -18,7 +18,7 @@ use Rattle.words.specs.Bytes.{words16}
 use Rattle.words.specs.Records.{allOf}
 use Rattle.words.proofs.Bytes.{words-count}
 use Rattle.rules.specs.Calls.{Outcome, refused}
-use Rattle.rules.specs.Limits.{maxDimension, maxAxes, maxVertices, maxCells, axesOk}
+use Rattle.rules.specs.Limits.{maxDimension, maxAxes, maxVertices, maxCells, axesOk, versionOk}
 use Rattle.rules.specs.Shapes.{shapeOk}
 use Rattle.rules.proofs.InLimits.{list-limits-are}
 use Rattle.rules.proofs.Tests.{and-parts}
@@ -30,12 +30,15 @@ use Rattle.hosting.specs.Lists.{hostListInput, hostListOutcome, hostList
 use Rattle.hosting.specs.Inner.Rooms.{tableRoom, floatRoom}
 use Rattle.hosting.proofs.FloatLaws.{floats-length}
 
-module _ (d n v s : ℕ) where
+module _ (k d n v s : ℕ) where
   abbrev pub numbers : Bool
-  numbers = shapeOk maxDimension d v s && axesOk n
+  numbers = versionOk k && (shapeOk maxDimension d v s && axesOk n)
 
   pub list-needs : not numbers ≡ false → (d ≤ maxDimension) × (n ≤ maxAxes) × (v ≤ maxVertices) × (s ≤ maxCells)
-  list-needs a = let l = list-limits-are d n v s a in (l .dimension, l .axes, l .vertices, l .cells)
+  list-needs a =
+      let parts = and-parts (versionOk k) (shapeOk maxDimension d v s && axesOk n) (not-false numbers a) in
+      let l = list-limits-are d n v s (ap not (parts .1)) in
+      (l .dimension, l .axes, l .vertices, l .cells)
 
   module _ (table points : List ℕ) where
     abbrev pub lengths : Bool
@@ -61,33 +64,33 @@ module _ (d n v s : ℕ) where
           eq-eqb (length (floats64 points)) (v * n) (omega (arith, floats-length points)),
         ) refl
 
-module _ (d n v s : ℕ) (table points out : List ℕ) where
+module _ (k d n v s : ℕ) (table points out : List ℕ) where
   abbrev Refuses : ℕ → Type 0
-  Refuses k = (refused k ≡ hostListOutcome d n v s table points out) × (out ≡ hostListBuffer d n v s table points out)
+  Refuses i = (refused i ≡ hostListOutcome k d n v s table points out) × (out ≡ hostListBuffer k d n v s table points out)
 
-  pub list-2 : not (numbers d n v s) ≡ true → Refuses 2
+  pub list-2 : not (numbers k d n v s) ≡ true → Refuses 2
   unfolding hostListOutcome hostListBuffer
   list-2 a = rw a (refl, refl)
 
-  module _ (a : not (numbers d n v s) ≡ false) where
-    pub list-3 : not (lengths d n v s table points) ≡ true → Refuses 3
+  module _ (a : not (numbers k d n v s) ≡ false) where
+    pub list-3 : not (lengths k d n v s table points) ≡ true → Refuses 3
     unfolding hostListOutcome hostListBuffer
     list-3 b = rw (a, b) (refl, refl)
 
-    module _ (b : not (lengths d n v s table points) ≡ false) where
+    module _ (b : not (lengths k d n v s table points) ≡ false) where
       pub list-4 : not (allOf inRange (floats64 points)) ≡ true → Refuses 4
       unfolding hostListOutcome hostListBuffer listOutcome listRules
-      list-4 c = rw (a, b, decoded d n v s table points b, c) (refl, refl)
+      list-4 c = rw (a, b, decoded k d n v s table points b, c) (refl, refl)
 
       pub list-right : (o : Outcome ℕ) (w : List ℕ) →
-          (o ≡ listOutcome (hostListInput d n v s table points out)) × (w ≡ listBuffer (hostListInput d n v s table points out) out) →
-          (o ≡ hostListOutcome d n v s table points out) × (w ≡ hostListBuffer d n v s table points out)
+          (o ≡ listOutcome (hostListInput k d n v s table points out)) × (w ≡ listBuffer (hostListInput k d n v s table points out) out) →
+          (o ≡ hostListOutcome k d n v s table points out) × (w ≡ hostListBuffer k d n v s table points out)
       unfolding hostListOutcome hostListBuffer listBuffer
       list-right o w e = rw (a, b) e
 
   -- words and floats that were decoded to the fronts of two arrays
   pub list-decodes : (o : Outcome ℕ) (w ws : List ℕ) (fs : List Float) →
-      (o ≡ listOutcome (listInput d n v s ws fs (length out))) × (w ≡ listBuffer (listInput d n v s ws fs (length out)) out) →
+      (o ≡ listOutcome (listInput k d n v s ws fs (length out))) × (w ≡ listBuffer (listInput k d n v s ws fs (length out)) out) →
       ws ≡ words16 table → fs ≡ floats64 points →
-      (o ≡ listOutcome (hostListInput d n v s table points out)) × (w ≡ listBuffer (hostListInput d n v s table points out) out)
+      (o ≡ listOutcome (hostListInput k d n v s table points out)) × (w ≡ listBuffer (hostListInput k d n v s table points out) out)
   list-decodes o w ws fs e a b = rw (sym a, sym b) e

@@ -1,5 +1,5 @@
--- The call read on bytes: rows 1 to 8 by the file alone, then the room.
---   tests b               the first refusal among rows 1 to 8, 0 if none
+-- The call read on bytes: rows 1 to 8 and 18 by the file alone, then the room.
+--   tests b               the first refusal among them, 0 if none
 --   Passed                what a file without a refusal is, and passed, that one that is read with room enough is such
 --   read-refused          a refusal, and the lent bytes as they were
 --   read-short, read-fits     row 15, and an accepted file
@@ -7,14 +7,15 @@
 --   words-read            the cells' words at the front of their array
 --   numbers-put, header-put, points-put, read-done      the parts, as the code writes them
 -- Assumes nothing.
-use mathlib.Core.Path.{_≡_, refl, sym, ap, _∙_}
+use mathlib.Core.Path.{_≡_, refl, sym, ap, ap₂, _∙_}
 use mathlib.Core.Bool.{Bool, true, false, not, cond, _&&_, _||_}
 use mathlib.Core.List.{List, [], _∷_, _++_}
 use Prim.Native.Nat.{ℕ, zero, suc, _+_, _-_, _*_, _/_, _≤_}
 use native.Mathlib.Nat.{mul-le-mul}
 use native.Mathlib.Omega.{arith}
 use lib.Dec.{leb, ltb}
-use lib.ListN.{length, take, drop}
+use lib.ListN.{length, take, drop, length-append, length-drop}
+use lib.Seq.{length-take-le}
 use borrow.Author.Tests.{leb-true, le-ltb, ltb-false, not-false}
 use Rattle.words.specs.Bytes.{bytesOf}
 use Rattle.words.specs.Inner.Placed.{placed}
@@ -36,8 +37,8 @@ use Rattle.read.specs.declared.Header.{Header}
 use Rattle.read.specs.Read.{readInput, readTests, readRules, readOutcome, readCells, headerOf}
 use Rattle.read.proofs.Order.{ours-long, right-length}
 use Rattle.hosting.specs.Inner.Rooms.{wordRoom, floatRoom}
-use Rattle.hosting.specs.Reads.{headerBytes, headerWords, pointBytes, wordCount, withHeader, hostReadOutcome, hostReadHeader, hostReadCells}
-use Rattle.hosting.specs.Reads.{hostReadPoints}
+use Rattle.hosting.specs.Reads.{toldSize, headerBytes, headerWords, pointBytes, wordCount, withHeader}
+use Rattle.hosting.specs.Reads.{hostReadOutcome, hostReadHeader, hostReadCells, hostReadPoints}
 
 unfoldable pub tests : List ℕ → ℕ
 tests b = firstRefusal readTests (readInput b 0 0)
@@ -127,13 +128,13 @@ module _ (b : List ℕ) where
     read-refused k a = told (refused k) (same k a)
 
     abbrev pub short : Bool
-    short = ltb (length header) 40 || (ltb (length cells / 2) (cellsLength b) || ltb (length points / 8) (pointCount b))
+    short = ltb (length header) toldSize || (ltb (length cells / 2) (cellsLength b) || ltb (length points / 8) (pointCount b))
 
     pick : tests b ≡ 0 → hostReadOutcome b header cells points ≡ cond short (refused 15) (accepted (cellsLength b))
     unfolding hostReadOutcome
-    pick e = go (ltb (length header) 40) refl (ltb (length cells / 2) (cellsLength b) || ltb (length points / 8) (pointCount b)) refl
+    pick e = go (ltb (length header) toldSize) refl (ltb (length cells / 2) (cellsLength b) || ltb (length points / 8) (pointCount b)) refl
       where
-        go : (x : Bool) → ltb (length header) 40 ≡ x → (y : Bool) →
+        go : (x : Bool) → ltb (length header) toldSize ≡ x → (y : Bool) →
             (ltb (length cells / 2) (cellsLength b) || ltb (length points / 8) (pointCount b)) ≡ y →
             withHeader (length header) (wordCount b (readOutcome (readInput b (length cells / 2) (length points / 8))))
             ≡ cond short (refused 15) (accepted (cellsLength b))
@@ -149,11 +150,11 @@ module _ (b : List ℕ) where
         Told (accepted (cellsLength b)) (written (headerBytes b) header) (written (bytesOf (fileWords b)) cells) (written (pointBytes b) points)
     read-fits f s = told (accepted (cellsLength b)) (sym (pick (f .none) ∙ rw s refl))
 
-    pub rooms : short ≡ false → (40 ≤ length header) × (cellsLength b ≤ length cells / 2) × (pointCount b ≤ length points / 8)
+    pub rooms : short ≡ false → (toldSize ≤ length header) × (cellsLength b ≤ length cells / 2) × (pointCount b ≤ length points / 8)
     rooms s =
-        let one = or-false (ltb (length header) 40) (ltb (length cells / 2) (cellsLength b) || ltb (length points / 8) (pointCount b)) s in
+        let one = or-false (ltb (length header) toldSize) (ltb (length cells / 2) (cellsLength b) || ltb (length points / 8) (pointCount b)) s in
         let two = or-false (ltb (length cells / 2) (cellsLength b)) (ltb (length points / 8) (pointCount b)) (one .1) in (
-          ltb-false (length header) 40 (one .0),
+          ltb-false (length header) toldSize (one .0),
           ltb-false (length cells / 2) (cellsLength b) (two .0),
           ltb-false (length points / 8) (pointCount b) (two .1),
         )
@@ -193,14 +194,28 @@ module _ (b : List ℕ) where
       bytesOf (d ∷ n ∷ v ∷ s ∷ h ∷ kindOf b ∷ axisOf b 0 ∷ axisOf b 1 ∷ []) ++ rest ≡ bytesOf (headerWords b) ++ rest
   numbers-put d n v s h rest e1 e2 e3 e4 e5 = rw (e1, e2, e3, e4, e5) refl
 
-  -- the words of the header, and then the file's floats
-  pub header-put : (header mid new : List ℕ) → 40 ≤ length header → mid ≡ bytesOf (headerWords b) ++ drop 16 header →
-      new ≡ placed 16 (take 24 (drop 16 b)) mid → new ≡ written (headerBytes b) header
+  -- the words of the header, then the file's floats, then its version
+  pub header-put : (header mid floats new : List ℕ) → headerSize ≤ length b → toldSize ≤ length header →
+      mid ≡ bytesOf (headerWords b) ++ drop 16 header → floats ≡ placed 16 (take 24 (drop 16 b)) mid →
+      new ≡ placed 40 (take 2 (drop 3 b)) floats → new ≡ written (headerBytes b) header
   unfolding headerBytes
-  header-put header mid new h em en =
-      en ∙ ap (placed 16 (take 24 (drop 16 b))) (em ∙ sym (placed-first (bytesOf (headerWords b)) header))
-      ∙ placed-then 0 (bytesOf (headerWords b)) (take 24 (drop 16 b)) header (omega arith)
+  header-put header mid floats new hb h em ef en =
+      en ∙ ap₂ {C = List ℕ} (λ n l. placed n (take 2 (drop 3 b)) l) {x = 40} {y = 0 + length front} (omega (arith, long))
+      (ef ∙ ap (placed 16 (take 24 (drop 16 b))) (em ∙ sym (placed-first (bytesOf (headerWords b)) header))
+      ∙ placed-then 0 (bytesOf (headerWords b)) (take 24 (drop 16 b)) header (omega arith))
+      ∙ placed-then 0 front (take 2 (drop 3 b)) header (omega (arith, long))
       ∙ placed-first (headerBytes b) header
+    where
+      front : List ℕ
+      front = bytesOf (headerWords b) ++ take 24 (drop 16 b)
+
+      long : length front ≡ 40
+      long =
+          omega (
+            arith,
+            length-append (bytesOf (headerWords b)) (take 24 (drop 16 b)),
+            length-take-le 24 (drop 16 b) (omega (arith, length-drop 16 b)),
+          )
 
   pub points-put : (k : ℕ) (points new : List ℕ) → k ≡ pointCount b → new ≡ placed 0 (take (40 + k * 8 - 40) (drop 40 b)) points →
       new ≡ written (pointBytes b) points

@@ -1,5 +1,6 @@
 -- The call read on bytes: the header's parts, the cells' words and the points' floats, each to its lent bytes. Paper, section 10.
---   headerBytes b     40 bytes: d, n, v, s, h, kind and two axes as words of 16 bits, then three floats, bit for bit as in the file
+--   headerBytes b     42 bytes: d, n, v, s, h, kind and two axes as words of 16 bits, then three floats, bit for bit as in the file,
+--                     then the version, as in the file
 --   pointBytes b      the points, bit for bit as in the file
 --   wordCount b o     the count of the cells' words, or the refusal
 --   withHeader room o     the outcome, but row 15 where the header's bytes are too few
@@ -21,8 +22,11 @@ abbrev pub headerWords : List ℕ → List ℕ
 headerWords b =
     dimensionOf b ∷ axesOf b ∷ vertexCountOf b ∷ cellCountOf b ∷ stepsOf b ∷ kindOf b ∷ axisOf b 0 ∷ axisOf b 1 ∷ []
 
+abbrev pub toldSize : ℕ
+toldSize = 42
+
 unfoldable pub headerBytes : List ℕ → List ℕ
-headerBytes b = bytesOf (headerWords b) ++ take 24 (drop 16 b)
+headerBytes b = (bytesOf (headerWords b) ++ take 24 (drop 16 b)) ++ take 2 (drop 3 b)
 
 unfoldable pub pointBytes : List ℕ → List ℕ
 pointBytes b = take (pointCount b * 8) (drop headerSize b)
@@ -32,7 +36,7 @@ wordCount b (accepted x) = accepted (cellsLength b)
 wordCount b (refused n) = refused n
 
 abbrev pub withHeader : ℕ → Outcome ℕ → Outcome ℕ
-withHeader room (accepted n) = cond (ltb room 40) (refused 15) (accepted n)
+withHeader room (accepted n) = cond (ltb room toldSize) (refused 15) (accepted n)
 withHeader room (refused n) = refused n
 
 module _ (b header cells points : List ℕ) where

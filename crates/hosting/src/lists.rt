@@ -5,7 +5,7 @@ ghost use Prim.Native.Nat.{_*_, _≤_};
 ghost use lib.Dec.{eqb};
 ghost use lib.ListN.{length};
 ghost use Rattle.words.specs.Records.{allOf};
-ghost use Rattle.rules.specs.Limits.{maxDimension, maxAxes, maxVertices, maxCells, axesOk};
+ghost use Rattle.rules.specs.Limits.{maxDimension, maxAxes, maxVertices, maxCells, axesOk, versionOk};
 ghost use Rattle.rules.specs.Shapes.{shapeOk};
 ghost use Rattle.rules.specs.Numbers.{outcomeOf};
 ghost use Rattle.records.specs.Layout.{tableLength};
@@ -23,15 +23,17 @@ use rules::compare::both;
 use rules::compare::equal;
 use rules::limits::Shape;
 use rules::limits::axes_ok;
+use rules::limits::version_ok;
 use rules::refusal::Answer;
 use rules::refusal::Refusal;
 use words::copy;
 
 // Row 2.
-fn numbers_fit(d: usize, n: usize, v: usize, s: usize) -> bool
-    ensures { λ r. ⌜ r ≡ (shapeOk maxDimension d v s && axesOk n) ⌝ }
+fn numbers_fit(version: usize, d: usize, n: usize, v: usize, s: usize) -> bool
+    ensures { λ r. ⌜ r ≡ (versionOk version && (shapeOk maxDimension d v s && axesOk n)) ⌝ }
 {
-    both(Shape::within(Shape::MAX_DIMENSION, d, v, s), axes_ok(n))
+    let fits = both(Shape::within(Shape::MAX_DIMENSION, d, v, s), axes_ok(n));
+    both(version_ok(version), fits)
 }
 
 // Row 3: two bytes for each word of the table, eight for each float of the points.
@@ -45,6 +47,7 @@ fn lengths_fit(d: usize, n: usize, v: usize, s: usize, table: usize, points: usi
 
 // List on bytes of the right lengths, whose floats are in range.
 fn list_decoded(
+    version: usize,
     d: usize,
     n: usize,
     v: usize,
@@ -54,9 +57,10 @@ fn list_decoded(
     text: &mut [u8],
 ) -> Answer
     requires { ⌜ (length (now table) ≤ tableRoom * 2) × (length (now points) ≤ floatRoom * 8) × (allOf inRange (floats64 (now points)) ≡ true) ⌝ }
-    ensures answer { λ r. ⌜ outcomeOf r ≡ listOutcome (hostListInput d n v s (now (table .entry)) (now (points .entry)) (now (text .entry))) ⌝ }
+    ensures answer { λ r. ⌜ outcomeOf r
+        ≡ listOutcome (hostListInput version d n v s (now (table .entry)) (now (points .entry)) (now (text .entry))) ⌝ }
     ensures buffer { λ _. ⌜ now (text .exit)
-        ≡ listBuffer (hostListInput d n v s (now (table .entry)) (now (points .entry)) (now (text .entry))) (now (text .entry)) ⌝ }
+        ≡ listBuffer (hostListInput version d n v s (now (table .entry)) (now (points .entry)) (now (text .entry))) (now (text .entry)) ⌝ }
 {
     let size = table.len() / 2;
     let count = points.len() / 8;
@@ -64,10 +68,11 @@ fn list_decoded(
     let mut floats = [0.0f64; FLOAT_ROOM];
     copy::decode(table, &mut words);
     floats::decode(points, &mut floats);
-    list(d, n, v, s, &words[..size], &floats[..count], text)
+    list(version, d, n, v, s, &words[..size], &floats[..count], text)
 }
 
 pub fn list_bytes(
+    version: usize,
     d: usize,
     n: usize,
     v: usize,
@@ -76,10 +81,10 @@ pub fn list_bytes(
     points: &[u8],
     text: &mut [u8],
 ) -> Answer
-    ensures answer { λ r. ⌜ outcomeOf r ≡ hostListOutcome d n v s (now (table .entry)) (now (points .entry)) (now (text .entry)) ⌝ }
-    ensures buffer { λ _. ⌜ now (text .exit) ≡ hostListBuffer d n v s (now (table .entry)) (now (points .entry)) (now (text .entry)) ⌝ }
+    ensures answer { λ r. ⌜ outcomeOf r ≡ hostListOutcome version d n v s (now (table .entry)) (now (points .entry)) (now (text .entry)) ⌝ }
+    ensures buffer { λ _. ⌜ now (text .exit) ≡ hostListBuffer version d n v s (now (table .entry)) (now (points .entry)) (now (text .entry)) ⌝ }
 {
-    if !numbers_fit(d, n, v, s) {
+    if !numbers_fit(version, d, n, v, s) {
         return Answer::Refused(Refusal::OutsideLimits);
     }
     if !lengths_fit(d, n, v, s, table.len(), points.len()) {
@@ -88,5 +93,5 @@ pub fn list_bytes(
     if !floats::all_in_range(points) {
         return Answer::Refused(Refusal::FloatRange);
     }
-    list_decoded(d, n, v, s, table, points, text)
+    list_decoded(version, d, n, v, s, table, points, text)
 }

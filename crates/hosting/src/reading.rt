@@ -12,29 +12,30 @@ ghost use Rattle.file.specs.File.{headerSize, pointCount, fileLength};
 ghost use Rattle.file.specs.Tests.{cellsLength};
 ghost use Rattle.read.specs.Read.{readInput, readOutcome, readCells};
 ghost use Rattle.hosting.specs.Inner.Rooms.{wordRoom, floatRoom};
-ghost use Rattle.hosting.specs.Reads.{headerBytes, headerWords, pointBytes, wordCount, hostReadOutcome, hostReadHeader, hostReadCells};
-ghost use Rattle.hosting.specs.Reads.{hostReadPoints};
+ghost use Rattle.hosting.specs.Reads.{toldSize, headerBytes, headerWords, pointBytes, wordCount};
+ghost use Rattle.hosting.specs.Reads.{hostReadOutcome, hostReadHeader, hostReadCells, hostReadPoints};
 use crate::floats::FLOAT_ROOM;
 use file::cells;
 use file::numbers;
 use printing::writing::put_text;
 use read::ReadAnswer;
-use read::read;
+use read::read_cells;
 use rules::refusal::Answer;
 use rules::refusal::Refusal;
 use words::copy;
 
 // Words of the largest list that is read: 4,096 cells of dimension 6.
-const WORD_ROOM: usize = 32768;
+const WORD_ROOM: usize = 36864;
+// Bytes of what is told of a header.
+const TOLD_SIZE: usize = 42;
 
-// The cells' words, with room for the largest file.
+// The cells' words, with room for the largest file. The points are copied from the file's bytes as they stand there.
 fn read_words(file: &[u8], words: &mut [u16]) -> Answer
     requires { ⌜ length (now words) ≡ wordRoom ⌝ }
     ensures answer { λ r. ⌜ outcomeOf r ≡ wordCount (now (file .entry)) (readOutcome (readInput (now (file .entry)) wordRoom floatRoom)) ⌝ }
     ensures buffer { λ _. ⌜ now (words .exit) ≡ readCells (readInput (now (file .entry)) wordRoom floatRoom) (now (words .entry)) ⌝ }
 {
-    let mut floats = [0.0f64; FLOAT_ROOM];
-    match read(file, words, &mut floats) {
+    match read_cells(file, words, FLOAT_ROOM) {
         ReadAnswer::Accepted(_) => Answer::Written(cells::words(file)),
         ReadAnswer::Refused(r) => Answer::Refused(r),
     }
@@ -44,9 +45,9 @@ fn read_words(file: &[u8], words: &mut [u16]) -> Answer
 fn no_room(file: &[u8], header: usize, cells: usize, points: usize) -> bool
     requires { ⌜ headerSize ≤ length (now file) ⌝ }
     ensures { λ r. ⌜ r
-        ≡ (ltb header 40 || (ltb (cells / 2) (cellsLength (now (file .entry))) || ltb (points / 8) (pointCount (now (file .entry))))) ⌝ }
+        ≡ (ltb header toldSize || (ltb (cells / 2) (cellsLength (now (file .entry))) || ltb (points / 8) (pointCount (now (file .entry))))) ⌝ }
 {
-    if header < 40 {
+    if header < TOLD_SIZE {
         return true;
     }
     if cells / 2 < cells::words(file) {
@@ -57,7 +58,7 @@ fn no_room(file: &[u8], header: usize, cells: usize, points: usize) -> bool
 
 // The header's numbers as words.
 fn put_numbers(file: &[u8], header: &mut [u8])
-    requires { ⌜ (headerSize ≤ length (now file)) × (40 ≤ length (now header)) ⌝ }
+    requires { ⌜ (headerSize ≤ length (now file)) × (toldSize ≤ length (now header)) ⌝ }
     ensures { λ _. ⌜ now (header .exit) ≡ bytesOf (headerWords (now (file .entry))) ++ drop 16 (now (header .entry)) ⌝ }
 {
     let words = [
@@ -74,11 +75,12 @@ fn put_numbers(file: &[u8], header: &mut [u8])
 }
 
 fn put_header(file: &[u8], header: &mut [u8])
-    requires { ⌜ (headerSize ≤ length (now file)) × (40 ≤ length (now header)) ⌝ }
+    requires { ⌜ (headerSize ≤ length (now file)) × (toldSize ≤ length (now header)) ⌝ }
     ensures { λ _. ⌜ now (header .exit) ≡ written (headerBytes (now (file .entry))) (now (header .entry)) ⌝ }
 {
     put_numbers(file, header);
     put_text(header, 16, &file[16..40]);
+    put_text(header, 40, &file[3..5]);
 }
 
 fn put_points(file: &[u8], points: &mut [u8])

@@ -1,4 +1,4 @@
--- The call list: it takes a table and its points and writes the key's text. Paper, sections 8 and 9.
+-- The call list: it takes a table and its points and writes the key's text, in the form of a version. Paper, sections 8 and 9.
 --   listInput         what the call is told
 --   listText          the key's text
 --   listTests         its refusals in order, but for row 15
@@ -10,7 +10,7 @@ use lib.Dec.{eqb}
 use lib.ListN.{length}
 use lib.Ieee.{Float}
 use Rattle.words.specs.Records.{allOf}
-use Rattle.rules.specs.Limits.{maxDimension, axesOk}
+use Rattle.rules.specs.Limits.{maxDimension, axesOk, versionOk}
 use Rattle.rules.specs.Shapes.{shapeOk}
 use Rattle.rules.specs.Calls.{Rule, refuse, noRoom, Outcome, decide, after}
 use Rattle.records.specs.Layout.{entriesOf, tableLength}
@@ -20,6 +20,7 @@ use Rattle.points.specs.Step.{inRange}
 use Rattle.listing.specs.Lines.{keyText}
 
 pub record ListInput : Type 0 where
+  pub version : ℕ
   pub d : ℕ
   pub n : ℕ
   pub v : ℕ
@@ -29,18 +30,18 @@ pub record ListInput : Type 0 where
   pub room : ℕ
 
 -- the input of a call told these numbers and lists, with room for so many bytes
-abbrev pub listInput : ℕ → ℕ → ℕ → ℕ → List ℕ → List Float → ℕ → ListInput
-listInput d n v s table points room = record { d = d; n = n; v = v; s = s; table = table; points = points; room = room }
+abbrev pub listInput : ℕ → ℕ → ℕ → ℕ → ℕ → List ℕ → List Float → ℕ → ListInput
+listInput k d n v s table points room = record { version = k; d = d; n = n; v = v; s = s; table = table; points = points; room = room }
 
 unfoldable pub listText : ListInput → List ℕ
-listText i = keyText (i .d) (i .n) (i .v) (i .points) (boundaryOf (entriesOf (i .d) (i .s) (i .table)))
+listText i = keyText (i .version) (i .d) (i .n) (i .v) (i .points) (boundaryOf (entriesOf (i .d) (i .s) (i .table)))
 
 abbrev pub listLength : ListInput → ℕ
 listLength i = length (listText i)
 
 abbrev pub listTests : List (Rule ListInput)
 listTests =
-    refuse 2 (λ i. not (shapeOk maxDimension (i .d) (i .v) (i .s) && axesOk (i .n)))
+    refuse 2 (λ i. not (versionOk (i .version) && (shapeOk maxDimension (i .d) (i .v) (i .s) && axesOk (i .n))))
     ∷ refuse 3 (λ i. not (eqb (length (i .table)) (tableLength (i .d) (i .s)) && eqb (length (i .points)) (i .v * i .n)))
     ∷ refuse 4 (λ i. not (allOf inRange (i .points)))
     ∷ refuse 14 (λ i. not (sound (i .d) (i .v) (i .s) (i .table)))

@@ -1,4 +1,4 @@
-// The call list: it takes a table and its points and writes the key's text.
+// The call list: it takes a table and its points and writes the key's text, in the form of a version.
 use listing::key::key_size;
 use listing::key::put_key;
 use points::range::all_in_range;
@@ -8,6 +8,7 @@ use rules::compare::equal;
 use rules::compare::less;
 use rules::limits::Shape;
 use rules::limits::axes_ok;
+use rules::limits::version_ok;
 use rules::refusal::Answer;
 use rules::refusal::Refusal;
 use tables::sound::is_sound;
@@ -16,17 +17,18 @@ ghost use mathlib.Core.Bool.{_&&_};
 ghost use Prim.Native.Nat.{_*_, _≤_};
 ghost use lib.Dec.{eqb};
 ghost use lib.ListN.{length};
-ghost use Rattle.rules.specs.Limits.{maxDimension, axesOk};
+ghost use Rattle.rules.specs.Limits.{maxDimension, axesOk, versionOk};
 ghost use Rattle.rules.specs.Shapes.{shapeOk};
 ghost use Rattle.rules.specs.Numbers.{outcomeOf};
 ghost use Rattle.records.specs.Layout.{tableLength};
 ghost use Rattle.list.specs.List.{listInput, listOutcome, listBuffer};
 
 // Row 2.
-fn numbers_fit(d: usize, n: usize, v: usize, s: usize) -> bool
-    ensures { λ r. ⌜ r ≡ (shapeOk maxDimension d v s && axesOk n) ⌝ }
+fn numbers_fit(version: usize, d: usize, n: usize, v: usize, s: usize) -> bool
+    ensures { λ r. ⌜ r ≡ (versionOk version && (shapeOk maxDimension d v s && axesOk n)) ⌝ }
 {
-    both(Shape::within(Shape::MAX_DIMENSION, d, v, s), axes_ok(n))
+    let fits = both(Shape::within(Shape::MAX_DIMENSION, d, v, s), axes_ok(n));
+    both(version_ok(version), fits)
 }
 
 // Row 3.
@@ -39,7 +41,9 @@ fn lengths_fit(d: usize, n: usize, v: usize, s: usize, table: &[u16], points: &[
     both(right, equal(points.len(), count))
 }
 
+// Version 2 has the material at the end of each face's line; with version 1 materials are left out.
 pub fn list(
+    version: usize,
     d: usize,
     n: usize,
     v: usize,
@@ -48,11 +52,12 @@ pub fn list(
     points: &[f64],
     out: &mut [u8],
 ) -> Answer
-    ensures answer { λ r. ⌜ outcomeOf r ≡ listOutcome (listInput d n v s (now (table .entry)) (now (points .entry)) (length (now (out .entry)))) ⌝ }
+    ensures answer { λ r. ⌜ outcomeOf r
+        ≡ listOutcome (listInput version d n v s (now (table .entry)) (now (points .entry)) (length (now (out .entry)))) ⌝ }
     ensures buffer { λ r. ⌜ now (out .exit)
-        ≡ listBuffer (listInput d n v s (now (table .entry)) (now (points .entry)) (length (now (out .entry)))) (now (out .entry)) ⌝ }
+        ≡ listBuffer (listInput version d n v s (now (table .entry)) (now (points .entry)) (length (now (out .entry)))) (now (out .entry)) ⌝ }
 {
-    if !numbers_fit(d, n, v, s) {
+    if !numbers_fit(version, d, n, v, s) {
         return Answer::Refused(Refusal::OutsideLimits);
     }
     if !lengths_fit(d, n, v, s, table, points) {
@@ -64,11 +69,11 @@ pub fn list(
     if !is_sound(d, v, s, table) {
         return Answer::Refused(Refusal::Unsound);
     }
-    let size = key_size(d, n, v, s, table, points);
+    let size = key_size(version, d, n, v, s, table, points);
     let bytes = size.bytes;
     if less(out.len(), bytes) {
         return Answer::Refused(Refusal::NoRoom);
     }
-    put_key(d, n, v, s, size.count, table, points, out);
+    put_key(version, d, n, v, s, size.count, table, points, out);
     Answer::Written(bytes)
 }

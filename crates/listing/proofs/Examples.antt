@@ -7,6 +7,11 @@ use Rattle.simplex.specs.Cell.{cell}
 use Rattle.printing.specs.Decimal.{digits}
 use Rattle.listing.specs.Lines.{faceLine}
 
-pub a-face : faceLine (cell false (2 ∷ 10 ∷ [])) ≡ ascii "- 2 10\n"
+-- in version 1, and with its material in version 2
+pub a-face : faceLine 1 (cell false 7 (2 ∷ 10 ∷ [])) ≡ ascii "- 2 10\n"
 unfolding digits faceLine
 a-face = refl
+
+pub a-face-with-material : faceLine 2 (cell false 7 (2 ∷ 10 ∷ [])) ≡ ascii "- 2 10 7\n"
+unfolding digits faceLine
+a-face-with-material = refl

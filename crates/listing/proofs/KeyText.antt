@@ -23,18 +23,18 @@ abbrev pub countsText : ℕ → ℕ → ℕ → ℕ → List ℕ
 countsText d n v f = line keyWord (map digits (d ∷ n ∷ v ∷ f ∷ []))
 
 -- f faces, as the first line has it
-module _ (d n v : ℕ) (ps : List Float) (fs : List Cell) (f : ℕ) (e : f ≡ length fs) where
+module _ (k d n v : ℕ) (ps : List Float) (fs : List Cell) (f : ℕ) (e : f ≡ length fs) where
   abbrev lines : List ℕ
-  lines = vertexLines n v ps ++ faceLines fs
+  lines = vertexLines n v ps ++ faceLines k fs
 
   abbrev pieces : List ℕ
   pieces = countsText d n v f ++ lines
 
-  key-pieces : keyText d n v ps fs ≡ pieces
+  key-pieces : keyText k d n v ps fs ≡ pieces
   unfolding keyText firstLine
   key-pieces = rw e
 
-  module _ (buf : List ℕ) (room : length (keyText d n v ps fs) ≤ length buf) where
+  module _ (buf : List ℕ) (room : length (keyText k d n v ps fs) ≤ length buf) where
     start : Left 0 pieces buf 0 pieces buf
     start = left-starts 0 pieces buf (omega (arith, room, ap length key-pieces))
 
@@ -46,8 +46,8 @@ module _ (d n v : ℕ) (ps : List Float) (fs : List Cell) (f : ℕ) (e : f ≡ l
       vertices-left = left-goes (countsText d n v f) lines cur one start first
 
       module _ {next : ℕ} {two : List ℕ} (vertices : Put cur (vertexLines n v ps) one next two) where
-        pub faces-left : Left 0 pieces buf next (faceLines fs) two
-        faces-left = left-goes (vertexLines n v ps) (faceLines fs) next two vertices-left vertices
+        pub faces-left : Left 0 pieces buf next (faceLines k fs) two
+        faces-left = left-goes (vertexLines n v ps) (faceLines k fs) next two vertices-left vertices
 
-        pub key-put : {last : ℕ} {new : List ℕ} → Put next (faceLines fs) two last new → Put 0 (keyText d n v ps fs) buf last new
-        key-put {last} {new} faces = subst (λ text. Put 0 text buf last new) (sym key-pieces) (left-last (faceLines fs) last new faces-left faces)
+        pub key-put : {last : ℕ} {new : List ℕ} → Put next (faceLines k fs) two last new → Put 0 (keyText k d n v ps fs) buf last new
+        key-put {last} {new} faces = subst (λ text. Put 0 text buf last new) (sym key-pieces) (left-last (faceLines k fs) last new faces-left faces)

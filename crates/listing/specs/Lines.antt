@@ -1,11 +1,13 @@
--- The lines of the key. Paper, section 8.
+-- The lines of the key, in the form of version k: version 2 has materials. Paper, section 8.
 --   firstLine d n v f             "key", dimension, axes, vertices, faces
 --   vertexLines n v ps            for each vertex "v", its number, its coordinates
---   faceLines fs                  for each face "+" or "-", and its vertices
---   keyText d n v ps fs           the whole key
+--   faceFields k f                the numbers of a face's line: its vertices, and in version 2 its material
+--   faceLines k fs                for each face "+" or "-", and these
+--   keyText k d n v ps fs         the whole key
 use mathlib.Core.List.{List, [], _∷_, _++_, map}
-use mathlib.Core.Bool.{true, false}
+use mathlib.Core.Bool.{true, false, cond}
 use Prim.Native.Nat.{ℕ}
+use lib.Dec.{eqb}
 use lib.Ieee.{Float}
 use lib.ListN.{length}
 use Rattle.words.specs.Records.{tabulate, part, concat}
@@ -33,11 +35,14 @@ vertexLine n ps p = line vertexWord (digits p ∷ map coordinate (part n p ps))
 abbrev pub vertexLines : ℕ → ℕ → List Float → List ℕ
 vertexLines n v ps = concat (tabulate v (vertexLine n ps))
 
-unfoldable pub faceLine : Cell → List ℕ
-faceLine f = line (signText (f .sign)) (map digits (f .row))
+abbrev pub faceFields : ℕ → Cell → List ℕ
+faceFields k f = f .row ++ cond (eqb k 2) (f .material ∷ []) []
 
-abbrev pub faceLines : List Cell → List ℕ
-faceLines fs = concat (map faceLine fs)
+unfoldable pub faceLine : ℕ → Cell → List ℕ
+faceLine k f = line (signText (f .sign)) (map digits (faceFields k f))
 
-unfoldable pub keyText : ℕ → ℕ → ℕ → List Float → List Cell → List ℕ
-keyText d n v ps fs = firstLine d n v (length fs) ++ (vertexLines n v ps ++ faceLines fs)
+abbrev pub faceLines : ℕ → List Cell → List ℕ
+faceLines k fs = concat (map (faceLine k) fs)
+
+unfoldable pub keyText : ℕ → ℕ → ℕ → ℕ → List Float → List Cell → List ℕ
+keyText k d n v ps fs = firstLine d n v (length fs) ++ (vertexLines n v ps ++ faceLines k fs)

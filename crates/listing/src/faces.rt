@@ -1,18 +1,20 @@
-// The lines of the boundary faces: their count and lengths, and written. A face's vertices go to a small array.
+// The lines of the boundary faces: their count and lengths, and written. A face's numbers go to a small array. The version
+// tells whether its material is among them.
 use boundary::face::face_sign;
 use boundary::face::face_vertex;
 use boundary::walk::next_face;
 use printing::fields::fields_len;
 use printing::lines::first_line;
+use records::reading::material;
 ghost use mathlib.Core.Path.{_≡_};
 ghost use mathlib.Core.List.{[], _∷_};
-ghost use Prim.Native.Nat.{_+_, _≤_};
+ghost use Prim.Native.Nat.{_+_, _≤_, _<_};
 ghost use lib.ListN.{length, take};
 ghost use Rattle.simplex.specs.SignWords.{signOf};
 ghost use Rattle.records.specs.Inner.Inside.{Table, Inside};
 ghost use Rattle.boundary.specs.Inner.Walk.{faceAt, tableFaces};
 ghost use Rattle.words.specs.Inner.Placed.{Put};
-ghost use Rattle.listing.specs.Lines.{signText, faceLine, faceLines};
+ghost use Rattle.listing.specs.Lines.{signText, faceFields, faceLine, faceLines};
 ghost use Rattle.listing.specs.Inner.Parts.{SizeOf};
 
 // How many faces, and how many bytes their lines have.
@@ -42,17 +44,40 @@ fn fill_row(d: usize, s: usize, table: &[u16], p: usize, a: usize, row: &mut [u1
     }
 }
 
-fn face_len(d: usize, s: usize, table: &[u16], p: usize, a: usize) -> usize
+// The numbers of its line go to the start of the row; how many.
+fn fill_fields(
+    version: usize,
+    d: usize,
+    s: usize,
+    table: &[u16],
+    p: usize,
+    a: usize,
+    row: &mut [u16],
+) -> usize
+    requires { ⌜ Inside d s p (now table) × (a ≤ d) × (d < length (now row)) ⌝ }
+    ensures { λ r. ⌜ r ≤ d + 1 ⌝ }
+    ensures { λ r. ⌜ take r (now (row .exit)) ≡ faceFields version (faceAt d (now (table .entry)) p a) ⌝ }
+{
+    fill_row(d, s, table, p, a, row);
+    if version == 2 {
+        row[d] = material(d, s, table, p);
+        return d + 1;
+    }
+    d
+}
+
+fn face_len(version: usize, d: usize, s: usize, table: &[u16], p: usize, a: usize) -> usize
     requires { ⌜ Inside d s p (now table) × (a ≤ d) ⌝ }
-    ensures { λ r. ⌜ r ≡ length (faceLine (faceAt d (now (table .entry)) p a)) ⌝ }
+    ensures { λ r. ⌜ r ≡ length (faceLine version (faceAt d (now (table .entry)) p a)) ⌝ }
     ensures { λ r. ⌜ r ≤ 256 ⌝ }
 {
     let mut row = [0u16; 8];
-    fill_row(d, s, table, p, a, &mut row);
-    2 + fields_len(&row[..d])
+    let n = fill_fields(version, d, s, table, p, a, &mut row);
+    2 + fields_len(&row[..n])
 }
 
 fn put_face(
+    version: usize,
     d: usize,
     s: usize,
     table: &[u16],
@@ -61,19 +86,19 @@ fn put_face(
     buf: &mut [u8],
     at: usize,
 ) -> usize
-    requires { ⌜ Inside d s p (now table) × (a ≤ d) × (at + length (faceLine (faceAt d (now table) p a)) ≤ length (now buf)) ⌝ }
-    ensures { λ r. ⌜ Put at (faceLine (faceAt d (now (table .entry)) p a)) (now (buf .entry)) r (now (buf .exit)) ⌝ }
+    requires { ⌜ Inside d s p (now table) × (a ≤ d) × (at + length (faceLine version (faceAt d (now table) p a)) ≤ length (now buf)) ⌝ }
+    ensures { λ r. ⌜ Put at (faceLine version (faceAt d (now (table .entry)) p a)) (now (buf .entry)) r (now (buf .exit)) ⌝ }
 {
     let sign = [sign_byte(face_sign(d, s, table, p, a))];
     let mut row = [0u16; 8];
-    fill_row(d, s, table, p, a, &mut row);
-    first_line(buf, at, &sign, &row[..d])
+    let n = fill_fields(version, d, s, table, p, a, &mut row);
+    first_line(buf, at, &sign, &row[..n])
 }
 
 // The boundary faces of a table.
-pub(crate) fn faces_size(d: usize, s: usize, table: &[u16]) -> Size
+pub(crate) fn faces_size(version: usize, d: usize, s: usize, table: &[u16]) -> Size
     requires { ⌜ Table d s (now table) ⌝ }
-    ensures { λ r. ⌜ SizeOf (tableFaces d s (now (table .entry))) (r .count) (r .bytes) ⌝ }
+    ensures { λ r. ⌜ SizeOf version (tableFaces d s (now (table .entry))) (r .count) (r .bytes) ⌝ }
     ensures { λ r. ⌜ (r .count ≤ 32768) × (r .bytes ≤ 8388608) ⌝ }
 {
     let mut count: usize = 0;
@@ -81,20 +106,27 @@ pub(crate) fn faces_size(d: usize, s: usize, table: &[u16]) -> Size
     let mut at = next_face(d, s, table, 0, 0);
     while at.cell < s {
         count += 1;
-        bytes += face_len(d, s, table, at.cell, at.position);
+        bytes += face_len(version, d, s, table, at.cell, at.position);
         at = next_face(d, s, table, at.cell, at.position + 1);
     }
     Size { count, bytes }
 }
 
-pub(crate) fn put_faces(d: usize, s: usize, table: &[u16], buf: &mut [u8], at: usize) -> usize
-    requires { ⌜ Table d s (now table) × (at + length (faceLines (tableFaces d s (now table))) ≤ length (now buf)) ⌝ }
-    ensures { λ r. ⌜ Put at (faceLines (tableFaces d s (now (table .entry)))) (now (buf .entry)) r (now (buf .exit)) ⌝ }
+pub(crate) fn put_faces(
+    version: usize,
+    d: usize,
+    s: usize,
+    table: &[u16],
+    buf: &mut [u8],
+    at: usize,
+) -> usize
+    requires { ⌜ Table d s (now table) × (at + length (faceLines version (tableFaces d s (now table))) ≤ length (now buf)) ⌝ }
+    ensures { λ r. ⌜ Put at (faceLines version (tableFaces d s (now (table .entry)))) (now (buf .entry)) r (now (buf .exit)) ⌝ }
 {
     let mut cur = at;
     let mut place = next_face(d, s, table, 0, 0);
     while place.cell < s {
-        cur = put_face(d, s, table, place.cell, place.position, buf, cur);
+        cur = put_face(version, d, s, table, place.cell, place.position, buf, cur);
         place = next_face(d, s, table, place.cell, place.position + 1);
     }
     cur

@@ -1,4 +1,4 @@
-// The whole key: its size, and written.
+// The whole key, in the form of a version: its size, and written.
 use crate::faces::Size;
 use crate::faces::faces_size;
 use crate::faces::put_faces;
@@ -27,11 +27,19 @@ fn first_len(d: usize, n: usize, v: usize, faces: usize) -> usize
 }
 
 // How many faces the key has, and how many bytes.
-pub fn key_size(d: usize, n: usize, v: usize, s: usize, table: &[u16], points: &[f64]) -> Size
+pub fn key_size(
+    version: usize,
+    d: usize,
+    n: usize,
+    v: usize,
+    s: usize,
+    table: &[u16],
+    points: &[f64],
+) -> Size
     requires { ⌜ Table d s (now table) × Points n v (now points) ⌝ }
-    ensures { λ r. ⌜ KeySize d n v (now (points .entry)) (tableFaces d s (now (table .entry))) (r .count) (r .bytes) ⌝ }
+    ensures { λ r. ⌜ KeySize version d n v (now (points .entry)) (tableFaces d s (now (table .entry))) (r .count) (r .bytes) ⌝ }
 {
-    let faces = faces_size(d, s, table);
+    let faces = faces_size(version, d, s, table);
     let count = faces.count;
     let bytes = first_len(d, n, v, count) + vertices_len(n, v, points) + faces.bytes;
     Size { count, bytes }
@@ -39,6 +47,7 @@ pub fn key_size(d: usize, n: usize, v: usize, s: usize, table: &[u16], points: &
 
 // The key from the start of the buffer. Each line is built by a line writer.
 pub fn put_key(
+    version: usize,
     d: usize,
     n: usize,
     v: usize,
@@ -49,11 +58,12 @@ pub fn put_key(
     buf: &mut [u8],
 ) -> usize
     requires { ⌜ Table d s (now table) × Points n v (now points) × (faces ≡ length (tableFaces d s (now table)))
-        × (length (keyText d n v (now points) (tableFaces d s (now table))) ≤ length (now buf)) ⌝ }
-    ensures { λ r. ⌜ Put 0 (keyText d n v (now (points .entry)) (tableFaces d s (now (table .entry)))) (now (buf .entry)) r (now (buf .exit)) ⌝ }
+        × (length (keyText version d n v (now points) (tableFaces d s (now table))) ≤ length (now buf)) ⌝ }
+    ensures { λ r. ⌜ Put 0 (keyText version d n v (now (points .entry)) (tableFaces d s (now (table .entry)))) (now (buf .entry)) r
+        (now (buf .exit)) ⌝ }
 {
     let counts = [d as u16, n as u16, v as u16, faces as u16];
     let first = first_line(buf, 0, b"key", &counts);
     let vertices = put_vertices(n, v, points, buf, first);
-    put_faces(d, s, table, buf, vertices)
+    put_faces(version, d, s, table, buf, vertices)
 }

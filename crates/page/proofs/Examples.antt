@@ -26,7 +26,7 @@ ten-bytes = refl
 
 -- a point slid in one step, and bytes that say one vertex and one axis
 abbrev slid : Header
-slid = record { d = 0; n = 1; v = 1; s = 1; h = 1; step = S.Slide 0 (ofBits binary64 0) }
+slid = record { version = 1; d = 0; n = 1; v = 1; s = 1; h = 1; step = S.Slide 0 (ofBits binary64 0) }
 
 pub points-of-both-levels : length (listIn (replicate 6 0 ++ (1 ∷ 1 ∷ [])) slid .points) ≡ 2
 unfolding points-computing filePoints movedLevels
@@ -37,7 +37,7 @@ abbrev eight : List ℕ
 eight = replicate 5 0 ++ (7 ∷ 1 ∷ 8 ∷ 0 ∷ 1 ∷ []) ++ replicate 94 0 ++ (43 ∷ concat (tabulate 8 (λ p. p ∷ 0 ∷ [])))
 
 abbrev unfit : Header
-unfit = record { d = 7; n = 1; v = 8; s = 1; h = 1; step = S.Slide 1 (ofBits binary64 0) }
+unfit = record { version = 1; d = 7; n = 1; v = 8; s = 1; h = 1; step = S.Slide 1 (ofBits binary64 0) }
 
 pub sweep-before-move : callsOn eight unfit ≡ refused 2
 unfolding computing points-computing filePoints fileCells fileWords wingRules wingOutcome sweepRules sweepOutcome movedLevels moveRules moveOutcome

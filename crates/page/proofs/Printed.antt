@@ -53,7 +53,7 @@ module _ (b : List ℕ) where
 
   module _ (x : Header) (e : readOutcome (readIn b) ≡ accepted x) where
     pub key-read : length b ≤ inputLimit →
-        keyOutcome b ≡ wingedKey (x .d) (x .n) (x .v) (x .s) (x .h) (x .step) (fileWords b) (filePoints b) byteRoom
+        keyOutcome b ≡ wingedKey (x .version) (x .d) (x .n) (x .v) (x .s) (x .h) (x .step) (fileWords b) (filePoints b) byteRoom
     unfolding keyOutcome wingedKey sweptKey movedKey listKey
     key-read h = rw (le-ltb inputLimit (length b) h, e) refl
 

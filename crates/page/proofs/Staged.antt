@@ -68,31 +68,33 @@ list-left i out = go (listOutcome i)
     go (accepted k) = refl
     go (refused n) = refl
 
-module _ (d n v s h : ℕ) (step : Step) (ws : List ℕ) (ps : List Float) (room : ℕ) where
-  pub moved-refused : (k : ℕ) → moveOutcome (moveInput n v h step ps floatRoom) ≡ refused k → movedKey d n v s h step ws ps room ≡ refused k
+module _ (version d n v s h : ℕ) (step : Step) (ws : List ℕ) (ps : List Float) (room : ℕ) where
+  pub moved-refused : (k : ℕ) → moveOutcome (moveInput n v h step ps floatRoom) ≡ refused k → movedKey version d n v s h step ws ps room ≡ refused k
   unfolding movedKey
   moved-refused k e = rw e refl
 
   pub moved-accepted : (k : ℕ) → moveOutcome (moveInput n v h step ps floatRoom) ≡ accepted k →
-      movedKey d n v s h step ws ps room ≡ listKey (listInput d n (sweptVertices v h) s ws (movedLevels (moveInput n v h step ps floatRoom)) room)
+      movedKey version d n v s h step ws ps room
+      ≡ listKey (listInput version d n (sweptVertices v h) s ws (movedLevels (moveInput n v h step ps floatRoom)) room)
   unfolding movedKey
   moved-accepted k e = rw e refl
 
-  pub swept-refused : (k : ℕ) → sweepOutcome (sweepInput d v s h ws wordRoom) ≡ refused k → sweptKey d n v s h step ws ps room ≡ refused k
+  pub swept-refused : (k : ℕ) → sweepOutcome (sweepInput d v s h ws wordRoom) ≡ refused k → sweptKey version d n v s h step ws ps room ≡ refused k
   unfolding sweptKey
   swept-refused k e = rw e refl
 
   pub swept-accepted : (k : ℕ) → sweepOutcome (sweepInput d v s h ws wordRoom) ≡ accepted k →
-      sweptKey d n v s h step ws ps room ≡ movedKey (suc d) n v (sweptCells d s h) h step (sweptWords (sweepInput d v s h ws wordRoom)) ps room
+      sweptKey version d n v s h step ws ps room
+      ≡ movedKey version (suc d) n v (sweptCells d s h) h step (sweptWords (sweepInput d v s h ws wordRoom)) ps room
   unfolding sweptKey
   swept-accepted k e = rw e refl
 
   pub winged-refused : (k : ℕ) → wingOutcome (wingInput d v s ws wordRoom wordRoom) ≡ refused k →
-      wingedKey d n v s h step ws ps room ≡ refused k
+      wingedKey version d n v s h step ws ps room ≡ refused k
   unfolding wingedKey
   winged-refused k e = rw e refl
 
   pub winged-accepted : (k : ℕ) → wingOutcome (wingInput d v s ws wordRoom wordRoom) ≡ accepted k →
-      wingedKey d n v s h step ws ps room ≡ sweptKey d n v s h step (tableOfList (wingInput d v s ws wordRoom wordRoom .list)) ps room
+      wingedKey version d n v s h step ws ps room ≡ sweptKey version d n v s h step (tableOfList (wingInput d v s ws wordRoom wordRoom .list)) ps room
   unfolding wingedKey
   winged-accepted k e = rw e refl

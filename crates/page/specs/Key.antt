@@ -1,4 +1,5 @@
--- The text that the program key prints for any input: it reads, wings, sweeps, moves and lists. Paper, section 8.
+-- The text that the program key prints for any input: it reads, wings, sweeps, moves and lists, in the form of the file's version.
+-- Paper, section 8.
 --   inputLimit        a longer input is refusal 3 before all else
 --   wordRoom, floatRoom, byteRoom     the rooms of the lent buffers: 65,536 bytes each
 --   keyOutcome b      the key's text, or the first refused call's number
@@ -57,6 +58,7 @@ moveIn b x = record { n = x .n; v = x .v; h = x .h; step = x .step; points = fil
 abbrev pub listIn : List ℕ → Header → ListInput
 listIn b x =
     record {
+      version = x .version;
       d = suc (x .d);
       n = x .n;
       v = sweptVertices (x .v) (x .h);

@@ -15,8 +15,9 @@ use rules::refusal::Refusal;
 use sweep::sweep;
 use wing::wing;
 
-// The points of all levels, then the key. d and s are the swept table's, v and h the solid's and its steps.
+// The points of all levels, then the key in the form of a version. d and s are the swept table's, v and h the solid's and its steps.
 fn moved_key(
+    version: usize,
     d: usize,
     n: usize,
     v: usize,
@@ -28,19 +29,20 @@ fn moved_key(
     page: &mut [u8],
 ) -> Answer
     ensures answer { λ r. ⌜ outcomeOf r
-        ≡ counted (movedKey d n v s h step (now (table .entry)) (now (points .entry)) (length (now (page .entry)))) ⌝ }
+        ≡ counted (movedKey version d n v s h step (now (table .entry)) (now (points .entry)) (length (now (page .entry)))) ⌝ }
     ensures page { λ _. ⌜ now (page .exit)
-        ≡ pageAfter (movedKey d n v s h step (now (table .entry)) (now (points .entry)) (length (now (page .entry)))) (now (page .entry)) ⌝ }
+        ≡ pageAfter (movedKey version d n v s h step (now (table .entry)) (now (points .entry)) (length (now (page .entry)))) (now (page .entry)) ⌝ }
 {
     let mut moved = [0.0f64; 8192];
     match move_points(n, v, h, step, points, &mut moved) {
-        Answer::Written(m) => list(d, n, (h + 1) * v, s, table, &moved[..m], page),
+        Answer::Written(m) => list(version, d, n, (h + 1) * v, s, table, &moved[..m], page),
         Answer::Refused(r) => Answer::Refused(r),
     }
 }
 
 // The swept table, then what follows.
 fn swept_key(
+    version: usize,
     d: usize,
     n: usize,
     v: usize,
@@ -52,15 +54,26 @@ fn swept_key(
     page: &mut [u8],
 ) -> Answer
     ensures answer { λ r. ⌜ outcomeOf r
-        ≡ counted (sweptKey d n v s h step (now (table .entry)) (now (points .entry)) (length (now (page .entry)))) ⌝ }
+        ≡ counted (sweptKey version d n v s h step (now (table .entry)) (now (points .entry)) (length (now (page .entry)))) ⌝ }
     ensures page { λ _. ⌜ now (page .exit)
-        ≡ pageAfter (sweptKey d n v s h step (now (table .entry)) (now (points .entry)) (length (now (page .entry)))) (now (page .entry)) ⌝ }
+        ≡ pageAfter (sweptKey version d n v s h step (now (table .entry)) (now (points .entry)) (length (now (page .entry)))) (now (page .entry)) ⌝ }
 {
     let mut swept = [0u16; 32768];
     match sweep(d, v, s, h, table, &mut swept) {
         Answer::Written(m) => {
             let cells = h * (s * (d + 1));
-            moved_key(d + 1, n, v, cells, h, step, &swept[..m], points, page)
+            moved_key(
+                version,
+                d + 1,
+                n,
+                v,
+                cells,
+                h,
+                step,
+                &swept[..m],
+                points,
+                page,
+            )
         }
         Answer::Refused(r) => Answer::Refused(r),
     }
@@ -68,6 +81,7 @@ fn swept_key(
 
 // The solid's table, then what follows.
 fn winged_key(
+    version: usize,
     d: usize,
     n: usize,
     v: usize,
@@ -79,14 +93,14 @@ fn winged_key(
     page: &mut [u8],
 ) -> Answer
     ensures answer { λ r. ⌜ outcomeOf r
-        ≡ counted (wingedKey d n v s h step (now (cells .entry)) (now (points .entry)) (length (now (page .entry)))) ⌝ }
+        ≡ counted (wingedKey version d n v s h step (now (cells .entry)) (now (points .entry)) (length (now (page .entry)))) ⌝ }
     ensures page { λ _. ⌜ now (page .exit)
-        ≡ pageAfter (wingedKey d n v s h step (now (cells .entry)) (now (points .entry)) (length (now (page .entry)))) (now (page .entry)) ⌝ }
+        ≡ pageAfter (wingedKey version d n v s h step (now (cells .entry)) (now (points .entry)) (length (now (page .entry)))) (now (page .entry)) ⌝ }
 {
     let mut table = [0u16; 32768];
     let mut uploaded = [0u16; 32768];
     match wing(d, v, s, cells, &mut table, &mut uploaded) {
-        Answer::Written(m) => swept_key(d, n, v, s, h, step, &table[..m], points, page),
+        Answer::Written(m) => swept_key(version, d, n, v, s, h, step, &table[..m], points, page),
         Answer::Refused(r) => Answer::Refused(r),
     }
 }
@@ -104,6 +118,7 @@ pub fn page_key(input: &[u8], page: &mut [u8]) -> Answer
     let mut points = [0.0f64; 8192];
     match read(input, &mut cells, &mut points) {
         ReadAnswer::Accepted(x) => {
+            let version = x.version;
             let d = x.d;
             let n = x.n;
             let v = x.v;
@@ -113,6 +128,7 @@ pub fn page_key(input: &[u8], page: &mut [u8]) -> Answer
             let words = list_words(d, s);
             let floats = v * n;
             winged_key(
+                version,
                 d,
                 n,
                 v,

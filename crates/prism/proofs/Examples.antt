@@ -29,8 +29,8 @@ starts-over-face-1 = refl
 pub steps-over-face-1 : nextSide 2 (side 0 1) ≡ side 2 2
 steps-over-face-1 = refl
 
--- the two triangles over a segment
-pub over-a-segment : prism 2 0 (cell true (0 ∷ 1 ∷ [])) ≡ cell true (0 ∷ 1 ∷ 2 ∷ []) ∷ cell false (1 ∷ 2 ∷ 3 ∷ []) ∷ []
+-- the two triangles over a segment, of its material
+pub over-a-segment : prism 2 0 (cell true 7 (0 ∷ 1 ∷ [])) ≡ cell true 7 (0 ∷ 1 ∷ 2 ∷ []) ∷ cell false 7 (1 ∷ 2 ∷ 3 ∷ []) ∷ []
 over-a-segment = refl
 
 -- the wings of a segment alone, and those of two triangles that share their face 0 and their face 2

@@ -40,14 +40,15 @@ All-front : (nv x : ℕ) (cs : List Cell) → x < nv → All (Below nv) cs → A
 All-front nv x [] l a = tt
 All-front nv x (c ∷ cs) l a = ((l, a .0), All-front nv x cs l (a .1))
 
-faces-below : (nv : ℕ) (s : Bool) (v : Row) → Below nv v → All (Below nv) (faces s v)
-faces-below nv s [] b = tt
-faces-below nv s (x ∷ w) b = (b .1, All-front nv x (faces (not s) w) (b .0) (faces-below nv (not s) w (b .1)))
+faces-below : (nv : ℕ) (s : Bool) (m : ℕ) (v : Row) → Below nv v → All (Below nv) (faces s m v)
+faces-below nv s m [] b = tt
+faces-below nv s m (x ∷ w) b = (b .1, All-front nv x (faces (not s) m w) (b .0) (faces-below nv (not s) m w (b .1)))
 
 allFaces-below : (nv : ℕ) (cs : List Cell) → All (Good nv) cs → All (Below nv) (allFaces cs)
 allFaces-below nv [] a = tt
 allFaces-below nv (c ∷ cs) a =
-    All-append (Below nv) (faces (c .sign) (c .row)) (allFaces cs) (faces-below nv (c .sign) (c .row) (a .0 .1)) (allFaces-below nv cs (a .1))
+    All-append (Below nv) (faces (c .sign) (c .material) (c .row)) (allFaces cs)
+    (faces-below nv (c .sign) (c .material) (c .row) (a .0 .1)) (allFaces-below nv cs (a .1))
 
 overPrism-bound : (nv i : ℕ) (w : Row) (c : Bool) (y : Row) → Below nv y → overPrism (plusOn w) (i * nv) (suc i * nv) c y ≤ sideOn nv w y
 overPrism-bound nv i w c y b =

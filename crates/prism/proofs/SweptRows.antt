@@ -11,7 +11,7 @@ use lib.ListN.{length, take, drop, length-append, length-map, length-drop, List�
 use lib.Seq.{length-take-le, drop-cons, drop-length, take-length, getD-append-add}
 use borrow.Author.Tests.{ltb-true, ltb-false}
 use Rattle.words.proofs.Records.{tabulate-at, tabulate-length}
-use Rattle.simplex.specs.Cell.{Cell, Row, cell}
+use Rattle.simplex.specs.Cell.{Cell, Row, cell, noCell}
 use Rattle.simplex.specs.Faces.{without}
 use Rattle.simplex.proofs.Counts.{All}
 use Rattle.simplex.proofs.Rows.{Below, Filled, Long}
@@ -109,10 +109,10 @@ pair-lt d a l ha hl = go (ltb l a) refl
     go false z = omega (arith, ltb-false l a z)
 
 cell-left : (xs ys : List Cell) (n : ℕ) → n < length xs → cellAt (xs ++ ys) n ≡ cellAt xs n
-cell-left xs ys n h = List·getD-append xs ys (cell true []) n h
+cell-left xs ys n h = List·getD-append xs ys noCell n h
 
 cell-right : (xs ys : List Cell) (n m : ℕ) → m ≡ length xs + n → cellAt (xs ++ ys) m ≡ cellAt ys n
-cell-right xs ys n m e = ap (cellAt (xs ++ ys)) e ∙ getD-append-add xs ys n (cell true [])
+cell-right xs ys n m e = ap (cellAt (xs ++ ys)) e ∙ getD-append-add xs ys n noCell
 
 module _ (nv n : ℕ) where
   len-block : (i : ℕ) (c : Cell) → Long n (c .row) → length (prism nv i c) ≡ n
@@ -129,7 +129,7 @@ module _ (nv n : ℕ) where
   cell-level i zero k (c ∷ cs) a hp hk =
       ap (cellAt (level nv i (c ∷ cs))) (omega arith)
       ∙ cell-left (prism nv i c) (level nv i cs) k (omega (arith, len-block i c (a .0)))
-      ∙ tabulate-at (length (c .row)) (λ k. prismCell nv i k c) k (cell true []) (omega arith)
+      ∙ tabulate-at (length (c .row)) (λ k. prismCell nv i k c) k noCell (omega arith)
   cell-level i (suc p) k (c ∷ cs) a hp hk =
       cell-right (prism nv i c) (level nv i cs) (k + p * n) (k + suc p * n) (omega (arith, len-block i c (a .0)))
       ∙ cell-level i p k cs (a .1) (le-of-suc-le-suc hp) hk

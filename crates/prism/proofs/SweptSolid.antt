@@ -7,6 +7,7 @@ use native.Mathlib.Omega.{arith}
 use native.Mathlib.Nat.{mul-le-mul-right}
 use lib.Dec.{eqb}
 use lib.ListN.{length, take, drop}
+use Rattle.rules.specs.Limits.{maxMaterial}
 use Rattle.simplex.specs.Cell.{Cell, Row, sameRow}
 use Rattle.simplex.specs.Chain.{sumRows, total}
 use Rattle.simplex.specs.Faces.{allFaces, facets}
@@ -23,6 +24,7 @@ use Rattle.prism.proofs.FaceKinds.{acrossLevels-le, swept-meet}
 use Rattle.prism.proofs.Level.{dimensionSign, overPrism, raised}
 use Rattle.prism.proofs.Pairs.{swept-paired}
 use Rattle.prism.proofs.PrismCounts.{doubled, sumPrism-countPrism}
+use Rattle.prism.proofs.SweptMaterials.{each-swept}
 use Rattle.prism.proofs.SweptRows.{below-drop, below-take, drop-non, len-cell, prismRow}
 use Rattle.prism.proofs.SweptSums.{sumChain-level}
 
@@ -147,6 +149,7 @@ swept-solid nv h cs s = record {
   );
   meet = λ w. omega (arith, swept-meet nv cs s h w, facets-le w (sweepOf nv h cs));
   paired = subst Paired (sym (swept-facets nv h cs s)) (swept-paired nv cs s h);
+  materials = each-swept (λ m. m ≤ maxMaterial) nv h cs (s .materials);
 }
 
 pub swept-long : (nv h n : ℕ) (cs : List Cell) → All (Long n) cs → All (Long (suc n)) (sweepOf nv h cs)

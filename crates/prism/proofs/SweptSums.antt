@@ -19,46 +19,47 @@ use Rattle.prism.specs.Cells.{level, prism, sweepOf}
 use Rattle.prism.proofs.Level.{atHeight, cell-id, dimensionSign, overPrism, raised}
 use Rattle.prism.proofs.Prism.{sumPrism}
 
-abbrev pub prisms : Sign → Sign → ℕ → ℕ → Row → Row → List Cell
-prisms e s lo hi u [] = []
-prisms e s lo hi u (x ∷ w) = cell s (raised lo (x ∷ w) ++ (u ++ (x + hi) ∷ [])) ∷ prisms e (times e s) lo hi (u ++ (x + hi) ∷ []) w
+abbrev pub prisms : Sign → Sign → ℕ → ℕ → ℕ → Row → Row → List Cell
+prisms e s m lo hi u [] = []
+prisms e s m lo hi u (x ∷ w) = cell s m (raised lo (x ∷ w) ++ (u ++ (x + hi) ∷ [])) ∷ prisms e (times e s) m lo hi (u ++ (x + hi) ∷ []) w
 
 alternating-add : (m n : ℕ) → alternating (m + n) ≡ times (alternating m) (alternating n)
 alternating-add zero n = rw (zero-add n) refl
 alternating-add (suc m) n = rw (suc-add m n) (ap not (alternating-add m n) ∙ sym (times-not (alternating m) (alternating n)))
 
-prisms-are : (d : ℕ) (s : Sign) (lo hi : ℕ) (u w : Row) →
-    prisms (alternating d) s lo hi u w
-    ≡ tabulate (length w) (λ k. cell (times (alternating (k * d)) s) (raised lo (drop k w) ++ (u ++ raised hi (take (suc k) w))))
-prisms-are d s lo hi u [] = refl
-prisms-are d s lo hi u (x ∷ w) =
+prisms-are : (d : ℕ) (s : Sign) (m lo hi : ℕ) (u w : Row) →
+    prisms (alternating d) s m lo hi u w
+    ≡ tabulate (length w) (λ k. cell (times (alternating (k * d)) s) m (raised lo (drop k w) ++ (u ++ raised hi (take (suc k) w))))
+prisms-are d s m lo hi u [] = refl
+prisms-are d s m lo hi u (x ∷ w) =
     ap₂ {C = List Cell} (λ c cs. c ∷ cs) (rw (zero-mul d) refl)
-    (prisms-are d (times (alternating d) s) lo hi (u ++ (x + hi) ∷ []) w
+    (prisms-are d (times (alternating d) s) m lo hi (u ++ (x + hi) ∷ []) w
     ∙ tabulate-ext (length w) _ _
-    (λ k h. ap₂ cell (sign k) (ap (λ r. raised lo (drop k w) ++ r) (append-snoc u (x + hi) (raised hi (take (suc k) w))))))
+    (λ k h. ap₂ (λ t r. cell t m r) (sign k) (ap (λ r. raised lo (drop k w) ++ r) (append-snoc u (x + hi) (raised hi (take (suc k) w))))))
   where
     sign : (k : ℕ) → times (alternating (k * d)) (times (alternating d) s) ≡ times (alternating (suc k * d)) s
     sign k = sym (times-times (alternating (k * d)) (alternating d) s)
         ∙ ap (λ t. times t s) (sym (alternating-add (k * d) d) ∙ ap alternating (sym (suc-mul k d)))
 
 -- the prism of a cell, one cell after the other
-pub prism-is : (nv i : ℕ) (c : Cell) → prism nv i c ≡ prisms (dimensionSign (c .row)) (c .sign) (i * nv) (suc i * nv) [] (c .row)
-prism-is nv i c = go (c .sign) (c .row)
+pub prism-is : (nv i : ℕ) (c : Cell) → prism nv i c ≡ prisms (dimensionSign (c .row)) (c .sign) (c .material) (i * nv) (suc i * nv) [] (c .row)
+prism-is nv i c = go (c .sign) (c .material) (c .row)
   where
-    go : (s : Sign) (w : Row) → prism nv i (cell s w) ≡ prisms (dimensionSign w) s (i * nv) (suc i * nv) [] w
-    go s [] = refl
-    go s (x ∷ w) =
-        sym (ap (λ e. prisms e s (i * nv) (suc i * nv) [] (x ∷ w)) sign ∙ prisms-are (suc (length w) - 1) s (i * nv) (suc i * nv) [] (x ∷ w))
+    go : (s : Sign) (m : ℕ) (w : Row) → prism nv i (cell s m w) ≡ prisms (dimensionSign w) s m (i * nv) (suc i * nv) [] w
+    go s m [] = refl
+    go s m (x ∷ w) =
+        sym (ap (λ e. prisms e s m (i * nv) (suc i * nv) [] (x ∷ w)) sign
+        ∙ prisms-are (suc (length w) - 1) s m (i * nv) (suc i * nv) [] (x ∷ w))
       where
         sign : dimensionSign (x ∷ w) ≡ alternating (suc (length w) - 1)
         sign = let e : length w ≡ suc (length w) - 1 = omega arith in not-not (alternating (length w)) ∙ ap alternating e
 
-pub sumChain-prisms : (f : Functional) (e s b : Bool) (lo hi : ℕ) (u v : Row) →
-    sumChain f b (prisms e s lo hi u v) ≡ sumPrism (λ c l t. f c (raised lo l ++ (u ++ raised hi t))) e (times s b) v
-sumChain-prisms f e s b lo hi u [] = refl
-sumChain-prisms f e s b lo hi u (x ∷ w) =
+pub sumChain-prisms : (f : Functional) (e s b : Bool) (m lo hi : ℕ) (u v : Row) →
+    sumChain f b (prisms e s m lo hi u v) ≡ sumPrism (λ c l t. f c (raised lo l ++ (u ++ raised hi t))) e (times s b) v
+sumChain-prisms f e s b m lo hi u [] = refl
+sumChain-prisms f e s b m lo hi u (x ∷ w) =
     ap (λ n. f (times s b) (raised lo (x ∷ w) ++ (u ++ (x + hi) ∷ [])) + n)
-    (sumChain-prisms f e (times e s) b lo hi (u ++ (x + hi) ∷ []) w ∙ simp (append-snoc, times-times))
+    (sumChain-prisms f e (times e s) b m lo hi (u ++ (x + hi) ∷ []) w ∙ simp (append-snoc, times-times))
 
 -- two functionals of one value have sums of one value
 sumChain-eq : (F levelParts : Functional) → ((b : Bool) (v : Row) → F b v + levelParts (not b) v ≡ levelParts b v + F (not b) v) →
@@ -74,7 +75,7 @@ sumChain-level f nv i b (c ∷ cs) =
       arith,
       sumChain-append f b (prism nv i c) (level nv i cs),
       ap (sumChain f b) (prism-is nv i c),
-      sumChain-prisms f (dimensionSign (c .row)) (c .sign) b (i * nv) (suc i * nv) [] (c .row),
+      sumChain-prisms f (dimensionSign (c .row)) (c .sign) b (c .material) (i * nv) (suc i * nv) [] (c .row),
       sumChain-level f nv i b cs,
     )
 

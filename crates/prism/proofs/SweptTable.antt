@@ -9,7 +9,7 @@ use lib.Seq.{ext-getD, getD-append-add}
 use mathlib.Core.Bool.{true}
 use Rattle.words.specs.Records.{concat, tabulate}
 use Rattle.words.proofs.Records.{EachLong, concat-length, tabulate-at, tabulate-ext, tabulate-length}
-use Rattle.simplex.specs.Cell.{Cell, cell}
+use Rattle.simplex.specs.Cell.{Cell, cell, noCell}
 use Rattle.simplex.specs.Faces.{without}
 use Rattle.simplex.proofs.Counts.{All}
 use Rattle.simplex.proofs.Rows.{Long}
@@ -77,7 +77,7 @@ module _ (d v s h : ℕ) (es : List Entry) where
       ∙ tabulate-at (suc d) (sweptEntry d v s h es i p) k none hk
     where
       none : Entry
-      none = record { cell = cell true []; wings = [] }
+      none = record { cell = noCell; wings = [] }
 
 module _ (nv d h : ℕ) (cs : List Cell) (solid : Solid nv cs) (long : All (Long (suc d)) cs) (small : length cs ≤ empty) where
   abbrev T : List Cell
@@ -141,7 +141,7 @@ module _ (nv d h : ℕ) (cs : List Cell) (solid : Solid nv cs) (long : All (Long
 
   pub swept-table : sweptTable d nv S h (tableOf cs) ≡ tableOf T
   swept-table =
-      sym (ext-getD (record { cell = cell true []; wings = [] }) (tableOf T)
+      sym (ext-getD (record { cell = noCell; wings = [] }) (tableOf T)
       (sweptTable d nv S h (tableOf cs)) (lengths ∙ sym (swept-length d nv S h (tableOf cs)))
       (λ c l. at-number c (omega (arith, l, lengths))))
     where

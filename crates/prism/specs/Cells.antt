@@ -21,10 +21,11 @@ lifted v i w = map (atLevel v i) w
 abbrev pub dimension : Cell → ℕ
 dimension c = length (c .row) - 1
 
--- sign s (-1)^(kd); vertices k to d at level i, then 0 to k at level i + 1
+-- sign s (-1)^(kd), the cell's material; vertices k to d at level i, then 0 to k at level i + 1
 abbrev pub prismCell : ℕ → ℕ → ℕ → Cell → Cell
 prismCell v i k c =
-    cell (times (alternating (k * dimension c)) (c .sign)) (lifted v i (drop k (c .row)) ++ lifted v (suc i) (take (suc k) (c .row)))
+    cell (times (alternating (k * dimension c)) (c .sign)) (c .material)
+    (lifted v i (drop k (c .row)) ++ lifted v (suc i) (take (suc k) (c .row)))
 
 abbrev pub prism : ℕ → ℕ → Cell → List Cell
 prism v i c = tabulate (length (c .row)) (λ k. prismCell v i k c)
@@ -38,4 +39,4 @@ sweepOf v zero cs = []
 sweepOf v (suc h) cs = sweepOf v h cs ++ level v h cs
 
 abbrev pub topCopy : ℕ → ℕ → List Cell → List Cell
-topCopy v h = map (λ c. cell (c .sign) (lifted v h (c .row)))
+topCopy v h = map (λ c. cell (c .sign) (c .material) (lifted v h (c .row)))

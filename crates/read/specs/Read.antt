@@ -1,6 +1,6 @@
 -- The call read: it takes a file's bytes, writes its cells and its points, and answers the header. Paper, sections 7 and 9.
 --   readInput b cells points     the input: the bytes, and the lengths of the two lent buffers
---   headerOf b            the header's numbers and the step
+--   headerOf b            the header's numbers, its version among them, and the step
 --   readTests             its refusals in order, but for row 15
 --   readRules, readOutcome (the header), readCells and readPoints (the two lent buffers)
 use mathlib.Core.Bool.{not, _||_}
@@ -12,10 +12,10 @@ use lib.Ieee.{Float}
 use Rattle.words.specs.Records.{anyOf}
 use Rattle.rules.specs.Calls.{Rule, refuse, Outcome, accepted, refused, decide, after}
 use Rattle.rules.specs.Numbers.{numberOf}
-use Rattle.solids.specs.Accept.{vertexBeyond, vertexTwice}
+use Rattle.solids.specs.Accept.{vertexBeyond, vertexTwice, badMaterial}
 use Rattle.points.specs.Step.{stepFits}
-use Rattle.file.specs.File.{dimensionOf, axesOf, vertexCountOf, cellCountOf, stepsOf, stepOf, unusedSet, pointCount, fileLength, filePoints}
-use Rattle.file.specs.File.{signBytes, fileCells}
+use Rattle.file.specs.File.{versionOf, dimensionOf, axesOf, vertexCountOf, cellCountOf, stepsOf, stepOf, unusedSet, pointCount, fileLength}
+use Rattle.file.specs.File.{filePoints, signBytes, fileCells}
 use Rattle.file.specs.Tests.{notOurs, numbersOk, floatsOk, cellsLength, fileWords}
 use Rattle.read.specs.declared.Header.{Header}
 use Rattle.read.specs.declared.ReadAnswer.{ReadAnswer}
@@ -39,13 +39,15 @@ readTests =
     ∷ refuse 6 (λ i. anyOf (λ x. not (eqb x 43 || eqb x 45)) (signBytes (i .bytes)))
     ∷ refuse 7 (λ i. vertexBeyond (vertexCountOf (i .bytes)) (fileCells (i .bytes)))
     ∷ refuse 8 (λ i. vertexTwice (fileCells (i .bytes)))
+    ∷ refuse 18 (λ i. badMaterial (fileCells (i .bytes)))
     ∷ []
 
 unfoldable pub readRules : List (Rule ReadInput)
 readRules = readTests ++ refuse 15 (λ i. ltb (i .cellRoom) (cellsLength (i .bytes)) || ltb (i .pointRoom) (pointCount (i .bytes))) ∷ []
 
 unfoldable pub headerOf : List ℕ → Header
-headerOf b = record { d = dimensionOf b; n = axesOf b; v = vertexCountOf b; s = cellCountOf b; h = stepsOf b; step = stepOf b }
+headerOf b =
+    record { version = versionOf b; d = dimensionOf b; n = axesOf b; v = vertexCountOf b; s = cellCountOf b; h = stepsOf b; step = stepOf b }
 
 unfoldable pub readOutcome : ReadInput → Outcome Header
 readOutcome i = decide readRules (λ i. headerOf (i .bytes)) i

@@ -19,8 +19,9 @@ ghost use Rattle.file.specs.File.{headerSize, amountOf, pointCount};
 ghost use Rattle.file.specs.Tests.{cellsLength};
 ghost use Rattle.read.specs.Read.{headerOf, readInput, readRules, readOutcome, readCells, readPoints, headerOutcome};
 
-// The header's numbers and the step.
+// The header's numbers and the step. Files of version 1 have no materials.
 pub struct Header {
+    pub version: usize,
     pub d: usize,
     pub n: usize,
     pub v: usize,
@@ -40,6 +41,7 @@ fn header_of(b: &[u8]) -> Header
 {
     let step = steps::step(b);
     Header {
+        version: numbers::version(b),
         d: numbers::dimension(b),
         n: numbers::axes(b),
         v: numbers::vertex_count(b),
@@ -60,7 +62,7 @@ fn no_room(b: &[u8], room: usize, space: usize) -> bool
     space < numbers::point_count(b)
 }
 
-// The first of rows 1 to 8 and 15 that refuses the bytes, with `room` words and `space` floats lent. Each is tried over
+// The first of rows 1 to 8, 18 and 15 that refuses the bytes, with `room` words and `space` floats lent. Each is tried over
 // the whole file.
 fn first_refusal(b: &[u8], room: usize, space: usize) -> Verdict
     ensures { λ r. ⌜ verdictOf r ≡ firstRefusal readRules (readInput (now (b .entry)) room space) ⌝ }
@@ -89,10 +91,28 @@ fn first_refusal(b: &[u8], room: usize, space: usize) -> Verdict
     if cells::vertex_twice(b) {
         return Verdict::Refuse(Refusal::VertexTwice);
     }
+    if cells::bad_material(b) {
+        return Verdict::Refuse(Refusal::BadMaterial);
+    }
     if no_room(b, room, space) {
         return Verdict::Refuse(Refusal::NoRoom);
     }
     Verdict::Pass
+}
+
+// Reads a file but for its points, whose room is told: its cells go to the buffer, and the header is the answer. A refused
+// call writes nothing.
+pub fn read_cells(bytes: &[u8], cells: &mut [u16], space: usize) -> ReadAnswer
+    ensures answer { λ r. ⌜ headerOutcome r ≡ readOutcome (readInput (now (bytes .entry)) (length (now (cells .entry))) space) ⌝ }
+    ensures cells { λ _. ⌜ now (cells .exit)
+        ≡ readCells (readInput (now (bytes .entry)) (length (now (cells .entry))) space) (now (cells .entry)) ⌝ }
+{
+    let verdict = first_refusal(bytes, cells.len(), space);
+    if let Verdict::Refuse(why) = verdict {
+        return ReadAnswer::Refused(why);
+    }
+    cells::write_cells(bytes, cells);
+    ReadAnswer::Accepted(header_of(bytes))
 }
 
 // Reads a file: its cells go to one buffer, its points to another, and the header is the answer. A refused call writes
@@ -105,11 +125,11 @@ pub fn read(bytes: &[u8], cells: &mut [u16], points: &mut [f64]) -> ReadAnswer
     ensures points { λ r. ⌜ now (points .exit)
         ≡ readPoints (readInput (now (bytes .entry)) (length (now (cells .entry))) (length (now (points .entry)))) (now (points .entry)) ⌝ }
 {
-    let verdict = first_refusal(bytes, cells.len(), points.len());
-    if let Verdict::Refuse(why) = verdict {
-        return ReadAnswer::Refused(why);
+    match read_cells(bytes, cells, points.len()) {
+        ReadAnswer::Accepted(header) => {
+            floats::write_points(bytes, points);
+            ReadAnswer::Accepted(header)
+        }
+        ReadAnswer::Refused(why) => ReadAnswer::Refused(why),
     }
-    cells::write_cells(bytes, cells);
-    floats::write_points(bytes, points);
-    ReadAnswer::Accepted(header_of(bytes))
 }

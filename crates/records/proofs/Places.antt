@@ -1,6 +1,6 @@
 -- What stands where in a record P, and in record p of a table.
 --   row-long, wings-long      a record has d + 1 vertices and d + 1 wings
---   sign-at                   its sign word is its first,
+--   sign-at, material-at      its sign word is its first, its material its second,
 --   vertex-at, wing-at        vertex k is word vertexPlace k, wing a is word wingPlace d a
 --   record-long               record p of a table is a record
 --   entry-at                  entry p of a table is that of record p
@@ -17,13 +17,13 @@ use lib.Seq.{drop-drop, getD-take, getD-drop, length-take-le}
 use Rattle.words.specs.Records.{part}
 use Rattle.words.proofs.Records.{tabulate-at}
 use Rattle.simplex.specs.SignWords.{signOf}
-use Rattle.records.specs.Layout.{Entry, empty, listSize, recordSize, vertexPlace, wingPlace, listLength, tableLength}
+use Rattle.records.specs.Layout.{Entry, empty, listSize, recordSize, materialPlace, vertexPlace, wingPlace, listLength, tableLength}
 use Rattle.records.specs.Layout.{cellIn, entryOf, entryIn, entriesOf}
 use Rattle.records.proofs.Parts.{inside, part-long, default-free, drop-take}
 
 module _ (d : ℕ) (P : List ℕ) (long : length P ≡ recordSize d) where
   pub row-long : length (entryOf d P .cell .row) ≡ suc d
-  row-long = length-drop 1 (take (listSize d) P) ∙ omega (arith, length-take-le (listSize d) P (omega (arith, long)))
+  row-long = length-drop 2 (take (listSize d) P) ∙ omega (arith, length-take-le (listSize d) P (omega (arith, long)))
 
   pub wings-long : length (entryOf d P .wings) ≡ suc d
   wings-long = length-drop (listSize d) P ∙ omega (arith, long)
@@ -31,10 +31,14 @@ module _ (d : ℕ) (P : List ℕ) (long : length P ≡ recordSize d) where
   pub sign-at : entryOf d P .cell .sign ≡ signOf (getD P 0 0)
   sign-at = ap signOf (getD-take (listSize d) P 0 0 (omega arith))
 
+  pub material-at : entryOf d P .cell .material ≡ getD P materialPlace 0
+  material-at = getD-take (listSize d) P materialPlace 0 (omega arith)
+
   pub vertex-at : (k : ℕ) → k ≤ d → getD (entryOf d P .cell .row) k 0 ≡ getD P (vertexPlace k) 0
   vertex-at k h =
-      let one : 1 + k ≡ vertexPlace k = omega arith in
-      getD-drop 1 (take (listSize d) P) k 0 ∙ getD-take (listSize d) P (1 + k) 0 (omega arith) ∙ ap (λ n. getD P n 0) one
+      let two : vertexPlace 0 + k ≡ vertexPlace k = omega arith in
+      getD-drop (vertexPlace 0) (take (listSize d) P) k 0 ∙ getD-take (listSize d) P (vertexPlace 0 + k) 0 (omega arith)
+      ∙ ap (λ n. getD P n 0) two
 
   pub wing-at : (a : ℕ) → a ≤ d → getD (entryOf d P .wings) a empty ≡ getD P (wingPlace d a) 0
   wing-at a h = getD-drop (listSize d) P a empty ∙ default-free P (wingPlace d a) empty 0 (omega (arith, long))
@@ -52,7 +56,7 @@ module _ (d p : ℕ) (ws : List ℕ) where
       ∙ ap (take (suc d)) (drop-drop (vertexPlace 0) (p * listSize d) ws)
 
   pub cell-within : (s : ℕ) → p < s → length ws ≡ listLength d s → p * listSize d + vertexPlace 0 + suc d ≤ length ws
-  cell-within s h e = omega (arith, inside s (listSize d) p (suc d) h (omega arith))
+  cell-within s h e = omega (arith, inside s (listSize d) p (vertexPlace d) h (omega arith))
 
   pub cell-vertex : (j : ℕ) → j ≤ d → getD ws (p * listSize d + vertexPlace 0 + j) 0 ≡ getD (cellIn d ws p .row) j 0
   cell-vertex j h =

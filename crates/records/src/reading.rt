@@ -1,4 +1,5 @@
-// Words of a table, by record: its sign word, vertices and wings.
+// Words of a table, by record: its sign word, material, vertices and wings.
+use crate::sizes::MATERIAL;
 use crate::sizes::VERTICES;
 use crate::sizes::first_wing;
 use crate::sizes::record_size;
@@ -7,7 +8,7 @@ ghost use Prim.Native.Nat.{_≤_, _<_};
 ghost use lib.ListN.{getD};
 ghost use Rattle.words.specs.Records.{part};
 ghost use Rattle.records.specs.Layout.{recordSize};
-ghost use Rattle.records.specs.Inner.Inside.{Inside, signIn, vertexIn, wingIn};
+ghost use Rattle.records.specs.Inner.Inside.{Inside, signIn, materialIn, vertexIn, wingIn};
 
 // Word j of record p.
 fn word(d: usize, s: usize, table: &[u16], p: usize, j: usize) -> u16
@@ -23,6 +24,14 @@ pub fn sign(d: usize, s: usize, table: &[u16], p: usize) -> u16
     ensures { λ r. ⌜ r ≡ signIn d (now (table .entry)) p ⌝ }
 {
     word(d, s, table, p, 0)
+}
+
+// The material of cell p.
+pub fn material(d: usize, s: usize, table: &[u16], p: usize) -> u16
+    requires { ⌜ Inside d s p (now table) ⌝ }
+    ensures { λ r. ⌜ r ≡ materialIn d (now (table .entry)) p ⌝ }
+{
+    word(d, s, table, p, MATERIAL)
 }
 
 // Vertex k of cell p.

@@ -7,29 +7,31 @@ ghost use Rattle.records.specs.Layout.{listSize, recordSize, faceSize, w
 
 // The wing word for no neighbour.
 pub const EMPTY: u16 = 65535;
-// The place of the first vertex in a list cell and in a table record.
-pub const VERTICES: usize = 1;
-// Words of the largest list of cells, and of the largest table: 4,096 cells of dimension 7.
-pub const LIST_ROOM: usize = 36864;
+// The places of the material and of the first vertex in a list cell and in a table record.
+pub const MATERIAL: usize = 1;
 
-pub const TABLE_ROOM: usize = 69632;
+pub const VERTICES: usize = 2;
+// Words of the largest list of cells, and of the largest table: 4,096 cells of dimension 7.
+pub const LIST_ROOM: usize = 40960;
+
+pub const TABLE_ROOM: usize = 73728;
 // Words of a small table; to clear room for the largest takes longer than to wing a few hundred cells.
 pub const SMALL_ROOM: usize = 16384;
 // Words of the largest table that can be swept: 4,096 swept points of dimension 0.
-pub const SOLID_ROOM: usize = 12288;
+pub const SOLID_ROOM: usize = 16384;
 
 pub fn list_size(d: usize) -> usize
     requires { ⌜ d ≤ 255 ⌝ }
     ensures { λ r. ⌜ r ≡ listSize d ⌝ }
 {
-    d + 2
+    d + 3
 }
 
 pub fn record_size(d: usize) -> usize
     requires { ⌜ d ≤ maxDimension ⌝ }
     ensures { λ r. ⌜ r ≡ recordSize d ⌝ }
 {
-    d + d + 3
+    d + d + 4
 }
 
 // The place of the first wing in a table record, which begins with a list cell.
@@ -45,7 +47,7 @@ pub fn face_size(d: usize) -> usize
     requires { ⌜ d ≤ maxDimension ⌝ }
     ensures { λ r. ⌜ r ≡ faceSize d ⌝ }
 {
-    d + 1
+    d + 2
 }
 
 // Words of a list of s cells.

@@ -1,6 +1,6 @@
 -- What an answer means determines it, and how lists of rules join.
 --   refusalOf n               the refusal with the number n
---   numberOf-range            refusals are numbered 1 to 15,
+--   numberOf-range            refusals are numbered 1 to 18,
 --   numberOf-injective        each differently
 --   outcomeOf-injective       so the outcome determines the answer
 --   allNumbered rs            whether every rule has a number from 1 on, so that 0 says that none applies
@@ -27,7 +27,8 @@ use Rattle.rules.proofs.Tests.{and-parts}
 refusals : List Refusal
 refusals =
     R.NotOurs ∷ R.OutsideLimits ∷ R.WrongLength ∷ R.FloatRange ∷ R.StepUnfit ∷ R.BadSign ∷ R.BadVertex ∷ R.VertexTwice
-    ∷ R.CellTwice ∷ R.CrowdedFace ∷ R.EqualSigns ∷ R.SweptTooLarge ∷ R.MovedOutOfRange ∷ R.Unsound ∷ R.NoRoom ∷ []
+    ∷ R.CellTwice ∷ R.CrowdedFace ∷ R.EqualSigns ∷ R.SweptTooLarge ∷ R.MovedOutOfRange ∷ R.Unsound ∷ R.NoRoom
+    ∷ R.BadMaterial ∷ []
 
 numberedAs : ℕ → List Refusal → Refusal
 numberedAs n [] = R.NotOurs
@@ -36,7 +37,7 @@ numberedAs n (r ∷ rs) = cond (eqb (numberOf r) n) r (numberedAs n rs)
 pub refusalOf : ℕ → Refusal
 refusalOf n = numberedAs n refusals
 
-numbered : (r : Refusal) → (refusalOf (numberOf r) ≡ r) × (within 1 15 (numberOf r) ≡ true)
+numbered : (r : Refusal) → (refusalOf (numberOf r) ≡ r) × (within 1 18 (numberOf r) ≡ true)
 unfolding refusals numberedAs refusalOf
 numbered R.NotOurs = (refl, refl)
 numbered R.OutsideLimits = (refl, refl)
@@ -53,11 +54,12 @@ numbered R.SweptTooLarge = (refl, refl)
 numbered R.MovedOutOfRange = (refl, refl)
 numbered R.Unsound = (refl, refl)
 numbered R.NoRoom = (refl, refl)
+numbered R.BadMaterial = (refl, refl)
 
-pub numberOf-range : (r : Refusal) → (1 ≤ numberOf r) × (numberOf r ≤ 15)
+pub numberOf-range : (r : Refusal) → (1 ≤ numberOf r) × (numberOf r ≤ 18)
 numberOf-range r =
-    let parts = and-parts (leb 1 (numberOf r)) (leb (numberOf r) 15) (numbered r .1) in
-    (leb-true 1 (numberOf r) (parts .0), leb-true (numberOf r) 15 (parts .1))
+    let parts = and-parts (leb 1 (numberOf r)) (leb (numberOf r) 18) (numbered r .1) in
+    (leb-true 1 (numberOf r) (parts .0), leb-true (numberOf r) 18 (parts .1))
 
 pub numberOf-injective : (r q : Refusal) → numberOf r ≡ numberOf q → r ≡ q
 numberOf-injective r q e = sym (numbered r .0) ∙ ap refusalOf e ∙ numbered q .0

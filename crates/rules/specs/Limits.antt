@@ -1,7 +1,7 @@
 -- The limits on the numbers that a call is told. Paper, section 9.
 --   maxDimension      d of a table; read and sweep go to maxSource, since a sweep adds one
---   maxAxes, maxVertices, maxCells, maxSteps
---   axesOk, verticesOk, cellsOk, stepsOk      one number is within its limits
+--   maxAxes, maxVertices, maxCells, maxSteps, maxMaterial, maxVersion
+--   axesOk, verticesOk, cellsOk, stepsOk, versionOk      one number is within its limits
 --   sizesOk v s       vertex and cell count are; a solid may be without cells, and only then without vertices
 --   sweptVertices     the vertex count of a sweep: v vertices give (h + 1) v in h steps
 use mathlib.Core.Bool.{Bool, _&&_, _||_}
@@ -26,6 +26,13 @@ maxCells = 4096
 abbrev pub maxSteps : ℕ
 maxSteps = 64
 
+abbrev pub maxMaterial : ℕ
+maxMaterial = 999
+
+-- of a file and of a key: materials come with version 2
+abbrev pub maxVersion : ℕ
+maxVersion = 2
+
 -- lo ≤ x ≤ hi
 abbrev pub within : ℕ → ℕ → ℕ → Bool
 within lo hi x = leb lo x && leb x hi
@@ -44,6 +51,9 @@ axesOk n = within 1 maxAxes n
 
 abbrev pub stepsOk : ℕ → Bool
 stepsOk h = within 1 maxSteps h
+
+abbrev pub versionOk : ℕ → Bool
+versionOk k = within 1 maxVersion k
 
 abbrev pub sweptVertices : ℕ → ℕ → ℕ
 sweptVertices v h = suc h * v

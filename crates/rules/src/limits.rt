@@ -6,7 +6,7 @@ use crate::compare::either;
 use crate::compare::equal;
 ghost use mathlib.Core.Path.{_≡_};
 ghost use Prim.Native.Nat.{_≤_};
-ghost use Rattle.rules.specs.Limits.{axesOk, verticesOk, cellsOk, sizesOk, stepsOk, maxVertices, maxSteps, sweptVertices};
+ghost use Rattle.rules.specs.Limits.{axesOk, verticesOk, cellsOk, sizesOk, stepsOk, versionOk, maxVertices, maxSteps, sweptVertices};
 ghost use Rattle.rules.specs.Shapes.{shapeOf, shapeOk};
 
 // Dimension, vertex count and cell count of a table.
@@ -45,6 +45,12 @@ pub fn steps_ok(h: usize) -> bool
     between(1, Shape::MAX_STEPS, h)
 }
 
+pub fn version_ok(version: usize) -> bool
+    ensures { λ r. ⌜ r ≡ versionOk version ⌝ }
+{
+    between(1, Shape::MAX_VERSION, version)
+}
+
 // A solid may be without cells, and only then without vertices.
 pub fn sizes_ok(v: usize, s: usize) -> bool
     ensures { λ r. ⌜ r ≡ sizesOk v s ⌝ }
@@ -73,6 +79,11 @@ impl Shape {
     pub const MAX_CELLS: usize = 4096;
 
     pub const MAX_STEPS: usize = 64;
+
+    pub const MAX_MATERIAL: u16 = 999;
+
+    // Of a file and of a key: materials come with version 2.
+    pub const MAX_VERSION: usize = 2;
 
     // Whether the numbers make a shape: d is at most top, which is MAX_DIMENSION, or MAX_SOURCE for what is read or
     // swept, and the counts are within the limits.

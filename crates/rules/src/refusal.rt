@@ -18,6 +18,7 @@ pub enum Refusal {
     MovedOutOfRange,
     Unsound,
     NoRoom,
+    BadMaterial,
 }
 
 // The count of what was written, or the refusal.
@@ -52,5 +53,6 @@ pub fn number(r: Refusal) -> u8
         Refusal::MovedOutOfRange => 13,
         Refusal::Unsound => 14,
         Refusal::NoRoom => 15,
+        Refusal::BadMaterial => 18,
     }
 }

@@ -91,7 +91,8 @@ sumChain-le p f g b (c ∷ cs) a h = omega (arith, h (times (c .sign) b) (c .row
 
 pub allFaces-append : (xs ys : List Cell) → allFaces (xs ++ ys) ≡ allFaces xs ++ allFaces ys
 allFaces-append [] ys = refl
-allFaces-append (c ∷ xs) ys = rw (allFaces-append xs ys) (sym (mathlib.Core.List.append-assoc (faces (c .sign) (c .row)) (allFaces xs) (allFaces ys)))
+allFaces-append (c ∷ xs) ys =
+    rw (allFaces-append xs ys) (sym (mathlib.Core.List.append-assoc (faces (c .sign) (c .material) (c .row)) (allFaces xs) (allFaces ys)))
 
 pub sumRows-zero : (cs : List Cell) → sumRows (λ v. 0) cs ≡ 0
 sumRows-zero [] = refl

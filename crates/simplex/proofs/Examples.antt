@@ -7,11 +7,11 @@ use Rattle.simplex.specs.Faces.{face}
 use Rattle.simplex.specs.Order.{ascending, places}
 
 -- the start of a segment is its face with the sign turned over
-pub start-of-a-segment : face 1 (cell true (0 ∷ 1 ∷ [])) ≡ cell false (0 ∷ [])
+pub start-of-a-segment : face 1 (cell true 7 (0 ∷ 1 ∷ [])) ≡ cell false 7 (0 ∷ [])
 start-of-a-segment = refl
 
 -- a segment from vertex 1 to vertex 0
-pub turned-over : ascending (cell true (1 ∷ 0 ∷ [])) ≡ cell false (0 ∷ 1 ∷ [])
+pub turned-over : ascending (cell true 7 (1 ∷ 0 ∷ [])) ≡ cell false 7 (0 ∷ 1 ∷ [])
 turned-over = refl
 
 -- 0, 1 and 2 stood at places 1, 2 and 0

@@ -17,9 +17,9 @@ use Rattle.simplex.proofs.Counts.{All, All-append, cond-le, one-le, cou
 use Rattle.simplex.proofs.Rows.{Long, hits, sameRow-refl}
 use Rattle.simplex.proofs.Sums.{sumChain-faces}
 
-pub total-faces : (w : Row) (s : Bool) (v : Row) → total w (faces s v) ≡ countFaces (hits w) v
-total-faces w s v =
-    sym (sumChain-sumRows (hits w) true (faces s v)) ∙ sumChain-faces (λ c y. hits w y) s true v ∙ sumFaces-countFaces (hits w) (times s true) v
+pub total-faces : (w : Row) (s : Bool) (m : ℕ) (v : Row) → total w (faces s m v) ≡ countFaces (hits w) v
+total-faces w s m v =
+    sym (sumChain-sumRows (hits w) true (faces s m v)) ∙ sumChain-faces (λ c y. hits w y) s m true v ∙ sumFaces-countFaces (hits w) (times s true) v
 
 pub countFaces-face : (g : Row → ℕ) (j : ℕ) (v : Row) → j < length v → g (without j v) ≤ countFaces g v
 countFaces-face g j [] h = absurd (not-suc-le-zero h)
@@ -74,10 +74,10 @@ front-filled : (x : ℕ) (L : List Cell) → All (λ w. filled w ≡ true) (map 
 front-filled x [] = tt
 front-filled x (c ∷ L) = (refl, front-filled x L)
 
-pub faces-filled : (s : Bool) (v : Row) → 2 ≤ length v → All (λ w. filled w ≡ true) (faces s v)
-faces-filled s [] l = tt
-faces-filled s (x ∷ []) l = absurd (omega arith)
-faces-filled s (x ∷ y ∷ v) l = (refl, front-filled x (faces (not s) (y ∷ v)))
+pub faces-filled : (s : Bool) (m : ℕ) (v : Row) → 2 ≤ length v → All (λ w. filled w ≡ true) (faces s m v)
+faces-filled s m [] l = tt
+faces-filled s m (x ∷ []) l = absurd (omega arith)
+faces-filled s m (x ∷ y ∷ v) l = (refl, front-filled x (faces (not s) m (y ∷ v)))
 
 pub facets-same : (cs : List Cell) → All (λ v. 2 ≤ length v) cs → facets cs ≡ allFaces cs
 facets-same cs a = keep-all filled (allFaces cs) (go cs a)
@@ -85,7 +85,8 @@ facets-same cs a = keep-all filled (allFaces cs) (go cs a)
     go : (cs : List Cell) → All (λ v. 2 ≤ length v) cs → All (λ w. filled w ≡ true) (allFaces cs)
     go [] a = tt
     go (c ∷ cs) a =
-        All-append (λ w. filled w ≡ true) (faces (c .sign) (c .row)) (allFaces cs) (faces-filled (c .sign) (c .row) (a .0)) (go cs (a .1))
+        All-append (λ w. filled w ≡ true) (faces (c .sign) (c .material) (c .row)) (allFaces cs)
+        (faces-filled (c .sign) (c .material) (c .row) (a .0)) (go cs (a .1))
 
 pub keep-append : (q : Cell → Bool) (xs ys : List Cell) → keep q (xs ++ ys) ≡ keep q xs ++ keep q ys
 keep-append q [] ys = refl
@@ -112,7 +113,7 @@ pub facets-none : (cs : List Cell) → All (Long 1) cs → facets cs ≡ []
 facets-none [] long = refl
 facets-none (c ∷ cs) long = go (c .row) (long .0) (facets-none cs (long .1))
   where
-    go : (w : Row) → length w ≡ 1 → facets cs ≡ [] → keep (λ c. filled (c .row)) (faces (c .sign) w ++ allFaces cs) ≡ []
+    go : (w : Row) → length w ≡ 1 → facets cs ≡ [] → keep (λ c. filled (c .row)) (faces (c .sign) (c .material) w ++ allFaces cs) ≡ []
     go [] e k = absurd (omega arith)
     go (x ∷ []) e k = k
     go (x ∷ (y ∷ w)) e k = absurd (omega arith)
@@ -139,13 +140,14 @@ front-long : (n x : ℕ) (L : List Cell) → All (Long n) L → All (Long (suc n
 front-long n x [] a = tt
 front-long n x (c ∷ L) a = (ap suc (a .0), front-long n x L (a .1))
 
-pub faces-long : (n : ℕ) (s : Bool) (w : Row) → length w ≡ suc n → All (Long n) (faces s w)
-faces-long n s [] e = absurd (omega arith)
-faces-long zero s (x ∷ []) e = (refl, tt)
-faces-long zero s (x ∷ (y ∷ w)) e = absurd (omega arith)
-faces-long (suc n) s (x ∷ w) e = (omega arith, front-long n x (faces (not s) w) (faces-long n (not s) w (omega arith)))
+pub faces-long : (n : ℕ) (s : Bool) (m : ℕ) (w : Row) → length w ≡ suc n → All (Long n) (faces s m w)
+faces-long n s m [] e = absurd (omega arith)
+faces-long zero s m (x ∷ []) e = (refl, tt)
+faces-long zero s m (x ∷ (y ∷ w)) e = absurd (omega arith)
+faces-long (suc n) s m (x ∷ w) e = (omega arith, front-long n x (faces (not s) m w) (faces-long n (not s) m w (omega arith)))
 
 pub allFaces-long : (n : ℕ) (cs : List Cell) → All (Long (suc n)) cs → All (Long n) (allFaces cs)
 allFaces-long n [] a = tt
 allFaces-long n (c ∷ cs) a =
-    All-append (Long n) (faces (c .sign) (c .row)) (allFaces cs) (faces-long n (c .sign) (c .row) (a .0)) (allFaces-long n cs (a .1))
+    All-append (Long n) (faces (c .sign) (c .material) (c .row)) (allFaces cs)
+    (faces-long n (c .sign) (c .material) (c .row) (a .0)) (allFaces-long n cs (a .1))

@@ -3,7 +3,7 @@
 --   Up Insert Sorting Swaps Ascending   rows that ascend, sorting, exchanges of neighbours, orientation
 --   Places Removed Faces                where each vertex of the sorted row stood; a row less a vertex, sorted; the faces by position
 --   Sums Counts Cancel FaceCounts       sums over signed cells and over faces; faces that cancel
---   Chains                              lists compared, list order aside
+--   Chains Materials                    lists compared, list order aside; the cells of one material
 --   Pairs Sunk Sinking                  one entry sinks to its place
 --   Front Eight Ordered                 the first entries of a row of eight put in order
 --   Examples                            two signs and the places of a row, computed
@@ -23,6 +23,7 @@ pub mod Counts
 pub mod Cancel
 pub mod FaceCounts
 pub mod Chains
+pub mod Materials
 pub mod Pairs
 pub mod Sunk
 pub mod Sinking

@@ -36,16 +36,21 @@ sumChain-front : (f : Functional) (b : Bool) (x : ℕ) (cs : List Cell) → sumC
 sumChain-front f b x [] = refl
 sumChain-front f b x (c ∷ cs) = omega (arith, sumChain-front f b x cs)
 
-pub sumChain-faces : (f : Functional) (s b : Bool) (v : Row) → sumChain f b (faces s v) ≡ sumFaces f (times s b) v
-sumChain-faces f s b [] = refl
-sumChain-faces f s b (x ∷ w) =
-    ap (λ n. f (times s b) w + n) (sumChain-front f b x (faces (not s) w)
-    ∙ sumChain-faces (λ c y. f c (x ∷ y)) (not s) b w ∙ ap (λ c. sumFaces (λ c y. f c (x ∷ y)) c w) (times-not s b))
+pub sumChain-faces : (f : Functional) (s : Bool) (m : ℕ) (b : Bool) (v : Row) → sumChain f b (faces s m v) ≡ sumFaces f (times s b) v
+sumChain-faces f s m b [] = refl
+sumChain-faces f s m b (x ∷ w) =
+    ap (λ n. f (times s b) w + n) (sumChain-front f b x (faces (not s) m w)
+    ∙ sumChain-faces (λ c y. f c (x ∷ y)) (not s) m b w ∙ ap (λ c. sumFaces (λ c y. f c (x ∷ y)) c w) (times-not s b))
 
 pub sumChain-allFaces : (f : Functional) (b : Bool) (cs : List Cell) → sumChain f b (allFaces cs) ≡ sumChain (sumFaces f) b cs
 sumChain-allFaces f b [] = refl
 sumChain-allFaces f b (c ∷ cs) =
-    omega (arith, sumChain-append f b (faces (c .sign) (c .row)) (allFaces cs), sumChain-faces f (c .sign) b (c .row), sumChain-allFaces f b cs)
+    omega (
+      arith,
+      sumChain-append f b (faces (c .sign) (c .material) (c .row)) (allFaces cs),
+      sumChain-faces f (c .sign) (c .material) b (c .row),
+      sumChain-allFaces f b cs,
+    )
 
 pub sumChain-not : (f : Functional) (b : Bool) (cs : List Cell) → sumChain (λ c y. f (not c) y) b cs ≡ sumChain f (not b) cs
 sumChain-not f b [] = refl

@@ -1,7 +1,8 @@
--- A cell: a sign and a row of vertex numbers. A cell of dimension d has d + 1 vertices. Paper, section 2.
+-- A cell: a sign, a material and a row of vertex numbers. A cell of dimension d has d + 1 vertices. Paper, section 2.
 --   Sign              true is plus, false is minus
 --   Row               vertex numbers; position i counts from 0
---   Cell              sign and row
+--   Cell              sign, material (a number) and row
+--   noCell            what stands for a cell past the end of a list
 --   times s t         the product of two signs
 --   alternating n     (-1)^n
 --   sameRow v w       whether two rows have the same vertices in the same places
@@ -20,10 +21,14 @@ Row = List ℕ
 
 pub record Cell : Type 0 where
   pub sign : Sign
+  pub material : ℕ
   pub row : Row
 
-abbrev pub cell : Sign → Row → Cell
-cell s w = record { sign = s; row = w }
+abbrev pub cell : Sign → ℕ → Row → Cell
+cell s m w = record { sign = s; material = m; row = w }
+
+abbrev pub noCell : Cell
+noCell = cell true 0 []
 
 abbrev pub times : Sign → Sign → Sign
 times true t = t

@@ -6,11 +6,12 @@ use mathlib.Core.Bool.{Bool, false, not, true}
 use mathlib.Core.List.{List, [], map, _∷_}
 use native.Mathlib.Omega.{arith}
 use lib.ListN.{getD, length, length-drop, length-map}
-use lib.Dec.{eqb, leb}
-use borrow.Author.Tests.{eqb-false, eqb-true}
+use lib.Dec.{eqb, leb, ltb}
+use borrow.Author.Tests.{eqb-false, eqb-true, le-ltb, ltb-false}
 use mathlib.Core.Logic.{_≢_}
 use Rattle.words.specs.Records.{anyOf, concat, part, tabulate}
 use Rattle.words.proofs.Records.{tabulate-ext, tabulate-length}
+use Rattle.rules.specs.Limits.{maxMaterial}
 use Rattle.rules.specs.Calls.{firstRefusal}
 use Rattle.rules.proofs.Accepting.{passes as passes-each}
 use Rattle.simplex.specs.Cell.{Cell, Row, Sign}
@@ -26,8 +27,8 @@ use Rattle.simplex.proofs.Rows.{Below, Filled, Good, Long}
 use Rattle.simplex.proofs.Ascending.{ascending-of-asc}
 use Rattle.simplex.proofs.Sorting.{sorted-ascends, sorted-length}
 use Rattle.simplex.proofs.Sums.{plusOn, sumChain}
-use Rattle.solids.specs.Accept.{Listed, acceptable, badSign, cellTwice, crowdedFace, equalSigns, listedCells, repeats, solidOf, solidRules}
-use Rattle.solids.specs.Accept.{vertexBeyond, vertexTwice}
+use Rattle.solids.specs.Accept.{Listed, acceptable, badMaterial, badSign, cellTwice, crowdedFace, equalSigns, listedCells}
+use Rattle.solids.specs.Accept.{repeats, solidOf, solidRules, vertexBeyond, vertexTwice}
 use Rattle.simplex.specs.SignWords.{signWord}
 use Rattle.records.specs.Layout.{cellIn, cellWords, cellsOf, listSize, listLength}
 use Rattle.records.proofs.Parts.{part-within}
@@ -41,6 +42,7 @@ pub record Passed (l : Listed) : Type 0 where
   pub sign : badSign l ≡ false
   pub vertex : vertexBeyond (l .v) (listedCells l) ≡ false
   pub twice : vertexTwice (listedCells l) ≡ false
+  pub material : badMaterial (listedCells l) ≡ false
   pub cell : cellTwice (solidOf l) ≡ false
   pub crowded : crowdedFace (facets (solidOf l)) ≡ false
   pub equal : equalSigns (facets (solidOf l)) ≡ false
@@ -49,16 +51,16 @@ pub passed : (l : Listed) → acceptable l ≡ true → Passed l
 unfolding acceptable solidRules
 passed l e =
     let fine = passes-each solidRules l refl (sym (eqb-true (firstRefusal solidRules l) 0 e)) in
-    record { sign = fine 6; vertex = fine 7; twice = fine 8; cell = fine 9; crowded = fine 10; equal = fine 11 }
+    record { sign = fine 6; vertex = fine 7; twice = fine 8; material = fine 18; cell = fine 9; crowded = fine 10; equal = fine 11 }
 
 pub passes : (l : Listed) → Passed l → acceptable l ≡ true
 unfolding acceptable solidRules
-passes l p = rw (p .sign, p .vertex, p .twice, p .cell, p .crowded, p .equal) refl
+passes l p = rw (p .sign, p .vertex, p .twice, p .material, p .cell, p .crowded, p .equal) refl
 
 -- rows of records
 listed-long : (d s : ℕ) (ws : List ℕ) → length ws ≡ s * listSize d → All (Long (suc d)) (cellsOf d s ws)
 listed-long d s ws e = all-tabulated (Long (suc d)) s (cellIn d ws)
-    (λ p h. rw (length-drop 1 (part (listSize d) p ws), part-within (listSize d) p s ws h (omega arith)) (omega arith))
+    (λ p h. rw (length-drop 2 (part (listSize d) p ws), part-within (listSize d) p s ws h (omega arith)) (omega arith))
 
 -- what holds of the rows holds of the sorted rows
 all-sorted : (R Q : Row → Type 0) (cs : List Cell) → ((w : Row) → R w → Q (sorted w)) → All R cs → All Q (map ascending cs)
@@ -87,6 +89,16 @@ pub solid-long : (l : Listed) → length (l .words) ≡ listLength (l .d) (l .s)
 solid-long l e =
     all-sorted (Long (suc (l .d))) (Long (suc (l .d))) (listedCells l) (λ w r. sorted-length w ∙ r) (listed-long (l .d) (l .s) (l .words) e)
 
+-- putting a cell in ascending order leaves its material
+all-made : (cs : List Cell) → Each (λ c. ltb maxMaterial (c .material) ≡ false) cs →
+    Each (λ c. c .material ≤ maxMaterial) (map ascending cs)
+all-made [] a = tt
+all-made (c ∷ cs) a = (ltb-false maxMaterial (c .material) (a .0), all-made cs (a .1))
+
+made-all : (cs : List Cell) → Each (λ c. c .material ≤ maxMaterial) cs → Each (λ c. ltb maxMaterial (c .material) ≡ false) cs
+made-all [] a = tt
+made-all (c ∷ cs) a = (le-ltb maxMaterial (c .material) (a .0), made-all cs (a .1))
+
 -- accepted cells are a solid
 pub accepted-solid : (l : Listed) → length (l .words) ≡ l .s * listSize (l .d) →
     acceptable l ≡ true → Solid (l .v) (solidOf l) × All (Long (suc (l .d))) (solidOf l)
@@ -101,6 +113,7 @@ accepted-solid l e k = (
     distinct = few-of 1 (solidOf l) (p .cell);
     meet = few-of 2 (facets (solidOf l)) (p .crowded);
     paired = paired;
+    materials = all-made cells (none-of (λ c. ltb maxMaterial (c .material)) cells (p .material));
   },
   solid-long l e,
 )
@@ -157,6 +170,7 @@ solid-accepted d v cs solid long =
       vertex = ap (vertexBeyond v) (cells-back d cs long) ∙ below-all v cs (All-map (Good v) (Below v) cs (λ w g. g .1) (solid .rows));
       twice = ap vertexTwice (cells-back d cs long)
           ∙ of-none (λ c. repeats (c .row)) cs (row-each Asc (λ c. repeats (c .row) ≡ false) cs (λ c a. asc-once (c .row) a) (solid .asc));
+      material = ap badMaterial (cells-back d cs long) ∙ of-none (λ c. ltb maxMaterial (c .material)) cs (made-all cs (solid .materials));
       cell = ap cellTwice back ∙ of-few 1 cs (solid .distinct) cs;
       crowded = ap (λ xs. crowdedFace (facets xs)) back ∙ of-few 2 F (solid .meet) F;
       equal = ap (λ xs. equalSigns (facets xs)) back ∙ once-signs F signs F;

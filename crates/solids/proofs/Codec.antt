@@ -10,7 +10,7 @@ use lib.ListN.{getD, length, length-append, length-map, take}
 use native.Mathlib.Nat.{le-of-suc-le-suc, not-suc-le-zero}
 use Rattle.words.specs.Records.{concat, part, tabulate}
 use Rattle.words.proofs.Records.{EachLong, concat-length, part-concat, tabulate-ext, tabulate-getD, tabulate-length}
-use Rattle.simplex.specs.Cell.{Cell, Sign, cell}
+use Rattle.simplex.specs.Cell.{Cell, Sign, cell, noCell}
 use Rattle.simplex.specs.Faces.{without}
 use Rattle.simplex.proofs.Counts.{All}
 use Rattle.simplex.proofs.Rows.{Long}
@@ -21,34 +21,39 @@ use Rattle.solids.specs.Table.{entriesFrom, entryAt}
 use Rattle.solids.specs.Wings.{neighbour}
 use Rattle.solids.proofs.Tables.{cellAt, wings-tabulated}
 
-sign-back : (s : Sign) → signOf (signWord s) ≡ s
+pub sign-back : (s : Sign) → signOf (signWord s) ≡ s
 sign-back true = refl
 sign-back false = refl
 
 pub cell-back : (c : Cell) → cellOf (cellWords c) ≡ c
-cell-back c = ap (λ s. cell s (c .row)) (sign-back (c .sign))
+cell-back c = ap (λ s. cell s (c .material) (c .row)) (sign-back (c .sign))
 
 -- the words of cells of one length are records
 words-long : (d : ℕ) (cs : List Cell) → All (Long (suc d)) cs → EachLong (listSize d) (map cellWords cs)
 words-long d [] a = tt
 words-long d (c ∷ cs) a = (omega (arith, a .0), words-long d cs (a .1))
 
--- record p of a list's words
-pub list-record : (d : ℕ) (cs : List Cell) (p : ℕ) → All (Long (suc d)) cs → p < length cs →
-    part (listSize d) p (concat (map cellWords cs)) ≡ cellWords (cellAt cs p)
-list-record d cs p long h = part-concat (listSize d) p (map cellWords cs) (words-long d cs long) (rw (length-map cs cellWords) h) ∙ at cs p h
+-- record p of the words of cells, n words each
+pub words-record : (n : ℕ) (f : Cell → List ℕ) (cs : List Cell) (p : ℕ) → EachLong n (map f cs) → p < length cs →
+    part n p (concat (map f cs)) ≡ f (cellAt cs p)
+words-record n f cs p long h = part-concat n p (map f cs) long (rw (length-map cs f) h) ∙ at cs p h
   where
-    at : (cs : List Cell) (p : ℕ) → p < length cs → getD (map cellWords cs) p [] ≡ cellWords (cellAt cs p)
+    at : (cs : List Cell) (p : ℕ) → p < length cs → getD (map f cs) p [] ≡ f (cellAt cs p)
     at [] p h = absurd (not-suc-le-zero h)
     at (c ∷ cs) zero h = refl
     at (c ∷ cs) (suc p) h = at cs p (le-of-suc-le-suc h)
+
+-- record p of a list's words
+pub list-record : (d : ℕ) (cs : List Cell) (p : ℕ) → All (Long (suc d)) cs → p < length cs →
+    part (listSize d) p (concat (map cellWords cs)) ≡ cellWords (cellAt cs p)
+list-record d cs p long h = words-record (listSize d) cellWords cs p (words-long d cs long) h
 
 -- a list's words give the list back
 pub cells-back : (d : ℕ) (cs : List Cell) → All (Long (suc d)) cs → cellsOf d (length cs) (concat (map cellWords cs)) ≡ cs
 cells-back d cs long =
     tabulate-ext (length cs) (cellIn d (concat (map cellWords cs))) (λ p. cellAt cs p)
     (λ p h. ap cellOf (list-record d cs p long h) ∙ cell-back (cellAt cs p))
-    ∙ tabulate-getD (cell true []) cs
+    ∙ tabulate-getD noCell cs
 
 pub list-length : (d : ℕ) (cs : List Cell) → All (Long (suc d)) cs → length (concat (map cellWords cs)) ≡ length cs * listSize d
 list-length d cs long = concat-length (listSize d) (map cellWords cs) (words-long d cs long) ∙ ap (λ n. n * listSize d) (length-map cs cellWords)
@@ -91,7 +96,7 @@ pub entries-back : (d : ℕ) (es : List Entry) → Sized d es → entriesOf d (l
 entries-back d es a =
     tabulate-ext (length es) (λ p. entryOf d (part (recordSize d) p (tableWords es))) (λ p. entryAt es p)
     (λ p h. ap (entryOf d) (record-at d es p a h) ∙ entry-back d (entryAt es p) (sized-at d es p a h))
-    ∙ tabulate-getD (record { cell = cell true []; wings = [] }) es
+    ∙ tabulate-getD (record { cell = noCell; wings = [] }) es
 
 -- a table without its wings is the list of its cells
 pub own-list : (d : ℕ) (es : List Entry) → Sized d es →

@@ -27,16 +27,17 @@ abbrev pub faceIn : Row → Row → ℕ
 faceIn w v = one (hasFace w v)
 
 pub faceIn-le : (w v : Row) → faceIn w v ≤ countFaces (hits w) v
-faceIn-le w v = omega (arith, total-faces w true v, go (ltb 0 (total w (faces true v))) refl, one-and (filled w) (ltb 0 (total w (faces true v))))
+faceIn-le w v =
+    omega (arith, total-faces w true 0 v, go (ltb 0 (total w (faces true 0 v))) refl, one-and (filled w) (ltb 0 (total w (faces true 0 v))))
   where
-    go : (t : Bool) → ltb 0 (total w (faces true v)) ≡ t → one t ≤ total w (faces true v)
-    go true e = omega (arith, ltb-true 0 (total w (faces true v)) e)
+    go : (t : Bool) → ltb 0 (total w (faces true 0 v)) ≡ t → one t ≤ total w (faces true 0 v)
+    go true e = omega (arith, ltb-true 0 (total w (faces true 0 v)) e)
     go false e = omega arith
 
 pub has-face : (j : ℕ) (v : Row) → j < length v → 2 ≤ length v → hasFace (without j v) v ≡ true
 has-face j v h l =
-    rw (without-filled j v h l) (lt-ltb 0 (total (without j v) (faces true v))
-    (omega (arith, total-faces (without j v) true v, countFaces-face (hits (without j v)) j v h, ap one (sameRow-refl (without j v)))))
+    rw (without-filled j v h l) (lt-ltb 0 (total (without j v) (faces true 0 v))
+    (omega (arith, total-faces (without j v) true 0 v, countFaces-face (hits (without j v)) j v h, ap one (sameRow-refl (without j v)))))
 
 -- how many cells other than p have the face
 abbrev pub othersWith : ℕ → ℕ → Row → List Cell → ℕ
@@ -124,15 +125,15 @@ has-filled (x ∷ w) v e = refl
 pub has-is : (w v : Row) → hasFace w v ≡ true → (b : ℕ) × (b < length v) × (without b v ≡ w)
 has-is w v h =
     let r = countFaces-find (λ y. sameRow y w) v
-    (omega (arith, ltb-true 0 (total w (faces true v)) (and-right (filled w) (ltb 0 (total w (faces true v))) h), total-faces w true v)) in
+    (omega (arith, ltb-true 0 (total w (faces true 0 v)) (and-right (filled w) (ltb 0 (total w (faces true 0 v))) h), total-faces w true 0 v)) in
     (r .0, r .1, sameRow-true (without (r .0) v) w (r .2))
 
 pub countFaces-faceIn : (w v : Row) → filled w ≡ true → Asc v → countFaces (hits w) v ≤ faceIn w v
-countFaces-faceIn w v n s = rw n (go (ltb 0 (total w (faces true v))) refl)
+countFaces-faceIn w v n s = rw n (go (ltb 0 (total w (faces true 0 v))) refl)
   where
-    go : (t : Bool) → ltb 0 (total w (faces true v)) ≡ t → countFaces (hits w) v ≤ one t
+    go : (t : Bool) → ltb 0 (total w (faces true 0 v)) ≡ t → countFaces (hits w) v ≤ one t
     go true e = countFaces-once w v s
-    go false e = omega (arith, ltb-false 0 (total w (faces true v)) e, total-faces w true v)
+    go false e = omega (arith, ltb-false 0 (total w (faces true 0 v)) e, total-faces w true 0 v)
 
 pub total-faceIn : (w : Row) (cs : List Cell) → filled w ≡ true → All Asc cs → total w (allFaces cs) ≤ sumRows (faceIn w) cs
 total-faceIn w cs n a =

@@ -1,5 +1,6 @@
 -- What an accepted list of cells is.
---   Solid nv cs       on nv vertices: rows ascend, none stands twice, and a face belongs to at most two cells, then with opposite signs
+--   Solid nv cs       on nv vertices: rows ascend, none stands twice, a face belongs to at most two cells, then with opposite signs,
+--                     and materials are within their limit
 --   rowAt cs p        the row of cell p
 use mathlib.Core.Bool.{true}
 use mathlib.Core.List.{List, [], _∷_}
@@ -8,12 +9,14 @@ use native.Mathlib.Omega.{arith}
 use native.Mathlib.Nat.{le-of-suc-le-suc, not-suc-le-zero}
 use lib.ListN.{length, getD}
 use Rattle.words.specs.Records.{tabulate}
-use Rattle.simplex.specs.Cell.{Cell, Row, cell}
+use Rattle.rules.specs.Limits.{maxMaterial}
+use Rattle.simplex.specs.Cell.{Cell, Row, noCell}
 use Rattle.simplex.specs.Chain.{total}
 use Rattle.simplex.specs.Faces.{facets}
 use Rattle.simplex.specs.Sort.{Asc}
 use Rattle.simplex.proofs.Cancel.{Paired}
 use Rattle.simplex.proofs.Counts.{All}
+use Rattle.simplex.proofs.Insert.{Each}
 use Rattle.simplex.proofs.Rows.{Good}
 
 pub record Solid (nv : ℕ) (cs : List Cell) : Type 0 where
@@ -22,9 +25,10 @@ pub record Solid (nv : ℕ) (cs : List Cell) : Type 0 where
   pub distinct : (r : Row) → total r cs ≤ 1
   pub meet : (r : Row) → total r (facets cs) ≤ 2
   pub paired : Paired (facets cs)
+  pub materials : Each (λ c. c .material ≤ maxMaterial) cs
 
 abbrev pub rowAt : List Cell → ℕ → Row
-rowAt cs n = (getD cs n (cell true [])) .row
+rowAt cs n = (getD cs n noCell) .row
 
 pub all-at : (R : Row → Type 0) (cs : List Cell) → All R cs → (p : ℕ) → p < length cs → R (rowAt cs p)
 all-at R [] a p h = absurd (not-suc-le-zero h)

@@ -12,7 +12,7 @@ use lib.Dec.{eqb}
 use borrow.Author.Tests.{eqb-false, eqb-true}
 use Rattle.words.specs.Records.{tabulate}
 use Rattle.words.proofs.Records.{tabulate-at, tabulate-length}
-use Rattle.simplex.specs.Cell.{Cell, Row, Sign, cell}
+use Rattle.simplex.specs.Cell.{Cell, Row, Sign, cell, noCell}
 use Rattle.simplex.specs.Faces.{faces, prefixed, without}
 use Rattle.simplex.proofs.Counts.{All}
 use Rattle.simplex.proofs.Rows.{Long}
@@ -24,7 +24,7 @@ use Rattle.solids.proofs.Neighbours.{Wing, has-is, neighbour-is}
 use Rattle.solids.proofs.Solid.{all-at, rowAt}
 
 abbrev pub cellAt : List Cell → ℕ → Cell
-cellAt cs p = getD cs p (cell true [])
+cellAt cs p = getD cs p noCell
 
 pub entries-length : (all : List Cell) (p : ℕ) (cs : List Cell) → length (entriesFrom all p cs) ≡ length cs
 entries-length all p [] = refl
@@ -46,9 +46,10 @@ table-cells all p [] = refl
 table-cells all p (c ∷ cs) = ap {B = List Cell} (λ r. c ∷ r) (table-cells all (suc p) cs)
 
 -- something of each face of a cell, by position
-pub map-faces : (g : Row → ℕ) (s : Sign) (v : Row) → map (λ (f : Cell). g (f .row)) (faces s v) ≡ tabulate (length v) (λ j. g (without j v))
-map-faces g s [] = refl
-map-faces g s (x ∷ w) = ap {B = List ℕ} (λ r. g w ∷ r) (shift (faces (not s) w) ∙ map-faces (λ y. g (x ∷ y)) (not s) w)
+pub map-faces : (g : Row → ℕ) (s : Sign) (m : ℕ) (v : Row) →
+    map (λ (f : Cell). g (f .row)) (faces s m v) ≡ tabulate (length v) (λ j. g (without j v))
+map-faces g s m [] = refl
+map-faces g s m (x ∷ w) = ap {B = List ℕ} (λ r. g w ∷ r) (shift (faces (not s) m w) ∙ map-faces (λ y. g (x ∷ y)) (not s) m w)
   where
     shift : (L : List Cell) → map (λ (f : Cell). g (f .row)) (map (prefixed x) L) ≡ map (λ (f : Cell). g (x ∷ f .row)) L
     shift [] = refl
@@ -57,7 +58,7 @@ map-faces g s (x ∷ w) = ap {B = List ℕ} (λ r. g w ∷ r) (shift (faces (not
 -- the wings of a cell, by position
 pub wings-tabulated : (cs : List Cell) (p : ℕ) (c : Cell) →
     wingsOf cs p c ≡ tabulate (length (c .row)) (λ j. neighbour p (without j (c .row)) cs)
-wings-tabulated cs p c = map-faces (λ w. neighbour p w cs) (c .sign) (c .row)
+wings-tabulated cs p c = map-faces (λ w. neighbour p w cs) (c .sign) (c .material) (c .row)
 
 pub without-none : (a : ℕ) (w : Row) → length w ≤ a → without a w ≡ w
 without-none a [] h = refl
@@ -105,5 +106,5 @@ table-wing n cs long p a = go (decLt p (length cs))
     go (no hp) =
         let k : length cs ≤ p = omega arith in
         ap (λ (e : Entry). getD (e .wings) a empty)
-        (List·getD-eq-default (tableOf cs) (record { cell = cell true []; wings = [] }) (rw (entries-length cs 0 cs) k))
-        ∙ sym (ap (λ (c : Cell). neighbour p (without a (c .row)) cs) (List·getD-eq-default cs (cell true []) k) ∙ neighbour-of-nothing p 0 cs)
+        (List·getD-eq-default (tableOf cs) (record { cell = noCell; wings = [] }) (rw (entries-length cs 0 cs) k))
+        ∙ sym (ap (λ (c : Cell). neighbour p (without a (c .row)) cs) (List·getD-eq-default cs noCell k) ∙ neighbour-of-nothing p 0 cs)

@@ -44,7 +44,7 @@ module _ (cs : List Cell) (p : ℕ) (c : Cell) where
   ascendingWing i = neighbour p (without i (sorted (c .row))) cs
 
   pub uploaded-tabulated : uploadedWings cs p c ≡ tabulate (length (c .row)) lacking
-  uploaded-tabulated = map-faces (λ w. neighbour p (sorted w) cs) (c .sign) (c .row)
+  uploaded-tabulated = map-faces (λ w. neighbour p (sorted w) cs) (c .sign) (c .material) (c .row)
 
   ascending-tabulated : wingsOf cs p (ascending c) ≡ tabulate (length (c .row)) ascendingWing
   ascending-tabulated = wings-tabulated cs p (ascending c) ∙ ap (λ n. tabulate n ascendingWing) (sorted-length (c .row))

@@ -1,7 +1,7 @@
--- What refuses a list of cells: rows 6 to 11 of the refusal table. Paper, sections 2 and 9.
+-- What refuses a list of cells: rows 6 to 8, 18 and 9 to 11 of the refusal table, in this order. Paper, sections 2 and 9.
 --   Listed            a list of cells as words, with its dimension d, vertex count v and cell count s
 --   solidOf l         its cells in ascending order
---   solidRules         the six rows
+--   solidRules        the seven rows
 --   acceptable l      no row applies
 use mathlib.Core.Bool.{Bool, false, not, _||_}
 use mathlib.Core.List.{List, [], _∷_, map}
@@ -9,6 +9,7 @@ use Prim.Native.Nat.{ℕ}
 use lib.Dec.{eqb, leb, ltb}
 use lib.ListN.{getD}
 use Rattle.words.specs.Records.{tabulate, part, anyOf}
+use Rattle.rules.specs.Limits.{maxMaterial}
 use Rattle.rules.specs.Calls.{Rule, refuse, firstRefusal}
 use Rattle.simplex.specs.Cell.{Row, Cell}
 use Rattle.simplex.specs.Order.{ascending}
@@ -44,6 +45,10 @@ repeats (x ∷ w) = anyOf (eqb x) w || repeats w
 abbrev pub vertexTwice : List Cell → Bool
 vertexTwice cs = anyOf (λ c. repeats (c .row)) cs
 
+-- 18: a material above the largest
+abbrev pub badMaterial : List Cell → Bool
+badMaterial cs = anyOf (λ c. ltb maxMaterial (c .material)) cs
+
 -- 9: two cells on the same vertices
 abbrev pub cellTwice : List Cell → Bool
 cellTwice cs = anyOf (λ c. ltb 1 (total (c .row) cs)) cs
@@ -61,6 +66,7 @@ solidRules =
     refuse 6 badSign
     ∷ refuse 7 (λ l. vertexBeyond (l .v) (listedCells l))
     ∷ refuse 8 (λ l. vertexTwice (listedCells l))
+    ∷ refuse 18 (λ l. badMaterial (listedCells l))
     ∷ refuse 9 (λ l. cellTwice (solidOf l))
     ∷ refuse 10 (λ l. crowdedFace (facets (solidOf l)))
     ∷ refuse 11 (λ l. equalSigns (facets (solidOf l)))

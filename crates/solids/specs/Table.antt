@@ -12,7 +12,7 @@ use lib.Dec.{eqb}
 use lib.ListN.{length, getD}
 use Rattle.rules.specs.Limits.{maxDimension}
 use Rattle.rules.specs.Shapes.{shapeOk}
-use Rattle.simplex.specs.Cell.{Cell, cell, sameRow}
+use Rattle.simplex.specs.Cell.{Cell, cell, sameRow, noCell}
 use Rattle.records.specs.Layout.{empty, Entry, tableLength, tableWords, ownList}
 use Rattle.solids.specs.Accept.{Listed, solidOf, acceptable}
 use Rattle.solids.specs.Wings.{wingsOf}
@@ -26,7 +26,7 @@ abbrev pub tableOf : List Cell → List Entry
 tableOf cs = entriesFrom cs 0 cs
 
 abbrev pub entryAt : List Entry → ℕ → Entry
-entryAt es p = getD es p (record { cell = cell true []; wings = [] })
+entryAt es p = getD es p (record { cell = noCell; wings = [] })
 
 abbrev pub wingAt : List Entry → ℕ → ℕ → ℕ
 wingAt es p a = getD (entryAt es p .wings) a empty

@@ -13,7 +13,7 @@ use Rattle.solids.specs.Accept.{Listed, solidOf}
 use Rattle.solids.specs.Wings.{neighbour}
 
 abbrev pub uploadedWings : List Cell → ℕ → Cell → List ℕ
-uploadedWings cs p c = map (λ f. neighbour p (sorted (f .row)) cs) (faces (c .sign) (c .row))
+uploadedWings cs p c = map (λ f. neighbour p (sorted (f .row)) cs) (faces (c .sign) (c .material) (c .row))
 
 unfoldable pub uploadedOfList : Listed → List ℕ
 uploadedOfList l = concat (tabulate (l .s) (λ p. uploadedWings (solidOf l) p (cellIn (l .d) (l .words) p)))

@@ -12,7 +12,7 @@ use Rattle.simplex.specs.Faces.{faces}
 use Rattle.simplex.specs.Chain.{total}
 
 abbrev pub hasFace : Row → Row → Bool
-hasFace w v = filled w && ltb 0 (total w (faces true v))
+hasFace w v = filled w && ltb 0 (total w (faces true 0 v))
 
 -- the same, with the cells of the list numbered from n
 abbrev pub neighbourFrom : ℕ → ℕ → Row → List Cell → ℕ
@@ -23,4 +23,4 @@ abbrev pub neighbour : ℕ → Row → List Cell → ℕ
 neighbour p w cs = neighbourFrom p 0 w cs
 
 abbrev pub wingsOf : List Cell → ℕ → Cell → List ℕ
-wingsOf cs p c = map (λ f. neighbour p (f .row) cs) (faces (c .sign) (c .row))
+wingsOf cs p c = map (λ f. neighbour p (f .row) cs) (faces (c .sign) (c .material) (c .row))

@@ -16,16 +16,21 @@ unfolding computing sweepRules sweepOutcome
 length-before-size = refl
 
 -- a point among 4,096 vertices that is its own neighbour
-pub size-before-sound : sweepOutcome (sweepInput 0 4096 1 1 (0 ∷ 0 ∷ 0 ∷ []) 0) ≡ refused 12
+pub size-before-sound : sweepOutcome (sweepInput 0 4096 1 1 (0 ∷ 0 ∷ 0 ∷ 0 ∷ []) 0) ≡ refused 12
 unfolding computing sweepRules sweepOutcome
 size-before-sound = refl
 
 -- a point that is its own neighbour, and no room
-pub sound-before-room : sweepOutcome (sweepInput 0 1 1 1 (0 ∷ 0 ∷ 0 ∷ []) 0) ≡ refused 14
+pub sound-before-room : sweepOutcome (sweepInput 0 1 1 1 (0 ∷ 0 ∷ 0 ∷ 0 ∷ []) 0) ≡ refused 14
 unfolding computing sweepRules sweepOutcome
 sound-before-room = refl
 
--- a point, whose sweep has five words
-pub untouched : sweepBuffer (sweepInput 0 1 1 1 (0 ∷ 0 ∷ 65535 ∷ []) 2) (7 ∷ 7 ∷ []) ≡ 7 ∷ 7 ∷ []
+-- a point of material 1,000
+pub material-unsound : sweepOutcome (sweepInput 0 1 1 1 (0 ∷ 1000 ∷ 0 ∷ 65535 ∷ []) 6) ≡ refused 14
+unfolding computing sweepRules sweepOutcome
+material-unsound = refl
+
+-- a point, whose sweep has six words
+pub untouched : sweepBuffer (sweepInput 0 1 1 1 (0 ∷ 7 ∷ 0 ∷ 65535 ∷ []) 2) (7 ∷ 7 ∷ []) ≡ 7 ∷ 7 ∷ []
 unfolding computing sweptWords sweepRules sweepOutcome sweepBuffer
 untouched = refl

@@ -1,6 +1,6 @@
 -- The record of a swept cell, word by word.
 --   record-long                           it has the words of a table record of dimension d + 1:
---   word-sign, word-vertex, word-wing     the sign word, d + 2 vertices, d + 2 wings
+--   word-sign, word-material, word-vertex, word-wing      the sign word, the material of the cell below, d + 2 vertices, d + 2 wings
 --   word-lower, word-upper                its vertices at this level, at the next
 -- Assumes nothing.
 use mathlib.Core.Path.{_≡_, refl, sym, ap, ap₂, _∙_}
@@ -17,8 +17,8 @@ use Rattle.words.specs.Records.{part, tabulate}
 use Rattle.words.proofs.Records.{tabulate-at, tabulate-length}
 use Rattle.simplex.specs.Cell.{Cell, Row, times, alternating}
 use Rattle.simplex.specs.SignWords.{signOf, signWord}
-use Rattle.records.specs.Inner.Inside.{signIn}
-use Rattle.records.specs.Layout.{Entry, recordSize, listSize, vertexPlace, wingPlace, tableLength, cellWords}
+use Rattle.records.specs.Inner.Inside.{signIn, materialIn}
+use Rattle.records.specs.Layout.{Entry, recordSize, listSize, materialPlace, vertexPlace, wingPlace, tableLength, cellWords}
 use Rattle.solids.specs.Table.{entryAt}
 use Rattle.prism.specs.Cells.{atLevel, lifted, dimension, prismCell}
 use Rattle.prism.specs.Wings.{sweptWing}
@@ -77,6 +77,10 @@ module _ (d v s h : ℕ) (ws : List ℕ) (i p k : ℕ) (long : length ws ≡ tab
       ap (λ n. signWord (times (alternating (k * n)) (here .sign))) dim
       ∙ ap (λ t. signWord (times (alternating (k * d)) t)) sign-is
 
+  pub word-material : getD (recordWords d v s h ws i p k) materialPlace 0 ≡ materialIn d ws p
+  unfolding recordWords
+  word-material = ap (λ (e : Entry). e .cell .material) (solid-entry d s ws p hp)
+
   vertex-at : (j : ℕ) → j ≤ d + 1 → getD (low ++ high) j 0 ≡ sweptVertex d v s ws i p k j
   vertex-at j hj = go (decLe (k + j) d)
     where
@@ -96,7 +100,7 @@ module _ (d v s h : ℕ) (ws : List ℕ) (i p k : ℕ) (long : length ws ≡ tab
   pub word-vertex : (j : ℕ) → j ≤ d + 1 → getD (recordWords d v s h ws i p k) (vertexPlace j) 0 ≡ sweptVertex d v s ws i p k j
   unfolding recordWords
   word-vertex j hj =
-      ap (λ n. getD (recordWords d v s h ws i p k) n 0) (add-one j)
+      ap (λ n. getD (recordWords d v s h ws i p k) n 0) {x = vertexPlace j} {y = suc (suc j)} (omega arith)
       ∙ List·getD-append (low ++ high) wings 0 j (omega (arith, both-long)) ∙ vertex-at j hj
 
   pub word-wing : (j : ℕ) → j ≤ d + 1 →

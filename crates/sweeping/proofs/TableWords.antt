@@ -9,7 +9,7 @@ use mathlib.Core.List.{List, []}
 use Prim.Native.Nat.{ℕ, suc, _<_}
 use lib.ListN.{length, getD}
 use Rattle.words.specs.Records.{part}
-use Rattle.simplex.specs.Cell.{cell}
+use Rattle.simplex.specs.Cell.{noCell}
 use Rattle.records.specs.Layout.{Entry, empty, recordSize, tableLength, entryIn}
 use Rattle.records.specs.Inner.Inside.{vertexIn, wingIn}
 use Rattle.records.proofs.Places.{record-long, row-long, entry-at}
@@ -19,7 +19,7 @@ use Rattle.sweeping.specs.Inner.SweptWords.{solidEntries, solidVertex, s
 module _ (d s : ℕ) (ws : List ℕ) (p : ℕ) (hp : p < s) where
   pub solid-entry : entryAt (solidEntries d s ws) p ≡ entryIn d ws p
   unfolding solidEntries
-  solid-entry = entry-at d s p ws (record { cell = cell true []; wings = [] }) hp
+  solid-entry = entry-at d s p ws (record { cell = noCell; wings = [] }) hp
 
   pub solid-vertex : (k : ℕ) → solidVertex d s ws p k ≡ vertexIn d ws p k
   solid-vertex k = ap (λ (e : Entry). getD (e .cell .row) k 0) solid-entry

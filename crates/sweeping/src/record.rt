@@ -17,7 +17,9 @@ use crate::reading::wide;
 use crate::sides::pair_at;
 use crate::wings::wing_above;
 use crate::wings::wing_below;
+use records::reading::material;
 use records::sizes::EMPTY;
+use records::sizes::MATERIAL;
 use records::sizes::VERTICES;
 use records::sizes::first_wing;
 use records::sizes::record_size;
@@ -60,7 +62,7 @@ fn write_vertices(
     }
 }
 
-// Its sign word and vertices: from k to d at this level, then from 0 to k at the next.
+// Its sign word, the material of cell p, and its vertices: from k to d at this level, then from 0 to k at the next.
 fn write_cell(
     d: usize,
     v: usize,
@@ -80,6 +82,7 @@ fn write_cell(
         ≡ placed at (take (listSize (suc d)) (recordWords d v s h (now (table .entry)) i p k)) (now (out .entry)) ⌝ }
 {
     out[at] = turned(sign(d, s, table, p), k * d);
+    out[at + MATERIAL] = material(d, s, table, p);
     write_vertices(d, v, s, h, table, i, p, k, d + 1 - k, at + VERTICES, out);
     let upper = at + VERTICES + (d + 1 - k);
     write_vertices(d, v, s, h, table, i + 1, p, 0, k + 1, upper, out);

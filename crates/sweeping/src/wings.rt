@@ -47,19 +47,21 @@ pub fn wing_below(d: usize, s: usize, h: usize, i: usize, p: usize, k: usize) ->
     cell_number(d, s, h, i - 1, p, d)
 }
 
-// The first position at which the wing of q is p; d + 1 if there is none.
+// The first position at which the wing of q is p; d + 1 if there is none. All are looked at, from the last on, so that the
+// test becomes no branch: in a shuffled solid none could be foretold.
 fn back(d: usize, s: usize, table: &[u16], p: usize, q: usize) -> usize
     requires { ⌜ Inside d s q (now table) ⌝ }
     ensures { λ r. ⌜ r ≡ backTo (solidWing d s (now (table .entry))) p q d ⌝ }
 {
-    let mut b: usize = 0;
-    while b <= d {
+    let mut found = d + 1;
+    let mut b = d + 1;
+    while 0 < b {
+        b -= 1;
         if wide(wing(d, s, table, q, b)) == p {
-            return b;
+            found = b;
         }
-        b += 1;
     }
-    b
+    found
 }
 
 // The cell across a face: its first swept cell at some level, and its own position at the face. EMPTY and 0 where none is across.

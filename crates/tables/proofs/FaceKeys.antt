@@ -9,7 +9,7 @@ use native.Mathlib.Nat.{zero-mul, zero-add, suc-mul, div-add-mod', mod-lt, div-l
 use lib.ListN.{length, take, length-append, List·getD-append}
 use lib.Seq.{getD-append-add}
 use Rattle.words.specs.Records.{part}
-use Rattle.simplex.specs.Cell.{Cell, cell, sameRow}
+use Rattle.simplex.specs.Cell.{Cell, cell, sameRow, noCell}
 use Rattle.simplex.specs.Faces.{allFaces, face, faces, facets, without}
 use Rattle.simplex.proofs.Counts.{All}
 use Rattle.simplex.proofs.FaceCounts.{facets-none, facets-same, two-long}
@@ -31,8 +31,8 @@ allFaces-length n [] long = sym (zero-mul n)
 allFaces-length n (c ∷ cs) long =
     omega (
       arith,
-      length-append (faces (c .sign) (c .row)) (allFaces cs),
-      faces-length (c .sign) (c .row),
+      length-append (faces (c .sign) (c .material) (c .row)) (allFaces cs),
+      faces-length (c .sign) (c .material) (c .row),
       long .0,
       allFaces-length n cs (long .1),
       suc-mul (length cs) n,
@@ -44,14 +44,15 @@ face-cell : (n : ℕ) (cs : List Cell) → All (Long n) cs → (p a : ℕ) → p
 face-cell n [] long p a hp ha = absurd (not-suc-le-zero hp)
 face-cell n (c ∷ cs) long zero a hp ha =
     rw (zero-mul n, zero-add a)
-    (List·getD-append (faces (c .sign) (c .row)) (allFaces cs) (cell true []) a (omega (arith, faces-length (c .sign) (c .row), long .0))
-    ∙ face-at (c .sign) (c .row) a (omega (arith, long .0)))
+    (List·getD-append (faces (c .sign) (c .material) (c .row)) (allFaces cs) noCell a
+    (omega (arith, faces-length (c .sign) (c .material) (c .row), long .0))
+    ∙ face-at (c .sign) (c .material) (c .row) a (omega (arith, long .0)))
 face-cell n (c ∷ cs) long (suc p) a hp ha =
-    ap (λ i. cellAt (faces (c .sign) (c .row) ++ allFaces cs) i) (go (faces-length (c .sign) (c .row) ∙ long .0))
-    ∙ getD-append-add (faces (c .sign) (c .row)) (allFaces cs) (p * n + a) (cell true [])
+    ap (λ i. cellAt (faces (c .sign) (c .material) (c .row) ++ allFaces cs) i) (go (faces-length (c .sign) (c .material) (c .row) ∙ long .0))
+    ∙ getD-append-add (faces (c .sign) (c .material) (c .row)) (allFaces cs) (p * n + a) noCell
     ∙ face-cell n cs (long .1) p a (le-of-suc-le-suc hp) ha
   where
-    go : length (faces (c .sign) (c .row)) ≡ n → suc p * n + a ≡ length (faces (c .sign) (c .row)) + (p * n + a)
+    go : length (faces (c .sign) (c .material) (c .row)) ≡ n → suc p * n + a ≡ length (faces (c .sign) (c .material) (c .row)) + (p * n + a)
     go e = omega (arith, suc-mul p n)
 
 pub key-inside : (n s p a : ℕ) → p < s → a < n → p * n + a < s * n

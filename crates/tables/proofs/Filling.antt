@@ -1,6 +1,6 @@
 -- The records of the table of what is held, written one after the other or compared; and a list cut into its records.
---   record-placed         a record written in its three parts
---   record-same           a record compared in its three parts
+--   record-placed         a record written in its four parts
+--   record-same           a record compared in its parts; its material is its own
 --   table-same            a table compared record by record
 use mathlib.Core.Path.{_≡_, refl, sym, ap, ap₂, _∙_}
 use mathlib.Core.Bool.{Bool, true, false, _&&_, true≢false}
@@ -9,7 +9,8 @@ use Prim.Native.Nat.{ℕ, zero, suc, _+_, _*_, _≤_, _<_}
 use native.Mathlib.Omega.{arith}
 use native.Mathlib.Nat.{add-comm, add-zero, suc-mul, zero-mul}
 use lib.Dec.{eqb}
-use lib.ListN.{length, set, drop, take, getD, length-append, length-drop, take-append-drop}
+use lib.ListN.{length, set, drop, take, getD, length-append, length-drop, length-set, take-append-drop}
+use borrow.Author.Tests.{eq-eqb}
 use lib.Seq.{drop-drop, ext-getD, getD-drop, getD-take, take-all, take-take}
 use Rattle.words.specs.Inner.Placed.{placed}
 use Rattle.words.specs.Records.{concat, part, tabulate}
@@ -18,7 +19,7 @@ use Rattle.words.proofs.Records.{length-tabulated, part-tabulated, tabulate-at,
 use Rattle.simplex.specs.Cell.{Sign, sameRow}
 use Rattle.tables.specs.Inner.Held.{heldWords, recordHeld, run}
 use Rattle.simplex.specs.SignWords.{signWord}
-use Rattle.records.specs.Layout.{recordSize, vertexPlace, wingPlace, tableLength}
+use Rattle.records.specs.Layout.{recordSize, materialPlace, vertexPlace, wingPlace, tableLength}
 use Rattle.records.proofs.Parts.{part-within}
 use Rattle.matching.proofs.KeptRows.{same-false}
 use Rattle.simplex.proofs.Rows.{same-rows}
@@ -79,16 +80,17 @@ tabulate-split (suc m) n f =
 
 -- the parts of a record of the table
 run-record : (d at : ℕ) (ws : List ℕ) →
-    run (recordSize d) at ws ≡ getD ws at 0 ∷ (run (d + 1) (at + vertexPlace 0) ws ++ run (d + 1) (at + wingPlace d 0) ws)
+    run (recordSize d) at ws
+    ≡ getD ws at 0 ∷ getD ws (at + materialPlace) 0 ∷ (run (d + 1) (at + vertexPlace 0) ws ++ run (d + 1) (at + wingPlace d 0) ws)
 run-record d at ws =
-    ap (λ n. run n at ws) {x = recordSize d} {y = suc (d + 1 + (d + 1))} (omega arith)
-    ∙ ap₂ {C = List ℕ} (λ x r. x ∷ r) (ap (λ i. getD ws i 0) (add-zero at))
-    (tabulate-split (d + 1) (d + 1) (λ j. getD ws (at + suc j) 0)
+    ap (λ n. run n at ws) {x = recordSize d} {y = suc (suc (d + 1 + (d + 1)))} (omega arith)
+    ∙ ap₂ {C = List ℕ} (λ x r. x ∷ getD ws (at + materialPlace) 0 ∷ r) (ap (λ i. getD ws i 0) (add-zero at))
+    (tabulate-split (d + 1) (d + 1) (λ j. getD ws (at + suc (suc j)) 0)
     ∙ ap₂ {C = List ℕ} (λ a b. a ++ b)
-    (tabulate-ext (d + 1) (λ j. getD ws (at + suc j) 0) (λ j. getD ws (at + vertexPlace 0 + j) 0)
-    (λ j l. ap (λ i. getD ws i 0) {x = at + suc j} {y = at + vertexPlace 0 + j} (omega arith)))
-    (tabulate-ext (d + 1) (λ j. getD ws (at + suc (d + 1 + j)) 0) (λ j. getD ws (at + wingPlace d 0 + j) 0)
-    (λ j l. ap (λ i. getD ws i 0) {x = at + suc (d + 1 + j)} {y = at + wingPlace d 0 + j} (omega arith))))
+    (tabulate-ext (d + 1) (λ j. getD ws (at + suc (suc j)) 0) (λ j. getD ws (at + vertexPlace 0 + j) 0)
+    (λ j l. ap (λ i. getD ws i 0) {x = at + suc (suc j)} {y = at + vertexPlace 0 + j} (omega arith)))
+    (tabulate-ext (d + 1) (λ j. getD ws (at + suc (suc (d + 1 + j))) 0) (λ j. getD ws (at + wingPlace d 0 + j) 0)
+    (λ j l. ap (λ i. getD ws i 0) {x = at + suc (suc (d + 1 + j))} {y = at + wingPlace d 0 + j} (omega arith))))
 
 and-assoc : (a b c : Bool) → (a && (b && c)) ≡ ((a && b) && c)
 and-assoc true b c = refl
@@ -102,14 +104,14 @@ same-append (x ∷ u) (y ∷ v) a b e = ap (λ t. eqb x y && t) (same-append u v
     ∙ and-assoc (eqb x y) (sameRow u v) (sameRow a b)
 
 -- record p
-module _ (d : ℕ) (rows : List ℕ) (signs : List Sign) (wings : List ℕ) (p : ℕ) where
+module _ (d : ℕ) (rows : List ℕ) (signs : List Sign) (wings : List ℕ) (m p : ℕ) where
   abbrev vertices : List ℕ
   vertices = run (d + 1) (p * 8) rows
 
   abbrev neighbours : List ℕ
   neighbours = run (d + 1) (p * (d + 1)) wings
 
-  pub record-long : length (recordHeld d rows signs wings p) ≡ recordSize d
+  pub record-long : length (recordHeld d rows signs wings m p) ≡ recordSize d
   unfolding recordHeld
   record-long =
       omega (
@@ -119,39 +121,44 @@ module _ (d : ℕ) (rows : List ℕ) (signs : List Sign) (wings : List ℕ) (p :
         tabulate-length (d + 1) (λ j. getD wings (p * (d + 1) + j) 0),
       )
 
-  -- a record written in its three parts
+  -- a record written in its four parts
   module _ (at x : ℕ) (buf one : List ℕ) (room : at + recordSize d ≤ length buf) (ex : x ≡ signWord (getD signs p false))
-      (e : one ≡ placed (at + vertexPlace 0) vertices (set buf at x)) where
-    first : set buf at x ≡ placed at (x ∷ []) buf
-    first = placed-one at x buf (omega arith)
+      (e : one ≡ placed (at + vertexPlace 0) vertices (set (set buf at x) (at + materialPlace) m)) where
+    first : set (set buf at x) (at + materialPlace) m ≡ placed at (x ∷ m ∷ []) buf
+    first =
+        placed-one (at + materialPlace) m (set buf at x) (omega (arith, length-set buf at x))
+        ∙ ap (placed (at + materialPlace) (m ∷ [])) (placed-one at x buf (omega arith))
+        ∙ placed-then at (x ∷ []) (m ∷ []) buf (omega arith)
 
-    first-two : one ≡ placed at (x ∷ vertices) buf
-    first-two = e ∙ ap (placed (at + vertexPlace 0) vertices) first ∙ placed-then at (x ∷ []) vertices buf (omega arith)
+    first-two : one ≡ placed at (x ∷ m ∷ vertices) buf
+    first-two = e ∙ ap (placed (at + vertexPlace 0) vertices) first ∙ placed-then at (x ∷ m ∷ []) vertices buf (omega arith)
 
-    abbrev head-long : length (x ∷ vertices) ≡ 1 + (d + 1)
+    abbrev head-long : length (x ∷ m ∷ vertices) ≡ 2 + (d + 1)
     head-long = omega (arith, tabulate-length (d + 1) (λ j. getD rows (p * 8 + j) 0))
 
     pub part-room : length one ≡ length buf
-    part-room = ap length first-two ∙ placed-length at (x ∷ vertices) buf (omega (arith, head-long))
+    part-room = ap length first-two ∙ placed-length at (x ∷ m ∷ vertices) buf (omega (arith, head-long))
 
     pub record-placed : (w : ℕ) (two : List ℕ) → w ≡ wingPlace d 0 → two ≡ placed (at + w) neighbours one →
-        two ≡ placed at (recordHeld d rows signs wings p) buf
+        two ≡ placed at (recordHeld d rows signs wings m p) buf
     unfolding recordHeld
     record-placed w two ew e2 =
         e2 ∙ ap₂ {C = List ℕ} (λ n l. placed n neighbours l) {x = at + w}
-        {y = at + length (x ∷ vertices)} (omega (arith, head-long)) first-two
-        ∙ placed-then at (x ∷ vertices) neighbours buf (omega (arith, head-long))
-        ∙ ap (λ n. placed at (n ∷ (vertices ++ neighbours)) buf) ex
+        {y = at + length (x ∷ m ∷ vertices)} (omega (arith, head-long)) first-two
+        ∙ placed-then at (x ∷ m ∷ vertices) neighbours buf (omega (arith, head-long))
+        ∙ ap (λ n. placed at (n ∷ m ∷ (vertices ++ neighbours)) buf) ex
 
-  -- a record compared in its three parts
-  pub record-same : (at : ℕ) (ws : List ℕ) → sameRow (run (recordSize d) at ws) (recordHeld d rows signs wings p)
+  -- a record compared in its parts; its material is its own
+  pub record-same : (at : ℕ) (ws : List ℕ) → m ≡ getD ws (at + materialPlace) 0 →
+      sameRow (run (recordSize d) at ws) (recordHeld d rows signs wings m p)
       ≡ (eqb (getD ws at 0) (signWord (getD signs p false))
       && (sameRow (run (d + 1) (at + vertexPlace 0) ws) vertices && sameRow (run (d + 1) (at + wingPlace d 0) ws) neighbours))
   unfolding recordHeld
-  record-same at ws =
-      ap (λ (t : List ℕ). sameRow t (signWord (getD signs p false) ∷ (vertices ++ neighbours))) (run-record d at ws)
+  record-same at ws own =
+      ap (λ (t : List ℕ). sameRow t (signWord (getD signs p false) ∷ m ∷ (vertices ++ neighbours))) (run-record d at ws)
       ∙ ap (λ t. eqb (getD ws at 0) (signWord (getD signs p false)) && t)
-      (same-append (run (d + 1) (at + vertexPlace 0) ws) vertices (run (d + 1) (at + wingPlace d 0) ws) neighbours
+      (rw (eq-eqb (getD ws (at + materialPlace) 0) m (sym own)) refl
+      ∙ same-append (run (d + 1) (at + vertexPlace 0) ws) vertices (run (d + 1) (at + wingPlace d 0) ws) neighbours
       (tabulate-length (d + 1) (λ j. getD ws (at + vertexPlace 0 + j) 0) ∙ sym (tabulate-length (d + 1) (λ j. getD rows (p * 8 + j) 0))))
 
 -- record p of a list, as a run
@@ -161,16 +168,16 @@ part-run n p s ws h e =
     (λ k l. getD-take n (drop (p * n) ws) k 0 l ∙ getD-drop (p * n) ws k 0)
 
 -- the table
-module _ (d : ℕ) (rows : List ℕ) (signs : List Sign) (wings : List ℕ) (s : ℕ) where
-  abbrev records : ℕ → List ℕ
-  records = recordHeld d rows signs wings
+module _ (d : ℕ) (rows : List ℕ) (signs : List Sign) (made : ℕ → ℕ) (wings : List ℕ) (s : ℕ) where
+  abbrev pub records : ℕ → List ℕ
+  records p = recordHeld d rows signs wings (made p) p
 
-  pub records-length : length (concat (tabulate s (recordHeld d rows signs wings))) ≡ s * recordSize d
-  records-length = length-tabulated (recordSize d) s records (λ p l. record-long d rows signs wings p)
+  pub records-length : length (concat (tabulate s records)) ≡ s * recordSize d
+  records-length = length-tabulated (recordSize d) s records (λ p l. record-long d rows signs wings (made p) p)
 
   module _ (ws : List ℕ) (long : length ws ≡ tableLength d s) where
-    pub table-same : ((p : ℕ) → p < s → run (recordSize d) (p * recordSize d) ws ≡ recordHeld d rows signs wings p) →
-        sameRow ws (heldWords d s rows signs wings) ≡ true
+    pub table-same : ((p : ℕ) → p < s → run (recordSize d) (p * recordSize d) ws ≡ records p) →
+        sameRow ws (heldWords d s rows signs made wings) ≡ true
     unfolding heldWords
     table-same h =
         let n : ℕ = recordSize d in
@@ -179,8 +186,8 @@ module _ (d : ℕ) (rows : List ℕ) (signs : List Sign) (wings : List ℕ) (s :
         ∙ ap concat (tabulate-ext s (λ p. take n (part n p ws)) records
         (λ p l. take-take n n (drop (p * n) ws) (omega arith) ∙ part-run n p s ws l (omega arith) ∙ h p l)))
 
-    pub table-other : (p : ℕ) → p < s → sameRow (run (recordSize d) (p * recordSize d) ws) (recordHeld d rows signs wings p) ≡ false →
-        sameRow ws (heldWords d s rows signs wings) ≡ false
+    pub table-other : (p : ℕ) → p < s → sameRow (run (recordSize d) (p * recordSize d) ws) (records p) ≡ false →
+        sameRow ws (heldWords d s rows signs made wings) ≡ false
     unfolding heldWords
     table-other p l k =
         let n : ℕ = recordSize d in
@@ -188,4 +195,4 @@ module _ (d : ℕ) (rows : List ℕ) (signs : List Sign) (wings : List ℕ) (s :
         (λ e. true≢false
         (sym (same-rows (run n (p * n) ws) (records p)
         (sym (part-run n p s ws l (omega arith)) ∙ ap (part n p) e
-        ∙ part-tabulated n s p records (λ q m. record-long d rows signs wings q) l)) ∙ k))
+        ∙ part-tabulated n s p records (λ q m. record-long d rows signs wings (made q) q) l)) ∙ k))

@@ -1,27 +1,29 @@
--- Rows 6, 7 and 8 of a list of records, and its cells in ascending order, as the code holds them.
---   first-sign, first-vertex, first-twice     what each of them is where it is the first
+-- Rows 6, 7, 8 and 18 of a list of records, and its cells in ascending order, as the code holds them.
+--   first-sign, first-vertex, first-twice, first-material     what each of them is where it is the first
 use mathlib.Core.Path.{_≡_, refl, sym, ap, _∙_}
 use mathlib.Core.Bool.{Bool, true, false, not, true≢false}
 use mathlib.Core.List.{List, [], map}
 use Prim.Native.Nat.{ℕ, zero, suc, _*_, _≤_, _<_}
 use native.Mathlib.Omega.{arith}
-use native.Mathlib.Nat.{add-zero, not-suc-le-zero, le-of-suc-le-suc}
+use native.Mathlib.Nat.{not-suc-le-zero, le-of-suc-le-suc}
 use lib.Dec.{leb, ltb}
 use lib.ListN.{length, getD, take, drop, length-drop}
 use lib.Seq.{length-take-le, getD-take, getD-drop}
 use borrow.Author.Tests.{leb-true, leb-false, lt-ltb, le-ltb}
 use Rattle.words.specs.Records.{anyOf, part, tabulate, anyBelow}
 use Rattle.words.proofs.Records.{EachLong, part-concat, tabulate-at, tabulate-ext, tabulate-length, tabulate-map}
+use Rattle.rules.specs.Limits.{maxMaterial}
 use Rattle.rules.specs.Calls.{firstRefusal}
 use Rattle.simplex.specs.Cell.{Cell, Sign}
 use Rattle.simplex.specs.Order.{ascending, sorted}
 use Rattle.simplex.proofs.Insert.{Each}
-use Rattle.solids.specs.Accept.{Listed, badSign, listedCells, repeats, solidOf, solidRules, vertexBeyond, vertexTwice}
-use Rattle.tables.specs.Inner.Held.{badAt, beyondAt, cellHeld, cellRead, falls, faults, heldCells, recordList}
-use Rattle.records.specs.Layout.{cellIn, cellOf, listSize, vertexPlace}
+use Rattle.solids.specs.Accept.{Listed, badMaterial, badSign, listedCells, repeats, solidOf, solidRules, vertexBeyond, vertexTwice}
+use Rattle.tables.specs.Inner.Held.{aboveAt, beyondAt, cellHeld, cellRead, falls, faults, heldCells, materialAt, recordList}
+use Rattle.records.specs.Layout.{cellIn, cellOf, listSize, materialPlace, vertexPlace}
 use Rattle.tables.proofs.Adjacent.{held-falls, held-vertex}
 use Rattle.words.proofs.Below.{below-not, some-below, true-unless}
 use Rattle.records.proofs.Parts.{part-within}
+use Rattle.tables.proofs.Stored.{read-material}
 use Rattle.tables.proofs.SortedTests.{beyond-last, fallsIn, twice-falls}
 use Rattle.solids.proofs.Tests.{of-none, or-false}
 
@@ -65,6 +67,11 @@ module _ (l : Listed) where
   unfolding solidRules
   first-twice six seven eight = rw (six, seven, eight) refl
 
+  pub first-material : badSign l ≡ false → vertexBeyond (l .v) (listedCells l) ≡ false → vertexTwice (listedCells l) ≡ false →
+      badMaterial (listedCells l) ≡ true → 18 ≡ firstRefusal solidRules l
+  unfolding solidRules
+  first-material six seven eight bad = rw (six, seven, eight, bad) refl
+
 module _ (size d v s : ℕ) (ws : List ℕ) (hz : listSize d ≤ size) (room : s * size ≤ length ws) where
   abbrev list : Listed
   list = recordList size d v s ws
@@ -88,21 +95,29 @@ module _ (size d v s : ℕ) (ws : List ℕ) (hz : listSize d ≤ size) (room : s
   listed-is = tabulate-ext s (cellIn d (list .words)) (cellRead size d ws) (λ p h. ap cellOf (record-is p h))
 
   -- 6
-  pub sign-bad : badSign (recordList size d v s ws) ≡ anyBelow s (badAt size ws)
+  pub sign-bad : badSign (recordList size d v s ws) ≡ anyBelow s (aboveAt size 0 1 ws)
   sign-bad =
-      any-tabulate (λ x. not (leb x 1)) (badAt size ws) s (λ p. getD (part (listSize d) p (list .words)) 0 0)
+      any-tabulate (λ x. not (leb x 1)) (aboveAt size 0 1 ws) s (λ p. getD (part (listSize d) p (list .words)) 0 0)
       (λ p h. not-leb (getD (part (listSize d) p (list .words)) 0 0)
       ∙ ap (ltb 1) (ap (λ r. getD r 0 0) (record-is p h) ∙ getD-take (listSize d) (part size p ws) 0 0 (omega arith)
       ∙ getD-take size (drop (p * size) ws) 0 0 (omega arith)
-      ∙ getD-drop (p * size) ws 0 0 ∙ ap (λ i. getD ws i 0) (add-zero (p * size))))
+      ∙ getD-drop (p * size) ws 0 0))
+
+  -- 18
+  pub material-bad : badMaterial (listedCells (recordList size d v s ws)) ≡ anyBelow s (aboveAt size materialPlace maxMaterial ws)
+  material-bad =
+      ap badMaterial listed-is
+      ∙ any-tabulate (λ c. ltb maxMaterial (c .material)) (aboveAt size materialPlace maxMaterial ws) s (λ p. cellRead size d ws p)
+      (λ p h. ap (ltb maxMaterial) (read-material size d p ws hz))
 
   module _ (rows : List ℕ) (signs : List Sign) (hs : s ≤ 4096) (hd : d ≤ 7) (wide : length rows ≡ 32768)
-      (held : (p : ℕ) → p < s → cellHeld d rows signs p ≡ ascending (cellRead size d ws p)) where
+      (held : (p : ℕ) → p < s → cellHeld d rows signs (materialAt size ws) p ≡ ascending (cellRead size d ws p)) where
     -- the list's cells in ascending order
-    pub solid-held : solidOf (recordList size d v s ws) ≡ heldCells d s rows signs
+    pub solid-held : solidOf (recordList size d v s ws) ≡ heldCells d s rows signs (materialAt size ws)
     solid-held =
         ap (map ascending) listed-is ∙ tabulate-map ascending s (λ p. cellRead size d ws p)
-        ∙ tabulate-ext s (λ p. ascending (cellRead size d ws p)) (λ p. cellHeld d rows signs p) (λ p h. sym (held p h))
+        ∙ tabulate-ext s (λ p. ascending (cellRead size d ws p)) (λ p. cellHeld d rows signs (materialAt size ws) p)
+        (λ p h. sym (held p h))
 
     row-held : (p : ℕ) → p < s → take (suc d) (part 8 p rows) ≡ sorted (cellRead size d ws p .row)
     row-held p h = ap (λ (c : Cell). c .row) (held p h)
@@ -116,10 +131,10 @@ module _ (size d v s : ℕ) (ws : List ℕ) (hz : listSize d ≤ size) (room : s
         ap (vertexBeyond v) listed-is
         ∙ any-tabulate (λ c. anyOf (λ x. leb v x) (c .row)) (beyondAt d v rows) s (λ p. cellRead size d ws p)
         (λ p h. beyond-last v d (cellRead size d ws p .row) (row-long p h)
-        ∙ ap (leb v) (ap (λ r. getD r d 0) (sym (row-held p h)) ∙ sym (held-vertex d s rows signs hd hs wide p d (omega arith))))
+        ∙ ap (leb v) (ap (λ r. getD r d 0) (sym (row-held p h)) ∙ sym (held-vertex d s rows signs (materialAt size ws) hd hs wide p d (omega arith))))
 
     falls-is : (p : ℕ) → p < s → falls d rows p ≡ fallsIn d (sorted (cellRead size d ws p .row))
-    falls-is p h = held-falls d s rows signs hd hs wide p ∙ ap (fallsIn d) (row-held p h)
+    falls-is p h = held-falls d s rows signs (materialAt size ws) hd hs wide p ∙ ap (fallsIn d) (row-held p h)
 
     -- 8
     pub vertex-twice : vertexTwice (listedCells (recordList size d v s ws)) ≡ anyBelow s (falls d rows)
@@ -128,9 +143,9 @@ module _ (size d v s : ℕ) (ws : List ℕ) (hz : listSize d ≤ size) (room : s
         ∙ any-tabulate (λ c. repeats (c .row)) (falls d rows) s (λ p. cellRead size d ws p)
         (λ p h. twice-falls d (cellRead size d ws p .row) (row-long p h) ∙ sym (falls-is p h))
 
-    -- where rows 6 to 8 do not apply, the first refusal is that of the other rows
+    -- where rows 6 to 8 and 18 do not apply, the first refusal is that of the other rows
     pub refused-rest : badSign (recordList size d v s ws) ≡ false → vertexBeyond v (listedCells (recordList size d v s ws)) ≡ false →
-        vertexTwice (listedCells (recordList size d v s ws)) ≡ false →
-        firstRefusal solidRules (recordList size d v s ws) ≡ faults (heldCells d s rows signs)
+        vertexTwice (listedCells (recordList size d v s ws)) ≡ false → badMaterial (listedCells (recordList size d v s ws)) ≡ false →
+        firstRefusal solidRules (recordList size d v s ws) ≡ faults (heldCells d s rows signs (materialAt size ws))
     unfolding solidRules faults
-    refused-rest six seven eight = rw (six, seven, eight) (ap faults solid-held)
+    refused-rest six seven eight bad = rw (six, seven, eight, bad) (ap faults solid-held)

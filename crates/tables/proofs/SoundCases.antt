@@ -42,12 +42,12 @@ module _ (d v s : ℕ) (ws : List ℕ) where
           let n = ne-eqb (firstRefusal solidRules (recordList (recordSize d) d v s ws)) 0 (λ z. omega (arith, e)) in
           rw (not-false (shapeOk maxDimension d v s) ok, not-false (eqb (length ws) (tableLength d s)) len, n) refl
 
-      pub sound-same : (rows : List ℕ) (signs : List Sign) (wings : List ℕ) (r : Bool) →
-          0 ≡ firstRefusal solidRules (recordList (recordSize d) d v s ws) → Taken (recordList (recordSize d) d v s ws) rows signs wings →
-          r ≡ sameRow ws (heldWords d s rows signs wings) → r ≡ sound d v s ws
+      pub sound-same : (rows : List ℕ) (signs : List Sign) (made : ℕ → ℕ) (wings : List ℕ) (r : Bool) →
+          0 ≡ firstRefusal solidRules (recordList (recordSize d) d v s ws) → Taken (recordList (recordSize d) d v s ws) rows signs made wings →
+          r ≡ sameRow ws (heldWords d s rows signs made wings) → r ≡ sound d v s ws
       unfolding sound ownTable acceptable
-      sound-same rows signs wings r none t e =
+      sound-same rows signs made wings r none t e =
           let l = limits-are maxDimension d v s ok in
           let n = eq-eqb (firstRefusal solidRules (recordList (recordSize d) d v s ws)) 0 (sym none) in
           rw (not-false (shapeOk maxDimension d v s) ok, not-false (eqb (length ws) (tableLength d s)) len, n)
-          (e ∙ ap (sameRow ws) (sym (taken-table (recordList (recordSize d) d v s ws) rows signs wings (l .dimension) (l .cells) t)))
+          (e ∙ ap (sameRow ws) (sym (taken-table (recordList (recordSize d) d v s ws) rows signs made wings (l .dimension) (l .cells) t)))

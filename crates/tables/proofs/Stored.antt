@@ -9,15 +9,15 @@ use lib.ListN.{length, take, drop, getD, set, replicate, length-set, length-appe
 use lib.Seq.{paste, length-paste, length-take-le, take-at, drop-at, take-take, drop-drop, getD-take, getD-drop, getD-set-same, getD-set-other}
 use lib.Seq.{ext-getD}
 use Rattle.words.specs.Records.{part}
-use Rattle.simplex.specs.Cell.{Sign, cell, times}
+use Rattle.simplex.specs.Cell.{Cell, Sign, cell, times}
 use Rattle.simplex.specs.Order.{orientation, sorted}
 use Rattle.simplex.specs.Sort.{rowOdd, rowSorted}
 use Rattle.simplex.proofs.Signs.{not-not}
 use Rattle.simplex.proofs.Sorting.{sorted-length}
-use Rattle.tables.specs.Inner.Held.{Gathered, cellRead, rowOfEight}
+use Rattle.tables.specs.Inner.Held.{Gathered, cellRead, materialAt, rowOfEight}
 use Rattle.tables.proofs.Reading.{eight-front, eight-long, eight-rest}
 use Rattle.simplex.specs.SignWords.{signOf}
-use Rattle.records.specs.Layout.{listSize, vertexPlace}
+use Rattle.records.specs.Layout.{listSize, materialPlace, vertexPlace}
 use Rattle.records.proofs.Parts.{drop-take}
 
 -- two lists with one record p
@@ -32,13 +32,18 @@ part-same n p X Y h e same = ext-getD 0 (part n p X) (part n p Y) (long X h ∙ 
     word : (Z : List ℕ) (i : ℕ) → i < n → getD (part n p Z) i 0 ≡ getD Z (p * n + i) 0
     word Z i l = getD-take n (drop (p * n) Z) i 0 l ∙ getD-drop (p * n) Z i 0
 
--- the sign word and the vertices of record p
+-- the sign word, the material and the vertices of record p
 module _ (size d p : ℕ) (ws : List ℕ) (hd : listSize d ≤ size) where
   pub read-sign : cellRead size d ws p .sign ≡ signOf (getD ws (p * size) 0)
   read-sign =
       ap signOf
       (getD-take (listSize d) (part size p ws) 0 0 (omega arith) ∙ getD-take size (drop (p * size) ws) 0 0 (omega arith)
       ∙ getD-drop (p * size) ws 0 0 ∙ ap (λ i. getD ws i 0) (add-zero (p * size)))
+
+  pub read-material : cellRead size d ws p .material ≡ materialAt size ws p
+  read-material =
+      getD-take (listSize d) (part size p ws) materialPlace 0 (omega arith)
+      ∙ getD-take size (drop (p * size) ws) materialPlace 0 (omega arith) ∙ getD-drop (p * size) ws materialPlace 0
 
   pub read-row : cellRead size d ws p .row ≡ take (suc d) (drop (p * size + vertexPlace 0) ws)
   read-row =
@@ -99,28 +104,34 @@ pub gathered : (size d p : ℕ) (ws rows : List ℕ) (signs : List Sign) (row ne
     new ≡ rowSorted n row → odd ≡ rowOdd n row → t ≡ times (not odd) (signOf (getD ws (p * size) 0)) →
     rows′ ≡ paste rows (p * 8) new 8 → signs′ ≡ set signs p t →
     Gathered size d p ws rows signs rows′ signs′
-gathered size d p ws rows signs row new rows′ signs′ n at odd t hd hz hp wide many en ea room read es eo et er eg =
+gathered size d p ws rows signs row new rows′ signs′ n at odd t hd hz hp wide many en ea room is es eo et er eg =
     record {
       wide = ap length er ∙ paste-wide rows new p hp wide new-eight;
       many = ap length eg ∙ length-set signs p t ∙ many;
-      new = ap₂ cell (ap (λ (xs : List Sign). getD xs p false) eg ∙ getD-set-same signs p t false (omega arith) ∙ sign)
-          (ap (take (suc d)) (ap (part 8 p) er ∙ paste-here rows new p hp wide new-eight) ∙ front);
+      new = ap₂ (λ s w. cell s (materialAt size ws p) w)
+          (ap (λ (xs : List Sign). getD xs p false) eg ∙ getD-set-same signs p t false (omega arith) ∙ sign)
+          (ap (take (suc d)) (ap (part 8 p) er ∙ paste-here rows new p hp wide new-eight) ∙ front)
+          ∙ ap (λ m. cell (times (orientation (read .row)) (read .sign)) m (sorted (read .row))) (sym (read-material size d p ws hz));
       eight = ap (part 8 p) er ∙ paste-here rows new p hp wide new-eight ∙ whole;
-      old = λ q l. ap₂ cell (ap (λ (xs : List Sign). getD xs q false) eg ∙ getD-set-other signs p q t false (ne-of-lt l))
+      old = λ q l. ap₂ (λ s w. cell s (materialAt size ws q) w)
+          (ap (λ (xs : List Sign). getD xs q false) eg ∙ getD-set-other signs p q t false (ne-of-lt l))
           (ap (take (suc d)) (ap (part 8 q) er ∙ paste-there rows new p hp wide new-eight q l));
     }
   where
+    read : Cell
+    read = cellRead size d ws p
+
     long : length (take n (drop at ws)) ≡ n
     long = length-take-le n (drop at ws) (omega (arith, length-drop at ws))
 
     eight : length row ≡ 8
-    eight = ap length read ∙ eight-long (take n (drop at ws)) n long (omega arith)
+    eight = ap length is ∙ eight-long (take n (drop at ws)) n long (omega arith)
 
     front-is : take n row ≡ take n (drop at ws)
-    front-is = ap (take n) read ∙ eight-front (take n (drop at ws)) n long (omega arith)
+    front-is = ap (take n) is ∙ eight-front (take n (drop at ws)) n long (omega arith)
 
     rest-is : drop n row ≡ replicate (8 - n) 0
-    rest-is = ap (drop n) read ∙ eight-rest (take n (drop at ws)) n long (omega arith)
+    rest-is = ap (drop n) is ∙ eight-rest (take n (drop at ws)) n long (omega arith)
 
     es′ : new ≡ rowSorted (suc d) row
     es′ = es ∙ ap (λ n. rowSorted n row) en

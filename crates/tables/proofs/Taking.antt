@@ -26,17 +26,17 @@ pub whole-list : (d v s : ℕ) (ws : List ℕ) → length ws ≡ s * listSize d 
 whole-list d v s ws e = ap (λ (xs : List ℕ). record { d = d; v = v; s = s; words = xs }) (parts-of (listSize d) s ws e)
 
 -- the table of what was taken
-pub taken-table : (l : Listed) (rows : List ℕ) (signs : List Sign) (wings : List ℕ) → l .d ≤ 7 → l .s ≤ 4096 → Taken l rows signs wings →
-    tableOfList l ≡ heldWords (l .d) (l .s) rows signs wings
+pub taken-table : (l : Listed) (rows : List ℕ) (signs : List Sign) (made : ℕ → ℕ) (wings : List ℕ) → l .d ≤ 7 → l .s ≤ 4096 →
+    Taken l rows signs made wings → tableOfList l ≡ heldWords (l .d) (l .s) rows signs made wings
 unfolding tableOfList
-taken-table l rows signs wings hd hs t =
-    ap (λ cs. tableWords (tableOf cs)) (t .cells) ∙ table-words (l .d) (l .s) rows signs wings hd hs (t .wide) (t .winged)
+taken-table l rows signs made wings hd hs t =
+    ap (λ cs. tableWords (tableOf cs)) (t .cells) ∙ table-words (l .d) (l .s) rows signs made wings hd hs (t .wide) (t .winged)
 
 -- what is written of it is what wing writes
-pub taken-written : (d v s : ℕ) (cells rows : List ℕ) (signs : List Sign) (wings out : List ℕ) → d ≤ 7 → s ≤ 4096 → length cells ≡ s * listSize d →
-    Taken (recordList (listSize d) d v s cells) rows signs wings →
-    placed 0 (heldWords d s rows signs wings) out ≡ written (tableOfList (record { d = d; v = v; s = s; words = cells })) out
-taken-written d v s cells rows signs wings out hd hs len t =
-    placed-first (heldWords d s rows signs wings) out
+pub taken-written : (d v s : ℕ) (cells rows : List ℕ) (signs : List Sign) (made : ℕ → ℕ) (wings out : List ℕ) →
+    d ≤ 7 → s ≤ 4096 → length cells ≡ s * listSize d → Taken (recordList (listSize d) d v s cells) rows signs made wings →
+    placed 0 (heldWords d s rows signs made wings) out ≡ written (tableOfList (record { d = d; v = v; s = s; words = cells })) out
+taken-written d v s cells rows signs made wings out hd hs len t =
+    placed-first (heldWords d s rows signs made wings) out
     ∙ ap (λ (xs : List ℕ). xs ++ drop (length xs) out)
-    (sym (taken-table (recordList (listSize d) d v s cells) rows signs wings hd hs t) ∙ ap tableOfList (whole-list d v s cells len))
+    (sym (taken-table (recordList (listSize d) d v s cells) rows signs made wings hd hs t) ∙ ap tableOfList (whole-list d v s cells len))

@@ -9,7 +9,7 @@ use simplex::sign_words::product;
 ghost use mathlib.Core.Bool.{false, _||_, _&&_};
 ghost use mathlib.Core.List.{List};
 ghost use mathlib.Core.Path.{_≡_};
-ghost use Prim.Native.Nat.{_+_, _*_, _/_, _<_, _≤_};
+ghost use Prim.Native.Nat.{ℕ, _+_, _*_, _/_, _<_, _≤_};
 ghost use lib.Dec.{eqb};
 ghost use lib.ListN.{length, getD};
 ghost use Rattle.rules.specs.Numbers.{verdictOf};
@@ -51,7 +51,7 @@ fn any_seen(n: usize, prev: &[u16; 32768]) -> bool
 // 9: whether two of the s cells have the same row.
 fn any_repeated(d: usize, s: usize, rows: &[u16; 32768], prev: &mut [u16; 32768]) -> bool
     requires { ⌜ (d ≤ 7) × (s ≤ 4096) × (length (now rows) ≡ 32768) × (length (now prev) ≡ 32768) ⌝ }
-    ensures { λ r. ⌜ ((signs : List Sign) → r ≡ cellTwice (heldCells d s (now (rows .entry)) signs)) ⌝ }
+    ensures { λ r. ⌜ ((signs : List Sign) (made : ℕ → ℕ) → r ≡ cellTwice (heldCells d s (now (rows .entry)) signs made)) ⌝ }
 {
     let k = d + 1;
     earlier_equal(s, k, 1, k, rows, prev);
@@ -203,7 +203,7 @@ fn pair(
     found
 }
 
-// The first of rows 9 to 11 that refuses s cells whose rows ascend, and their wings if none does. Where
+// The first of rows 9 to 11 that refuses s cells whose rows ascend, whatever their materials, and their wings if none does. Where
 // no face is in three cells, two cells with the same row are met at their faces.
 pub fn adjacent(
     d: usize,
@@ -214,8 +214,9 @@ pub fn adjacent(
 ) -> Verdict
     requires { ⌜ (d ≤ 7) × (s ≤ 4096) × (length (now rows) ≡ 32768) × Blank (now wings) ⌝ }
     requires { ⌜ anyBelow s (falls d (now rows)) ≡ false ⌝ }
-    ensures fault { λ r. ⌜ verdictOf r ≡ faults (heldCells d s (now (rows .entry)) (now (signs .entry))) ⌝ }
-    ensures wings { λ r. ⌜ (verdictOf r ≡ 0 → Winged d (heldCells d s (now (rows .entry)) (now (signs .entry))) (now (wings .exit))) ⌝ }
+    ensures fault { λ r. ⌜ ((made : ℕ → ℕ) → verdictOf r ≡ faults (heldCells d s (now (rows .entry)) (now (signs .entry)) made)) ⌝ }
+    ensures wings { λ r. ⌜ ((made : ℕ → ℕ) → verdictOf r ≡ 0 →
+        Winged d (heldCells d s (now (rows .entry)) (now (signs .entry)) made) (now (wings .exit))) ⌝ }
 {
     let mut prev = [65535u16; 32768];
     if d == 0 {

@@ -1,7 +1,9 @@
-// Cells from words: each row in ascending order, eight words a cell, and its sign; and the tests of rows 6, 7 and 8.
-// A record has size words: a sign word, d + 1 vertices, and perhaps more.
+// Cells from words: each row in ascending order, eight words a cell, and its sign; and the tests of rows 6, 7, 8 and 18.
+// A record has size words: a sign word, a material, d + 1 vertices, and perhaps more.
 use crate::adjacency::wide;
+use records::sizes::MATERIAL;
 use records::sizes::VERTICES;
+use rules::limits::Shape;
 use simplex::sign_words::product;
 use simplex::sort::sort_row;
 ghost use mathlib.Core.Path.{_≡_};
@@ -9,10 +11,10 @@ ghost use Prim.Native.Nat.{ℕ, _+_, _*_, _<_, _≤_};
 ghost use lib.ListN.{length, take, drop};
 ghost use lib.Seq.{paste};
 ghost use Rattle.words.specs.Records.{anyBelow};
-ghost use Rattle.rules.specs.Limits.{maxDimension};
+ghost use Rattle.rules.specs.Limits.{maxDimension, maxMaterial};
 ghost use Rattle.simplex.specs.Order.{ascending};
-ghost use Rattle.records.specs.Layout.{listSize, recordSize};
-ghost use Rattle.tables.specs.Inner.Held.{rowOfEight, Gathered, cellHeld, cellRead, badAt, beyondAt, fallsAt, falls};
+ghost use Rattle.records.specs.Layout.{listSize, recordSize, materialPlace};
+ghost use Rattle.tables.specs.Inner.Held.{rowOfEight, Gathered, cellHeld, cellRead, materialAt, aboveAt, beyondAt, fallsAt, falls};
 
 // The first n words from at, as a row of eight: the places behind them are 0. There are always eight turns, which
 // the compiler writes out.
@@ -75,7 +77,8 @@ pub fn gather(
     requires { ⌜ (d ≤ 7) × (listSize d ≤ size) × (size ≤ recordSize maxDimension) × (s ≤ 4096) × (s * size ≤ length (now words)) ⌝ }
     requires { ⌜ (length (now rows) ≡ 32768) × (length (now signs) ≡ 4096) ⌝ }
     ensures { λ _. ⌜ (length (now (rows .exit)) ≡ 32768) × (length (now (signs .exit)) ≡ 4096) ⌝ }
-    ensures { λ _. ⌜ ((p : ℕ) → p < s → cellHeld d (now (rows .exit)) (now (signs .exit)) p ≡ ascending (cellRead size d (now (words .entry)) p)) ⌝ }
+    ensures { λ _. ⌜ ((p : ℕ) → p < s → cellHeld d (now (rows .exit)) (now (signs .exit)) (materialAt size (now (words .entry))) p
+        ≡ ascending (cellRead size d (now (words .entry)) p)) ⌝ }
 {
     let mut p: usize = 0;
     while p < s {
@@ -84,19 +87,35 @@ pub fn gather(
     }
 }
 
-// 6: whether a sign word is neither 0 nor 1.
-pub fn bad_sign(size: usize, s: usize, words: &[u16]) -> bool
-    requires { ⌜ (s ≤ 4096) × (1 ≤ size) × (size ≤ recordSize maxDimension) × (s * size ≤ length (now words)) ⌝ }
-    ensures { λ r. ⌜ r ≡ anyBelow s (badAt size (now (words .entry))) ⌝ }
+// Whether the word at place k of a record is above the most that it may be.
+fn any_above(size: usize, k: usize, most: u16, s: usize, words: &[u16]) -> bool
+    requires { ⌜ (s ≤ 4096) × (k < size) × (size ≤ recordSize maxDimension) × (s * size ≤ length (now words)) ⌝ }
+    ensures { λ r. ⌜ r ≡ anyBelow s (aboveAt size k most (now (words .entry))) ⌝ }
 {
     let mut p: usize = 0;
     while p < s {
-        if 1 < words[p * size] {
+        if most < words[p * size + k] {
             return true;
         }
         p += 1;
     }
     false
+}
+
+// 6: whether a sign word is neither 0 nor 1.
+pub fn bad_sign(size: usize, s: usize, words: &[u16]) -> bool
+    requires { ⌜ (s ≤ 4096) × (1 ≤ size) × (size ≤ recordSize maxDimension) × (s * size ≤ length (now words)) ⌝ }
+    ensures { λ r. ⌜ r ≡ anyBelow s (aboveAt size 0 1 (now (words .entry))) ⌝ }
+{
+    any_above(size, 0, 1, s, words)
+}
+
+// 18: whether a material is above the largest.
+pub fn bad_material(size: usize, s: usize, words: &[u16]) -> bool
+    requires { ⌜ (s ≤ 4096) × (2 ≤ size) × (size ≤ recordSize maxDimension) × (s * size ≤ length (now words)) ⌝ }
+    ensures { λ r. ⌜ r ≡ anyBelow s (aboveAt size materialPlace maxMaterial (now (words .entry))) ⌝ }
+{
+    any_above(size, MATERIAL, Shape::MAX_MATERIAL, s, words)
 }
 
 // 7: whether the last vertex of a row, its largest, is v or above.

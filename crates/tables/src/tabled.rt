@@ -31,7 +31,7 @@ fn too_short(d: usize, s: usize, room: usize, further: usize) -> bool
 }
 
 // Writes the table of the s cells of a list from the start of the lent words and answers the count of its words; or
-// says which of rows 6 to 11 and 15 is the first that refuses it, and writes nothing. Row 15 looks at the room of the
+// says which of rows 6 to 8, 18, 9 to 11 and 15 is the first that refuses it, and writes nothing. Row 15 looks at the room of the
 // further buffer too.
 pub fn write_table(
     d: usize,
@@ -56,6 +56,6 @@ pub fn write_table(
     if too_short(d, s, table.len(), further) {
         return Answer::Refused(Refusal::NoRoom);
     }
-    fill(d, s, &rows, &signs, &wings, table);
+    fill(d, s, cells, &rows, &signs, &wings, table);
     Answer::Written(table_words(d, s))
 }

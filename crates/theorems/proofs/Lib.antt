@@ -9,3 +9,4 @@ pub mod Stacked
 pub mod NeverUnsound
 pub mod NoCells
 pub mod UploadedOrder
+pub mod Materials

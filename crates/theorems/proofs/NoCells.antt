@@ -2,7 +2,7 @@
 -- And no other solid's sweep is without boundary, by the third term.
 use mathlib.Core.Path.{_≡_, refl, sym, ap, subst₂, _∙_}
 use mathlib.Core.Logic.{_↔_}
-use mathlib.Core.Bool.{true, false, not}
+use mathlib.Core.Bool.{true, false, not, and-false}
 use mathlib.Core.List.{List, [], _∷_, _++_, append-nil}
 use Prim.Native.Nat.{ℕ, suc, _*_, _≤_}
 use native.Mathlib.Nat.{mul-zero, zero-mul, suc-mul}
@@ -13,7 +13,7 @@ use lib.Ieee.{Float}
 use borrow.Author.Tests.{le-leb, le-ltb, eq-eqb}
 use Rattle.words.specs.Records.{allOf}
 use Rattle.words.proofs.Records.{concat-none}
-use Rattle.rules.specs.Limits.{maxDimension, maxSource, maxVertices, axesOk, stepsOk, sweptVertices}
+use Rattle.rules.specs.Limits.{maxDimension, maxSource, maxVertices, axesOk, stepsOk, sweptVertices, versionOk}
 use Rattle.rules.specs.Calls.{accepted, refused}
 use Rattle.rules.proofs.InLimits.{Limits, limits-are, no-shape}
 use Rattle.simplex.specs.Chain.{Same}
@@ -113,32 +113,37 @@ unfolding moveBuffer movedLevels
 moved n h step out hn hh floats fits =
     let e = move-accepts n h (length out) step hn hh floats fits in (e, rw (e, levels-none step n h) refl)
 
-text : (d n v room : ℕ) (ps : List Float) → listText (listInput d n v 0 [] ps room) ≡ firstLine d n v 0 ++ vertexLines n v ps
+text : (k d n v room : ℕ) (ps : List Float) → listText (listInput k d n v 0 [] ps room) ≡ firstLine d n v 0 ++ vertexLines n v ps
 unfolding listText keyText
-text d n v room ps = ap (λ t. firstLine d n v 0 ++ t) (append-nil (vertexLines n v ps))
+text k d n v room ps = ap (λ t. firstLine d n v 0 ++ t) (append-nil (vertexLines n v ps))
 
-listed : (d n v room : ℕ) (ps : List Float) → d ≤ maxDimension → axesOk n ≡ true → v ≤ maxVertices →
+listed : (k d n v room : ℕ) (ps : List Float) → versionOk k ≡ true → d ≤ maxDimension → axesOk n ≡ true → v ≤ maxVertices →
     length ps ≡ v * n → allOf inRange ps ≡ true → length (firstLine d n v 0 ++ vertexLines n v ps) ≤ room →
-    listOutcome (listInput d n v 0 [] ps room) ≡ accepted (length (firstLine d n v 0 ++ vertexLines n v ps))
+    listOutcome (listInput k d n v 0 [] ps room) ≡ accepted (length (firstLine d n v 0 ++ vertexLines n v ps))
 unfolding listOutcome listRules solids-computing
-listed d n v room ps hd hn hv long inside fits =
+listed k d n v room ps hk hd hn hv long inside fits =
     rw (
+      hk,
       le-leb d maxDimension hd,
       hn,
       le-leb v maxVertices hv,
       no-words d,
       eq-eqb (length ps) (v * n) long,
       inside,
-      text d n v room ps,
+      text k d n v room ps,
       le-ltb room (length (firstLine d n v 0 ++ vertexLines n v ps)) fits,
     ) refl
 
-no-vertex : (d s h n room further : ℕ) (ws : List ℕ) (ps : List Float) →
+no-vertex : (k d s h n room further : ℕ) (ws : List ℕ) (ps : List Float) →
     (wingOutcome (wingInput d 0 (suc s) ws room further) ≡ refused 2) × (sweepOutcome (sweepInput d 0 (suc s) h ws room) ≡ refused 2)
-    × (facesOutcome (facesInput d 0 (suc s) ws room) ≡ refused 2) × (listOutcome (listInput d n 0 (suc s) ws ps room) ≡ refused 2)
+    × (facesOutcome (facesInput d 0 (suc s) ws room) ≡ refused 2) × (listOutcome (listInput k d n 0 (suc s) ws ps room) ≡ refused 2)
 unfolding wingOutcome wingRules sweepOutcome sweepRules facesOutcome facesRules listOutcome listRules
-no-vertex d s h n room further ws ps =
-    (rw (no-shape maxDimension d s) refl, rw (no-shape maxSource d s) refl, rw (no-shape maxDimension d s) refl, rw (no-shape maxDimension d s) refl)
+no-vertex k d s h n room further ws ps = (
+  rw (no-shape maxDimension d s) refl,
+  rw (no-shape maxSource d s) refl,
+  rw (no-shape maxDimension d s) refl,
+  rw (no-shape maxDimension d s, and-false (versionOk k)) refl,
+)
 
 -- a sitting without cells: nothing is winged, nothing swept, and the boundary is empty
 no-table : (d v h : ℕ) → d ≤ maxDimension → v ≤ maxVertices → tableWritten d v h noCells ≡ []
@@ -172,7 +177,7 @@ alone d v h x u = (
   (λ e. sym (count d v h x u)
       ∙ ap length (same-none (solid d v h x)
       (third-term d v h x noCells u (unrefused d v h x u) .decides .1
-      (subst₂ Same (sym e) (sym (no-boundary d v h noCells refl)) (λ s w. refl))))),
+      (subst₂ Same (sym e) (sym (no-boundary d v h noCells refl)) (λ m s w. refl))))),
   no-boundary d v h x,
 )
 
@@ -180,8 +185,8 @@ alone d v h x u = (
 different : (Same (solid 1 3 1 circle) (solid 1 3 1 noCells) → ⊥) × (Same (boundary 1 3 1 circle) (boundary 1 3 1 noCells) → ⊥)
 unfolding computing
 different = (
-  (λ e. let z : _≡_ {A = ℕ} 1 0 = e true (0 ∷ 1 ∷ []) in omega arith),
-  (λ e. let z : _≡_ {A = ℕ} 1 0 = e true (0 ∷ 1 ∷ []) in omega arith),
+  (λ e. let z : _≡_ {A = ℕ} 1 0 = e 0 true (0 ∷ 1 ∷ []) in omega arith),
+  (λ e. let z : _≡_ {A = ℕ} 1 0 = e 0 true (0 ∷ 1 ∷ []) in omega arith),
 )
 
 pub no-cells : NoCells
@@ -199,7 +204,7 @@ no-cells =
       alone = alone;
       own = λ t. let z : _≡_ {A = ℕ} 3 0 = t circle (record { winged = refl; swept = refl }) .0 refl in omega arith;
       different = different;
-      equal = ((λ s w. refl), (λ s w. refl));
+      equal = ((λ m s w. refl), (λ m s w. refl));
       without-vertices = (record { winged = refl; swept = refl }, refl);
     }
 

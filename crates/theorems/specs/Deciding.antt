@@ -7,11 +7,11 @@ use mathlib.Core.Logic.{_↔_}
 use mathlib.Core.List.{List}
 use Prim.Native.Nat.{ℕ}
 use lib.ListN.{length}
-use Rattle.simplex.specs.Cell.{Row, Cell}
-use Rattle.simplex.specs.Chain.{total, Same}
+use Rattle.simplex.specs.Cell.{Row, Sign, Cell}
+use Rattle.simplex.specs.Chain.{countOn, total, Same}
 use Rattle.boundary.specs.Boundary.{ownBoundary}
 use Rattle.third_term.specs.ThirdTerm.{Sitting, Unrefused, solid, boundary}
-use Rattle.third_term.specs.Pairs.{circle, reversed, points, exchanged}
+use Rattle.third_term.specs.Pairs.{circle, reversed, inlaid, points, exchanged}
 
 abbrev pub ring : Sitting → List Cell
 ring x = solid 1 3 1 x
@@ -25,13 +25,18 @@ Equal x y = Same (ring x) (ring y)
 pub record Deciding : Type 0 where
   -- wing and sweep refuse none of them, so the third term speaks of them
   pub unrefused : Unrefused 1 3 1 circle × Unrefused 1 3 1 reversed × Unrefused 1 3 2 circle × Unrefused 0 2 1 points × Unrefused 0 2 1 exchanged
+      × Unrefused 1 3 1 inlaid
   -- different solids, different boundaries of their sweeps; equal solids, equal boundaries
   pub different : (Equal circle reversed → ⊥) × (Same (sweptRing 1 circle) (sweptRing 1 reversed) → ⊥)
+  -- and so it is with solids that differ in a material alone
+  pub materials : (Equal circle inlaid → ⊥) × (Same (sweptRing 1 circle) (sweptRing 1 inlaid) → ⊥)
   pub equal : Same (solid 0 2 1 points) (solid 0 2 1 exchanged) × Same (boundary 0 2 1 points) (boundary 0 2 1 exchanged)
   -- false: told by the solids' own boundaries, which are empty
   pub own : (Equal circle reversed ↔ Same (ownBoundary (ring circle)) (ownBoundary (ring reversed))) → ⊥
   -- false: told by the vertices of the faces, signs aside
   pub signs : (Equal circle reversed ↔ ((w : Row) → total w (sweptRing 1 circle) ≡ total w (sweptRing 1 reversed))) → ⊥
+  -- false: told by the signed faces, materials aside
+  pub materials-aside : (Equal circle inlaid ↔ ((s : Sign) (w : Row) → countOn s w (sweptRing 1 circle) ≡ countOn s w (sweptRing 1 inlaid))) → ⊥
   -- false: told of solids by their vertices, signs aside
   pub solid-signs : (((w : Row) → total w (ring circle) ≡ total w (ring reversed)) ↔ Same (sweptRing 1 circle) (sweptRing 1 reversed)) → ⊥
   -- false: told by the count of faces

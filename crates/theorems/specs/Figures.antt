@@ -16,10 +16,10 @@ abbrev pub o : ℕ
 o = empty
 
 abbrev pub plus : Row → List ℕ → Entry
-plus w ws = record { cell = cell true w; wings = ws }
+plus w ws = record { cell = cell true 0 w; wings = ws }
 
 abbrev pub minus : Row → List ℕ → Entry
-minus w ws = record { cell = cell false w; wings = ws }
+minus w ws = record { cell = cell false 0 w; wings = ws }
 
 -- +(A C B) and +(C D E)
 abbrev pub figure3 : Listed

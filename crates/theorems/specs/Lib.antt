@@ -1,5 +1,5 @@
 -- Statements about the whole: the marked keys, and further examples. Their proofs compute both sides, but for NeverUnsound
--- and laws in NoCells and UploadedOrder.
+-- and laws in NoCells, UploadedOrder and Materials.
 pub mod Shorthand
 pub mod MarkedKeys
 pub mod Figures
@@ -9,3 +9,4 @@ pub mod Stacked
 pub mod NeverUnsound
 pub mod NoCells
 pub mod UploadedOrder
+pub mod Materials

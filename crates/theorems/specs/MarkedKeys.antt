@@ -1,4 +1,4 @@
--- The marked keys K1 to K10, as one statement about the definitions. Paper, section 11.
+-- The marked keys K1 to K10, as one statement about the definitions; cells are of material 0. Paper, section 11.
 use mathlib.Core.Path.{_≡_}
 use mathlib.Core.List.{List, [], _∷_, _++_}
 use Prim.Native.Nat.{ℕ}
@@ -73,7 +73,7 @@ K2-faces =
 
 abbrev pub K2-calls : Type 0
 K2-calls =
-    (wingOutcome (toWing k2Solid) ≡ accepted 14) × (sweepOutcome (swept 1 k2Solid) ≡ accepted 54)
+    (wingOutcome (toWing k2Solid) ≡ accepted 16) × (sweepOutcome (swept 1 k2Solid) ≡ accepted 60)
     × (facesOutcome (facesOfSwept 1 k2Solid) ≡ accepted 12)
 
 abbrev pub K3-cells : Type 0
@@ -102,11 +102,11 @@ abbrev pub K7 : Type 0
 K7 = (sidePair 2 0 0 ≡ side 1 2) × (sidePair 2 0 1 ≡ side 2 1)
 
 abbrev pub K8 : Type 0
-K8 = (sweepOutcome (swept 3 k8Solid) ≡ accepted 390) × (wingAt (sweptEntries 3 k8Solid) 4 0 ≡ 10) × (wingAt (sweptEntries 3 k8Solid) 10 5 ≡ 4)
+K8 = (sweepOutcome (swept 3 k8Solid) ≡ accepted 420) × (wingAt (sweptEntries 3 k8Solid) 4 0 ≡ 10) × (wingAt (sweptEntries 3 k8Solid) 10 5 ≡ 4)
 
 abbrev pub K9 : Type 0
 K9 =
-    (sweepOutcome (swept 1 (pointAmong 2048)) ≡ accepted 5) × (sweepOutcome (swept 2 (pointAmong 1366)) ≡ refused 12)
+    (sweepOutcome (swept 1 (pointAmong 2048)) ≡ accepted 6) × (sweepOutcome (swept 2 (pointAmong 1366)) ≡ refused 12)
     × (moveOutcome k9Most ≡ accepted 4096) × (moveOutcome k9Over ≡ refused 12)
 
 abbrev pub K10 : Type 0

@@ -13,7 +13,7 @@ use lib.ListN.{length, take, drop}
 use lib.Ieee.{Float}
 use Rattle.words.specs.Records.{allOf}
 use Rattle.words.specs.Text.{ascii}
-use Rattle.rules.specs.Limits.{maxDimension, maxSource, maxVertices, axesOk, stepsOk, sweptVertices}
+use Rattle.rules.specs.Limits.{maxDimension, maxSource, maxVertices, axesOk, stepsOk, versionOk, sweptVertices}
 use Rattle.rules.specs.Calls.{accepted, refused}
 use Rattle.simplex.specs.Chain.{Same}
 use Rattle.wing.specs.Wing.{wingInput, wingOutcome, wingBuffer, uploadedBuffer}
@@ -54,15 +54,15 @@ pub record NoCells : Type 0 where
   pub moved : (n h : ℕ) (step : Step) (out : List Float) → axesOk n ≡ true → stepsOk h ≡ true →
       allOf inRange (stepFloats step) ≡ true → stepFits n step ≡ true →
       let i = moveInput n 0 h step [] (length out) in (moveOutcome i ≡ accepted 0) × (moveBuffer i out ≡ out)
-  -- its key is a first line and the lines of the vertices
-  pub text : (d n v room : ℕ) (ps : List Float) → listText (listInput d n v 0 [] ps room) ≡ firstLine d n v 0 ++ vertexLines n v ps
-  pub listed : (d n v room : ℕ) (ps : List Float) → d ≤ maxDimension → axesOk n ≡ true → v ≤ maxVertices →
+  -- its key, in either version, is a first line and the lines of the vertices
+  pub text : (k d n v room : ℕ) (ps : List Float) → listText (listInput k d n v 0 [] ps room) ≡ firstLine d n v 0 ++ vertexLines n v ps
+  pub listed : (k d n v room : ℕ) (ps : List Float) → versionOk k ≡ true → d ≤ maxDimension → axesOk n ≡ true → v ≤ maxVertices →
       length ps ≡ v * n → allOf inRange ps ≡ true → length (firstLine d n v 0 ++ vertexLines n v ps) ≤ room →
-      listOutcome (listInput d n v 0 [] ps room) ≡ accepted (length (firstLine d n v 0 ++ vertexLines n v ps))
+      listOutcome (listInput k d n v 0 [] ps room) ≡ accepted (length (firstLine d n v 0 ++ vertexLines n v ps))
   -- but a cell has vertices: row 2
-  pub no-vertex : (d s h n room further : ℕ) (ws : List ℕ) (ps : List Float) →
+  pub no-vertex : (k d s h n room further : ℕ) (ws : List ℕ) (ps : List Float) →
       (wingOutcome (wingInput d 0 (suc s) ws room further) ≡ refused 2) × (sweepOutcome (sweepInput d 0 (suc s) h ws room) ≡ refused 2)
-      × (facesOutcome (facesInput d 0 (suc s) ws room) ≡ refused 2) × (listOutcome (listInput d n 0 (suc s) ws ps room) ≡ refused 2)
+      × (facesOutcome (facesInput d 0 (suc s) ws room) ≡ refused 2) × (listOutcome (listInput k d n 0 (suc s) ws ps room) ≡ refused 2)
   -- the third term speaks of it wherever it speaks of a solid
   pub unrefused : (d v h : ℕ) (x : Sitting) → Unrefused d v h x → Unrefused d v h noCells
   -- its sweep has no boundary, and no other's has none

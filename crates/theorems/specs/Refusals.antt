@@ -12,7 +12,7 @@ use Rattle.points.specs.declared.step.Step.{Step}
 use Rattle.points.specs.declared.step.Step.the-variants as S
 use Rattle.motion.specs.Move.{MoveInput, moveOutcome}
 use Rattle.read.specs.Read.{ReadInput, readOutcome, headerOf}
-use Rattle.theorems.specs.Shorthand.{spelled, listOf, toWing, one, ample}
+use Rattle.theorems.specs.Shorthand.{made, spelled, listOf, toWing, one, ample}
 use Rattle.theorems.specs.MarkedKeys.{k1File}
 
 abbrev pub read : List ℕ → ReadInput
@@ -35,15 +35,15 @@ slid x = record { n = 1; v = 1; h = 1; step = S.Slide 0 one; points = x ∷ []; 
 
 -- a table of one triangle with the given first wing
 abbrev pub triangle : ℕ → FacesInput
-triangle w = record { d = 2; v = 3; s = 1; table = 0 ∷ 0 ∷ 1 ∷ 2 ∷ w ∷ 65535 ∷ 65535 ∷ []; room = ample }
+triangle w = record { d = 2; v = 3; s = 1; table = 0 ∷ 0 ∷ 0 ∷ 1 ∷ 2 ∷ w ∷ 65535 ∷ 65535 ∷ []; room = ample }
 
 -- the table of one point, swept once
 abbrev pub pointInto : ℕ → SweepInput
-pointInto room = record { d = 0; v = 1; s = 1; h = 1; table = 0 ∷ 0 ∷ 65535 ∷ []; room = room }
+pointInto room = record { d = 0; v = 1; s = 1; h = 1; table = 0 ∷ 0 ∷ 0 ∷ 65535 ∷ []; room = room }
 
 -- a table of s triangles, whatever they are
 abbrev pub trianglesInSteps : ℕ → ℕ → SweepInput
-trianglesInSteps s h = record { d = 2; v = 3; s = s; h = h; table = replicate (s * 7) 0; room = ample }
+trianglesInSteps s h = record { d = 2; v = 3; s = s; h = h; table = replicate (s * 8) 0; room = ample }
 
 pub record Refusals : Type 0 where
   pub row1 : readOutcome (read []) ≡ refused 1
@@ -61,7 +61,9 @@ pub record Refusals : Type 0 where
   pub row12 : sweepOutcome (trianglesInSteps 1000 2) ≡ refused 12
   pub row13 : moveOutcome (slid large) ≡ refused 13
   pub row14 : (facesOutcome (triangle 0) ≡ refused 14) × (facesOutcome (triangle 65535) ≡ accepted 3)
-  pub row15 : (sweepOutcome (pointInto 4) ≡ refused 15) × (sweepOutcome (pointInto 5) ≡ accepted 5)
+  pub row15 : (sweepOutcome (pointInto 5) ≡ refused 15) × (sweepOutcome (pointInto 6) ≡ accepted 6)
+  pub row18 : (wingOutcome (toWing (listOf 2 3 (made 1000 "+012" ∷ []))) ≡ refused 18)
+      × (wingOutcome (toWing (listOf 2 3 (made 999 "+012" ∷ []))) ≡ accepted 8)
   -- a refused call writes nothing; an accepted one from the start, and no further
-  pub untouched : sweepBuffer (pointInto 4) (7 ∷ 7 ∷ 7 ∷ 7 ∷ []) ≡ 7 ∷ 7 ∷ 7 ∷ 7 ∷ []
-  pub no-further : sweepBuffer (pointInto 6) (7 ∷ 7 ∷ 7 ∷ 7 ∷ 7 ∷ 7 ∷ []) ≡ 0 ∷ 0 ∷ 1 ∷ 65535 ∷ 65535 ∷ 7 ∷ []
+  pub untouched : sweepBuffer (pointInto 5) (7 ∷ 7 ∷ 7 ∷ 7 ∷ 7 ∷ []) ≡ 7 ∷ 7 ∷ 7 ∷ 7 ∷ 7 ∷ []
+  pub no-further : sweepBuffer (pointInto 7) (7 ∷ 7 ∷ 7 ∷ 7 ∷ 7 ∷ 7 ∷ 7 ∷ []) ≡ 0 ∷ 0 ∷ 0 ∷ 1 ∷ 65535 ∷ 65535 ∷ 7 ∷ []

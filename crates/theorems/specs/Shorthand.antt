@@ -1,5 +1,5 @@
 -- Short forms in which the examples are written.
---   spelled "+0124"        a sign and a row of vertices below 10
+--   spelled "+0124"       a sign and a row of vertices below 10, of material 0; made m "+0124" of material m
 --   entry "+0124" "1..."  a table entry: a cell and its wings, a point for the empty wing
 --   listOf d v cs         a list of cells as wing takes it
 --   swept h l             what sweep takes: the table that wing writes for the list, and h steps
@@ -28,8 +28,11 @@ use Rattle.boundary.specs.Faces.{FacesInput}
 abbrev pub shown : ℕ → ℕ
 shown x = cond (eqb x 46) empty (x - 48)
 
+abbrev pub made : ℕ → String → Cell
+made m t = cell (eqb (getD (ascii t) 0 0) 43) m (map shown (drop 1 (ascii t)))
+
 abbrev pub spelled : String → Cell
-spelled t = cell (eqb (getD (ascii t) 0 0) 43) (map shown (drop 1 (ascii t)))
+spelled t = made 0 t
 
 abbrev pub entry : String → String → Entry
 entry t ws = record { cell = spelled t; wings = map shown (ascii ws) }

@@ -65,10 +65,10 @@ pub record UploadedExamples : Type 0 where
       × (wingsOfStar "-102" ≡ 3 ∷ 2 ∷ 1 ∷ []) × (wingsOfStar "+120" ≡ 3 ∷ 1 ∷ 2 ∷ [])
       × (wingsOfStar "+201" ≡ 1 ∷ 2 ∷ 3 ∷ []) × (wingsOfStar "-210" ≡ 1 ∷ 3 ∷ 2 ∷ [])
   -- row 15 is of either buffer, and a refused call leaves both as they were; the count is the table's
-  pub rooms : (wingOutcome (inRooms 28 12) ≡ accepted 28) × (wingOutcome (inRooms 27 12) ≡ refused 15)
-      × (wingOutcome (inRooms 28 11) ≡ refused 15)
-  pub untouched : (wingBuffer (inRooms 28 11) (replicate 28 7) ≡ replicate 28 7)
-      × (uploadedBuffer (inRooms 27 12) (replicate 12 7) ≡ replicate 12 7)
-  -- a host gets them as bytes: two segments, the second from vertex 2 to vertex 1
-  pub host : hostUploadedBuffer 1 3 2 (0 ∷ 0 ∷ 0 ∷ 0 ∷ 1 ∷ 0 ∷ 1 ∷ 0 ∷ 2 ∷ 0 ∷ 1 ∷ 0 ∷ []) (replicate 20 7) (replicate 9 7)
+  pub rooms : (wingOutcome (inRooms 32 12) ≡ accepted 32) × (wingOutcome (inRooms 31 12) ≡ refused 15)
+      × (wingOutcome (inRooms 32 11) ≡ refused 15)
+  pub untouched : (wingBuffer (inRooms 32 11) (replicate 32 7) ≡ replicate 32 7)
+      × (uploadedBuffer (inRooms 31 12) (replicate 12 7) ≡ replicate 12 7)
+  -- a host gets them as bytes: two segments of two materials, the second from vertex 2 to vertex 1
+  pub host : hostUploadedBuffer 1 3 2 (0 ∷ 0 ∷ 7 ∷ 0 ∷ 0 ∷ 0 ∷ 1 ∷ 0 ∷ 1 ∷ 0 ∷ 9 ∷ 0 ∷ 2 ∷ 0 ∷ 1 ∷ 0 ∷ []) (replicate 24 7) (replicate 9 7)
       ≡ 1 ∷ 0 ∷ 255 ∷ 255 ∷ 0 ∷ 0 ∷ 255 ∷ 255 ∷ 7 ∷ []

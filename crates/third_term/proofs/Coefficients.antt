@@ -64,7 +64,7 @@ sumChain-copy f nv i d b (c ∷ cs) a =
 
 copy-zero : (nv : ℕ) (cs : List Cell) → topCopy nv 0 cs ≡ cs
 copy-zero nv [] = refl
-copy-zero nv (c ∷ cs) = ap₂ {C = List Cell} (λ v r. cell (c .sign) v ∷ r) (raised-zero nv (c .row)) (copy-zero nv cs)
+copy-zero nv (c ∷ cs) = ap₂ {C = List Cell} (λ v r. cell (c .sign) (c .material) v ∷ r) (raised-zero nv (c .row)) (copy-zero nv cs)
 
 pub coefficients : (nv d h : ℕ) (cs : List Cell) → Solid nv cs → All (Long (suc d)) cs → (w : Row) →
     value w (sweptBoundary nv h cs) ≡ times-ℤ d (value w (topCopy nv h cs) -ℤ value w cs) +ℤ value w (sweepOf nv h (ownBoundary cs))

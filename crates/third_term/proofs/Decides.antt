@@ -1,91 +1,71 @@
--- Two solids are equal, list order aside, exactly when the boundaries of their sweeps are.
---   SameSums xs ys    every signed cell stands in both equally often, as sums
-use mathlib.Core.Path.{_≡_, refl, sym, ap, ap₂, _∙_, fun-ext}
+-- Two solids are equal, list order aside, exactly when the boundaries of their sweeps are: materials included.
+--   forth             equal solids have equal boundaries: every count of the boundary is a sum over the solid
+--   back              the boundary's faces on the solid's own vertices are the solid, turned over
+-- Assumes nothing.
+use mathlib.Core.Path.{_≡_, refl, sym, ap, ap₂, _∙_, fun-ext, subst}
 use mathlib.Core.Logic.{_⊎_, inl, inr}
-use mathlib.Core.Bool.{Bool, true, false, not, _&&_, and-false}
-use mathlib.Core.List.{List, [], _∷_, _++_}
+use mathlib.Core.Bool.{Bool, true, false, cond, _&&_, and-false}
+use mathlib.Core.List.{List, [], _∷_}
 use Prim.Native.Nat.{ℕ, zero, _+_, _*_, _/_, _≤_, _<_}
 use native.Mathlib.Omega.{arith}
 use native.Mathlib.Nat.{zero-mul, add-zero, div-eq-of-lt}
-use lib.ListN.{length}
-use borrow.Author.Tests.{eq-eqb}
-use Rattle.simplex.specs.Cell.{Cell, Row, cell, one, sameRow, times}
-use Rattle.simplex.specs.Chain.{total}
+use lib.Dec.{eqb}
+use borrow.Author.Tests.{eq-eqb, eqb-false, eqb-true}
+use Rattle.simplex.specs.Cell.{Cell, Row, Sign, filled, one, sameRow, times}
+use Rattle.simplex.specs.Chain.{countOn, ofMaterial, Same, total}
 use Rattle.simplex.specs.Faces.{allFaces, facets}
-use Rattle.simplex.proofs.Cancel.{bal, plus-minus}
-use Rattle.simplex.proofs.Counts.{sumRows-countFaces-zero}
-use Rattle.simplex.proofs.Rows.{Below, Good, sameRow-true}
-use Rattle.simplex.proofs.Signs.{times-flip}
-use Rattle.simplex.proofs.Sums.{Functional, plusOn, sumChain, sumChain-allFaces, sumChain-append, sumChain-not, sumFaces}
+use Rattle.simplex.proofs.Cancel.{count-keep, loneIn, plus-minus, restricted, sumChain-keep}
+use Rattle.simplex.proofs.Counts.{sumChain-sumRows, sumRows-countFaces-zero}
+use Rattle.simplex.proofs.Materials.{same-chain, same-material}
+use Rattle.simplex.proofs.Rows.{Below, Good, hits, sameRow-true}
+use Rattle.simplex.proofs.Signs.{not-not}
+use Rattle.simplex.proofs.Sums.{Functional, plusOn, sumChain, sumChain-allFaces, sumChain-not, sumFaces}
 use Rattle.solids.proofs.Solid.{Solid}
-use Rattle.solids.proofs.Tests.{seen}
+use Rattle.solids.proofs.Tests.{count-sum, seen}
 use Rattle.prism.specs.Cells.{sweepOf}
 use Rattle.prism.proofs.Decode.{levelIn, uppers}
 use Rattle.prism.proofs.FaceBounds.{lowerIn, upperIn}
 use Rattle.prism.proofs.FaceKinds.{sideCount}
 use Rattle.prism.proofs.Level.{atHeight, dimensionSign, raised}
 use Rattle.prism.proofs.Pairs.{no-side, off-level}
-use Rattle.boundary.proofs.Lone.{lone-once}
 use Rattle.third_term.proofs.BoundarySum.{bd-is, overSweep, sumChain-sweep, sweptBoundary}
+use Rattle.third_term.proofs.OneMaterial.{made-alone, made-boundary, made-le, made-solid}
 
--- the list with every sign turned over
-neg : List Cell → List Cell
-neg [] = []
-neg (c ∷ cs) = cell (not (c .sign)) (c .row) ∷ neg cs
+-- the faces of a sweep, as a functional of the cells swept
+abbrev overFaces : Functional → ℕ → ℕ → Functional
+overFaces f nv h = overSweep (sumFaces (restricted filled f)) nv h
 
-sumChain-neg : (f : Functional) (b : Bool) (cs : List Cell) → sumChain f b (neg cs) ≡ sumChain f (not b) cs
-unfolding neg
-sumChain-neg f b [] = refl
-sumChain-neg f b (c ∷ cs) = ap₂ (λ m n. m + n) (ap (λ t. f t (c .row)) (sym (times-flip (c .sign) b))) (sumChain-neg f b cs)
+faces-sum : (f : Functional) (nv h : ℕ) (b : Bool) (cs : List Cell) → sumChain f b (facets (sweepOf nv h cs)) ≡ sumChain (overFaces f nv h) b cs
+faces-sum f nv h b cs =
+    sumChain-keep filled f b (allFaces (sweepOf nv h cs)) ∙ sumChain-allFaces (restricted filled f) b (sweepOf nv h cs)
+    ∙ sumChain-sweep (sumFaces (restricted filled f)) nv h b cs
 
--- equal coefficients make equal values of every functional
-coef-fun : (f : Functional) (xs ys : List Cell) →
-    ((w : Row) → sumChain (plusOn w) true xs + sumChain (plusOn w) false ys ≡ sumChain (plusOn w) true ys + sumChain (plusOn w) false xs) →
-    sumChain f true xs + sumChain f false ys ≡ sumChain f true ys + sumChain f false xs
-coef-fun f xs ys h = omega (
-  arith,
-  bal (length (xs ++ neg ys)) f (xs ++ neg ys) (omega arith) (λ w. omega (arith, h w, part (plusOn w) true, part (plusOn w) false)),
-  part f true,
-  part f false,
-)
+-- the count of a signed face of one material, as a sum over the solid's cells of that material
+made-sum : (nv h m : ℕ) (cs : List Cell) (s : Sign) (w : Row) →
+    countOn s w (ofMaterial m (sweptBoundary nv h cs))
+    ≡ sumChain (overFaces (restricted (loneIn (facets (sweepOf nv h cs))) (plusOn w)) nv h) s (ofMaterial m cs)
+made-sum nv h m cs s w =
+    let lone : Row → Bool = loneIn (facets (sweepOf nv h cs)) in
+    count-sum s w (ofMaterial m (sweptBoundary nv h cs)) ∙ ap (sumChain (plusOn w) s) (made-boundary nv h m cs)
+    ∙ sumChain-keep lone (plusOn w) s (facets (sweepOf nv h (ofMaterial m cs)))
+    ∙ faces-sum (restricted lone (plusOn w)) nv h s (ofMaterial m cs)
+
+pub forth : (nv h : ℕ) (xa xb : List Cell) → Same xa xb → Same (sweptBoundary nv h xa) (sweptBoundary nv h xb)
+forth nv h xa xb e m s w =
+    made-sum nv h m xa s w
+    ∙ same-material xa xb e m (overFaces (restricted (loneIn (F xa)) (plusOn w)) nv h) s
+    ∙ ap (λ (q : Row → Bool). sumChain (overFaces (restricted q (plusOn w)) nv h) s (ofMaterial m xb)) (fun-ext (λ v. ap (λ n. eqb n 1) (totals v)))
+    ∙ sym (made-sum nv h m xb s w)
   where
-    part : (f : Functional) (b : Bool) → sumChain f b (xs ++ neg ys) ≡ sumChain f b xs + sumChain f (not b) ys
-    part f b = omega (arith, sumChain-append f b xs (neg ys), sumChain-neg f b ys)
+    F : List Cell → List Cell
+    F cs = facets (sweepOf nv h cs)
 
-abbrev SameOn : Row → List Cell → List Cell → Type 0
-SameOn w xs ys = (sumChain (plusOn w) true xs ≡ sumChain (plusOn w) true ys) × (sumChain (plusOn w) false xs ≡ sumChain (plusOn w) false ys)
+    count : (v : Row) (cs : List Cell) → total v (F cs) ≡ sumChain (overFaces (λ c y. hits v y) nv h) true cs
+    count v cs = sym (sumChain-sumRows (hits v) true (F cs)) ∙ faces-sum (λ c y. hits v y) nv h true cs
 
-abbrev pub SameSums : List Cell → List Cell → Type 0
-SameSums xs ys = (w : Row) → SameOn w xs ys
-
-module _ (nv h : ℕ) (xa xb : List Cell) (sa : Solid nv xa) (sb : Solid nv xb) where
-  pub forth : SameSums xa xb → SameSums (sweptBoundary nv h xa) (sweptBoundary nv h xb)
-  forth e w = (omega (arith, eq, once xa, once xb), omega (arith, eq, once xa, once xb))
-    where
-      once : (xs : List Cell) → sumChain (plusOn w) true (sweptBoundary nv h xs) + sumChain (plusOn w) false (sweptBoundary nv h xs) ≤ 1
-      once xs = omega (arith, lone-once (facets (sweepOf nv h xs)) w, plus-minus w (sweptBoundary nv h xs))
-
-      any : (f : Functional) → sumChain f true xa + sumChain f false xb ≡ sumChain f true xb + sumChain f false xa
-      any f = coef-fun f xa xb (λ w. omega (arith, e w .0, e w .1))
-
-      faces-of : (xs : List Cell) (b : Bool) →
-          sumChain (plusOn w) b (sweepOf nv h (allFaces xs)) ≡ sumChain (sumFaces (overSweep (plusOn w) nv h)) b xs
-      faces-of xs b = sumChain-sweep (plusOn w) nv h b (allFaces xs) ∙ sumChain-allFaces (overSweep (plusOn w) nv h) b xs
-
-      eq : sumChain (plusOn w) true (sweptBoundary nv h xa) + sumChain (plusOn w) false (sweptBoundary nv h xb)
-          ≡ sumChain (plusOn w) true (sweptBoundary nv h xb) + sumChain (plusOn w) false (sweptBoundary nv h xa)
-      eq = omega (
-        arith,
-        bd-is nv xa sa h (plusOn w),
-        bd-is nv xb sb h (plusOn w),
-        any (atHeight (plusOn w) (h * nv)),
-        any (atHeight (plusOn w) (zero * nv)),
-        any (sumFaces (overSweep (plusOn w) nv h)),
-        faces-of xa true,
-        faces-of xa false,
-        faces-of xb true,
-        faces-of xb false,
-      )
+    -- a face stands as often in the one sweep as in the other
+    totals : (v : Row) → total v (F xa) ≡ total v (F xb)
+    totals v = count v xa ∙ same-chain xa xb e (overFaces (λ c y. hits v y) nv h) true ∙ sym (count v xb)
 
 low-level : (nv : ℕ) (w : Row) → Good nv w → levelIn nv w ≡ 0
 low-level nv [] g = refl
@@ -115,38 +95,133 @@ at-bottom nv w b cs =
     go : (c : Bool) (y : Row) → atHeight (plusOn w) (zero * nv) c y ≡ plusOn w (times (dimensionSign w) c) y
     go c y = rw (raised-zero nv y) (same y (dimensionSign y) c (sameRow y w) (sameRow-true y w))
 
-module _ (nv h : ℕ) (xa xb : List Cell) (sa : Solid nv xa) (sb : Solid nv xb) where
-  pub back : 0 < h → SameSums (sweptBoundary nv h xa) (sweptBoundary nv h xb) → SameSums xa xb
-  back some e w = go (seen (Good nv) w xa (sa .rows)) (seen (Good nv) w xb (sb .rows))
+-- the counts on a row, by signs turned over or not
+turned-total : (e : Bool) (w : Row) (cs : List Cell) →
+    sumChain (plusOn w) (times e true) cs + sumChain (plusOn w) (times e false) cs ≡ total w cs
+turned-total true w cs = plus-minus w cs
+turned-total false w cs = omega (arith, plus-minus w cs)
+
+turned-back : (e b : Bool) → times e (times e b) ≡ b
+turned-back true b = refl
+turned-back false b = not-not b
+
+-- on a row of the solid's vertices the sweep's boundary has what the solid has, turned over,
+module _ (nv h : ℕ) (some : 0 < h) (w : Row) (g : Good nv w) where
+  bottom : (cs : List Cell) → Solid nv cs →
+      sumChain (plusOn w) true (sweptBoundary nv h cs) + sumChain (plusOn w) (times (dimensionSign w) true) cs
+      ≡ sumChain (plusOn w) (times (dimensionSign w) false) cs + sumChain (plusOn w) false (sweptBoundary nv h cs)
+  bottom cs s =
+      omega (
+        arith,
+        bd-is nv cs s h (plusOn w),
+        at-bottom nv w true cs,
+        at-bottom nv w false cs,
+        off-level nv cs s h w true apart,
+        off-level nv cs s h w false apart,
+        no-side nv cs s h w true none,
+        no-side nv cs s h w false none,
+      )
     where
-      bottom : (cs : List Cell) → Solid nv cs → Good nv w →
-          sumChain (plusOn w) true (sweptBoundary nv h cs) + sumChain (plusOn w) (times (dimensionSign w) true) cs
-          ≡ sumChain (plusOn w) (times (dimensionSign w) false) cs + sumChain (plusOn w) false (sweptBoundary nv h cs)
-      bottom cs s g =
+      apart : levelIn nv w ≡ h → ⊥
+      apart k = omega (arith, low-level nv w g)
+
+      none : sideCount cs (lowerIn nv w) (upperIn nv w) ≡ 0
+      none = ap (sideCount cs (lowerIn nv w)) (ap (λ j. uppers nv j w) (low-level nv w g) ∙ low-highs nv w (g .1)) ∙ sumRows-countFaces-zero cs
+
+  -- and so it is with each material
+  made-bottom : (m : ℕ) (cs : List Cell) → Solid nv cs →
+      sumChain (plusOn w) true (ofMaterial m (sweptBoundary nv h cs)) + sumChain (plusOn w) (times (dimensionSign w) true) (ofMaterial m cs)
+      ≡ sumChain (plusOn w) (times (dimensionSign w) false) (ofMaterial m cs) + sumChain (plusOn w) false (ofMaterial m (sweptBoundary nv h cs))
+  made-bottom m cs s = go (loneIn F w) refl (loneIn M w) refl
+    where
+      F : List Cell
+      F = facets (sweepOf nv h cs)
+
+      M : List Cell
+      M = facets (sweepOf nv h (ofMaterial m cs))
+
+      -- faces of the material, of all, and of what is made of the material alone
+      part : (b : Bool) → sumChain (plusOn w) b (ofMaterial m (sweptBoundary nv h cs)) ≡ cond (loneIn F w) (sumChain (plusOn w) b M) 0
+      part b = ap (sumChain (plusOn w) b) (made-boundary nv h m cs) ∙ count-keep (loneIn F) w b M
+
+      whole : (b : Bool) → sumChain (plusOn w) b (sweptBoundary nv h cs) ≡ cond (loneIn F w) (sumChain (plusOn w) b F) 0
+      whole b = count-keep (loneIn F) w b F
+
+      own : (b : Bool) → sumChain (plusOn w) b (sweptBoundary nv h (ofMaterial m cs)) ≡ cond (loneIn M w) (sumChain (plusOn w) b M) 0
+      own b = count-keep (loneIn M) w b M
+
+      go : (t : Bool) → loneIn F w ≡ t → (u : Bool) → loneIn M w ≡ u →
+          sumChain (plusOn w) true (ofMaterial m (sweptBoundary nv h cs)) + sumChain (plusOn w) (times (dimensionSign w) true) (ofMaterial m cs)
+          ≡ sumChain (plusOn w) (times (dimensionSign w) false) (ofMaterial m cs) + sumChain (plusOn w) false (ofMaterial m (sweptBoundary nv h cs))
+      go true p true q =
           omega (
             arith,
-            bd-is nv cs s h (plusOn w),
-            at-bottom nv w true cs,
-            at-bottom nv w false cs,
-            off-level nv cs s h w true apart,
-            off-level nv cs s h w false apart,
-            no-side nv cs s h w true none,
-            no-side nv cs s h w false none,
+            bottom (ofMaterial m cs) (made-solid nv m cs s),
+            rw p at (part true),
+            rw p at (part false),
+            rw q at (own true),
+            rw q at (own false),
           )
-        where
-          apart : levelIn nv w ≡ h → ⊥
-          apart k = omega (arith, low-level nv w g)
+      go true p false q =
+          omega (
+            arith,
+            bottom (ofMaterial m cs) (made-solid nv m cs s),
+            rw p at (part true),
+            rw p at (part false),
+            rw q at (own true),
+            rw q at (own false),
+            eqb-true (total w F) 1 p,
+            eqb-false (total w M) 1 q,
+            made-alone nv h m cs w,
+            plus-minus w M,
+          )
+      go false p u q =
+          omega (
+            arith,
+            bottom cs s,
+            rw p at (part true),
+            rw p at (part false),
+            rw p at (whole true),
+            rw p at (whole false),
+            s .distinct w,
+            turned-total (dimensionSign w) w cs,
+            made-le m (plusOn w) (times (dimensionSign w) true) cs,
+            made-le m (plusOn w) (times (dimensionSign w) false) cs,
+          )
 
-          none : sideCount cs (lowerIn nv w) (upperIn nv w) ≡ 0
-          none = ap (sideCount cs (lowerIn nv w)) (ap (λ j. uppers nv j w) (low-level nv w g) ∙ low-highs nv w (g .1)) ∙ sumRows-countFaces-zero cs
+module _ (nv h : ℕ) (xa xb : List Cell) (sa : Solid nv xa) (sb : Solid nv xb) where
+  pub back : 0 < h → Same (sweptBoundary nv h xa) (sweptBoundary nv h xb) → Same xa xb
+  back some e m s w =
+      count-sum s w (ofMaterial m xa)
+      ∙ go (seen (Good nv) w xa (sa .rows)) (seen (Good nv) w xb (sb .rows))
+      ∙ sym (count-sum s w (ofMaterial m xb))
+    where
+      faces : (b : Bool) → sumChain (plusOn w) b (ofMaterial m (sweptBoundary nv h xa)) ≡ sumChain (plusOn w) b (ofMaterial m (sweptBoundary nv h xb))
+      faces b = sym (count-sum b w (ofMaterial m (sweptBoundary nv h xa))) ∙ e m b w ∙ count-sum b w (ofMaterial m (sweptBoundary nv h xb))
 
-      case : Good nv w → (t : Bool) → dimensionSign w ≡ t → SameOn w xa xb
-      case g true k =
-          omega (arith, rw k at (bottom xa sa g), rw k at (bottom xb sb g), e w, sa .distinct w, sb .distinct w, plus-minus w xa, plus-minus w xb)
-      case g false k =
-          omega (arith, rw k at (bottom xa sa g), rw k at (bottom xb sb g), e w, sa .distinct w, sb .distinct w, plus-minus w xa, plus-minus w xb)
+      once : (cs : List Cell) → Solid nv cs →
+          sumChain (plusOn w) (times (dimensionSign w) true) (ofMaterial m cs)
+          + sumChain (plusOn w) (times (dimensionSign w) false) (ofMaterial m cs) ≤ 1
+      once cs c = omega (arith, turned-total (dimensionSign w) w (ofMaterial m cs), made-solid nv m cs c .distinct w)
 
-      go : (total w xa ≡ 0) ⊎ Good nv w → (total w xb ≡ 0) ⊎ Good nv w → SameOn w xa xb
-      go (inl p) (inl q) = omega (arith, plus-minus w xa, plus-minus w xb)
-      go (inl p) (inr g) = case g (dimensionSign w) refl
-      go (inr g) q = case g (dimensionSign w) refl
+      same : Good nv w → (b : Bool) →
+          sumChain (plusOn w) (times (dimensionSign w) b) (ofMaterial m xa) ≡ sumChain (plusOn w) (times (dimensionSign w) b) (ofMaterial m xb)
+      same g true =
+          omega (arith, made-bottom nv h some w g m xa sa, made-bottom nv h some w g m xb sb, faces true, faces false, once xa sa, once xb sb)
+      same g false =
+          omega (arith, made-bottom nv h some w g m xa sa, made-bottom nv h some w g m xb sb, faces true, faces false, once xa sa, once xb sb)
+
+      case : Good nv w → sumChain (plusOn w) s (ofMaterial m xa) ≡ sumChain (plusOn w) s (ofMaterial m xb)
+      case g =
+          subst (λ t. sumChain (plusOn w) t (ofMaterial m xa) ≡ sumChain (plusOn w) t (ofMaterial m xb)) (turned-back (dimensionSign w) s)
+          (same g (times (dimensionSign w) s))
+
+      none : (cs : List Cell) → total w cs ≡ 0 → (b : Bool) → sumChain (plusOn w) b (ofMaterial m cs) ≡ 0
+      none cs z true = omega (arith, plus-minus w cs, made-le m (plusOn w) true cs)
+      none cs z false = omega (arith, plus-minus w cs, made-le m (plusOn w) false cs)
+
+      go : (total w xa ≡ 0) ⊎ Good nv w → (total w xb ≡ 0) ⊎ Good nv w →
+          sumChain (plusOn w) s (ofMaterial m xa) ≡ sumChain (plusOn w) s (ofMaterial m xb)
+      go (inl p) (inl q) = none xa p s ∙ sym (none xb q s)
+      go (inl p) (inr g) = case g
+      go (inr g) q = case g

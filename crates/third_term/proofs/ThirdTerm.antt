@@ -12,23 +12,15 @@ use Rattle.simplex.specs.Faces.{allFaces, facets}
 use Rattle.simplex.proofs.Counts.{All}
 use Rattle.simplex.proofs.FaceCounts.{All-keep, allFaces-long}
 use Rattle.simplex.proofs.Rows.{Long}
-use Rattle.solids.proofs.Codec.{cells-back}
 use Rattle.solids.proofs.Tests.{count-sum}
 use Rattle.prism.specs.Cells.{sweepOf, topCopy}
 use Rattle.boundary.specs.Boundary.{ownBoundary}
+use Rattle.boundary.proofs.FaceCodec.{faces-back}
 use Rattle.boundary.proofs.Lone.{lone-once}
 use Rattle.third_term.specs.ThirdTerm.{BoundaryOf, Sitting, ThirdTerm, Unrefused, boundary, signed, solid}
 use Rattle.third_term.proofs.Coefficients.{coefficients, times-ℤ, value}
-use Rattle.third_term.proofs.Decides.{SameSums, back, forth}
+use Rattle.third_term.proofs.Decides.{back, forth}
 use Rattle.third_term.proofs.Run.{boundary-is, faces-accepts, faces-writes, is-long, is-solid, some-steps, swept-is-long}
-
--- equality by counts and by sums
-to-sums : (xs ys : List Cell) → Same xs ys → SameSums xs ys
-to-sums xs ys e w = (sym (count-sum true w xs) ∙ e true w ∙ count-sum true w ys, sym (count-sum false w xs) ∙ e false w ∙ count-sum false w ys)
-
-from-sums : (xs ys : List Cell) → SameSums xs ys → Same xs ys
-from-sums xs ys e true w = count-sum true w xs ∙ e w .0 ∙ sym (count-sum true w ys)
-from-sums xs ys e false w = count-sum false w xs ∙ e w .1 ∙ sym (count-sum false w ys)
 
 coefficient-is : (w : Row) (cs : List Cell) → coefficient w cs ≡ value w cs
 coefficient-is w cs = ap₂ (λ a b. pos a -ℤ pos b) (count-sum true w cs) (count-sum false w cs)
@@ -59,7 +51,7 @@ module _ (d v h : ℕ) (x : Sitting) (u : Unrefused d v h x) where
       record {
         answered = faces-accepts d v h x u;
         written = faces-writes d v h x u;
-        read = cells-back d (boundary d v h x) boundary-long;
+        read = faces-back (suc d) (boundary d v h x) boundary-long;
         distinct = λ w. subst (λ b. total w b ≤ 1) (sym (boundary-is d v h x u)) (lone-once (facets T) w);
         sum = sum-is;
       }
@@ -68,19 +60,10 @@ pub third-term : (d v h : ℕ) (x y : Sitting) → Unrefused d v h x → Unrefus
 third-term d v h x y ux uy =
     record {
       decides = (
-        (λ e. subst₂ Same (sym (boundary-is d v h x ux)) (sym (boundary-is d v h y uy))
-            (from-sums bx by
-            (forth v h (solid d v h x) (solid d v h y) (is-solid d v h x ux) (is-solid d v h y uy) (to-sums (solid d v h x) (solid d v h y) e)))),
-        (λ e. from-sums (solid d v h x) (solid d v h y)
-            (back v h (solid d v h x) (solid d v h y) (is-solid d v h x ux) (is-solid d v h y uy) (some-steps d v h x ux)
-            (to-sums bx by (subst₂ Same (boundary-is d v h x ux) (boundary-is d v h y uy) e)))),
+        (λ e. subst₂ Same (sym (boundary-is d v h x ux)) (sym (boundary-is d v h y uy)) (forth v h (solid d v h x) (solid d v h y) e)),
+        (λ e. back v h (solid d v h x) (solid d v h y) (is-solid d v h x ux) (is-solid d v h y uy) (some-steps d v h x ux)
+            (subst₂ Same (boundary-is d v h x ux) (boundary-is d v h y uy) e)),
       );
       first = boundary-of d v h x ux;
       second = boundary-of d v h y uy;
     }
-  where
-    bx : List Cell
-    bx = ownBoundary (sweepOf v h (solid d v h x))
-
-    by : List Cell
-    by = ownBoundary (sweepOf v h (solid d v h y))

@@ -9,16 +9,15 @@
 use mathlib.Core.Path.{_≡_}
 use mathlib.Core.Logic.{_↔_}
 use mathlib.Core.Bool.{cond}
-use mathlib.Core.List.{List, map}
+use mathlib.Core.List.{List}
 use Prim.Native.Nat.{ℕ, suc, _*_, _≤_}
 use lib.IntN.{ℤ, _+ℤ_, _-ℤ_, negℤ}
 use lib.ListN.{length, take}
-use Rattle.words.specs.Records.{concat}
 use Rattle.rules.specs.Limits.{sweptVertices}
 use Rattle.rules.specs.Calls.{accepted, written}
 use Rattle.simplex.specs.Cell.{Row, Cell, alternating}
 use Rattle.simplex.specs.Chain.{total, Same, coefficient}
-use Rattle.records.specs.Layout.{faceSize, cellsOf, cellWords, entriesOf, tableLength}
+use Rattle.records.specs.Layout.{faceSize, facesOf, facesWords, entriesOf, tableLength}
 use Rattle.solids.specs.Accept.{Listed, solidOf}
 use Rattle.wing.specs.Wing.{WingInput, wingOutcome, wingBuffer}
 use Rattle.prism.specs.Cells.{sweepOf, topCopy}
@@ -63,7 +62,7 @@ module _ (d v h : ℕ) (x : Sitting) where
   boundary = boundaryOf (entriesOf (suc d) (sweptCells d (x .s) h) sweptWritten)
 
   abbrev pub boundaryWords : List ℕ
-  boundaryWords = concat (map cellWords boundary)
+  boundaryWords = facesWords boundary
 
   abbrev pub toFaces : List ℕ → FacesInput
   toFaces out = record { d = suc d; v = sweptVertices v h; s = sweptCells d (x .s) h; table = sweptWritten; room = length out }
@@ -78,11 +77,11 @@ module _ (d v h : ℕ) (x : Sitting) where
         facesOutcome (toFaces out) ≡ accepted (length boundary)
     pub written : (out : List ℕ) → length boundary * faceSize (suc d) ≤ length out →
         facesBuffer (toFaces out) out ≡ written boundaryWords out
-    -- its records, read as signed cells, are the boundary
-    pub read : cellsOf d (length boundary) boundaryWords ≡ boundary
+    -- its records, read as signed cells with their materials, are the boundary
+    pub read : facesOf (suc d) (length boundary) boundaryWords ≡ boundary
     -- no two of its faces are on the same vertices
     pub distinct : (w : Row) → total w boundary ≤ 1
-    -- as a sum it is (-1)^d (top copy - solid) + sweep of the solid's own boundary
+    -- as a sum, materials left out, it is (-1)^d (top copy - solid) + sweep of the solid's own boundary
     pub sum : (w : Row) →
         coefficient w boundary ≡ signed (coefficient w (topCopy v h solid) -ℤ coefficient w solid)
         +ℤ coefficient w (sweepOf v h (ownBoundary solid))

@@ -35,7 +35,8 @@ winged-is i n e =
       count = by .0;
       shape = not-false _ (none 2);
       size = eqb-true _ _ (not-false _ (none 3));
-      cells = passes l (record { sign = none 6; vertex = none 7; twice = none 8; cell = none 9; crowded = none 10; equal = none 11 });
+      cells = passes l
+          (record { sign = none 6; vertex = none 7; twice = none 8; material = none 18; cell = none 9; crowded = none 10; equal = none 11 });
       fits = ltb-false _ _ (rooms .0);
       uploaded-fits = ltb-false _ _ (rooms .1);
     }

@@ -1,4 +1,4 @@
--- Two faults at once: the first row that applies is told. For rows 6 to 11 see the file of this name in solids.
+-- Two faults at once: the first row that applies is told. For rows 6 to 8, 18 and 9 to 11 see the file of this name in solids.
 -- Row 15 is of either buffer; a refused call leaves both as they were.
 use mathlib.Core.Path.{_≡_, refl}
 use mathlib.Core.List.{[], _∷_}
@@ -16,26 +16,26 @@ pub length-before-sign : wingOutcome (wingInput 0 1 1 (2 ∷ []) 0 0) ≡ refuse
 unfolding computing wingRules wingOutcome
 length-before-sign = refl
 
--- two segments that leave vertex 0, and no room
-pub signs-before-room : wingOutcome (wingInput 1 3 2 (0 ∷ 0 ∷ 1 ∷ 0 ∷ 0 ∷ 2 ∷ []) 0 0) ≡ refused 11
+-- two segments that leave vertex 0, of two materials, and no room
+pub signs-before-room : wingOutcome (wingInput 1 3 2 (0 ∷ 5 ∷ 0 ∷ 1 ∷ 0 ∷ 6 ∷ 0 ∷ 2 ∷ []) 0 0) ≡ refused 11
 unfolding computing wingRules wingOutcome
 signs-before-room = refl
 
--- a point: its table has three words, its wings one
-pub either-buffer : (wingOutcome (wingInput 0 1 1 (0 ∷ 0 ∷ []) 2 1) ≡ refused 15)
-    × (wingOutcome (wingInput 0 1 1 (0 ∷ 0 ∷ []) 3 0) ≡ refused 15)
+-- a point: its table has four words, its wings one
+pub either-buffer : (wingOutcome (wingInput 0 1 1 (0 ∷ 999 ∷ 0 ∷ []) 3 1) ≡ refused 15)
+    × (wingOutcome (wingInput 0 1 1 (0 ∷ 999 ∷ 0 ∷ []) 4 0) ≡ refused 15)
 unfolding computing wingRules wingOutcome
 either-buffer = (refl, refl)
 
-pub room-enough : wingOutcome (wingInput 0 1 1 (0 ∷ 0 ∷ []) 3 1) ≡ accepted 3
+pub room-enough : wingOutcome (wingInput 0 1 1 (0 ∷ 999 ∷ 0 ∷ []) 4 1) ≡ accepted 4
 unfolding computing wingRules wingOutcome
 room-enough = refl
 
 -- a refused call leaves both as they were
-pub untouched : wingBuffer (wingInput 0 1 1 (0 ∷ 0 ∷ []) 2 1) (7 ∷ 7 ∷ []) ≡ 7 ∷ 7 ∷ []
+pub untouched : wingBuffer (wingInput 0 1 1 (0 ∷ 999 ∷ 0 ∷ []) 3 1) (7 ∷ 7 ∷ []) ≡ 7 ∷ 7 ∷ []
 unfolding computing wingRules wingOutcome wingBuffer
 untouched = refl
 
-pub untouched-wings : uploadedBuffer (wingInput 0 1 1 (0 ∷ 0 ∷ []) 2 1) (7 ∷ []) ≡ 7 ∷ []
+pub untouched-wings : uploadedBuffer (wingInput 0 1 1 (0 ∷ 999 ∷ 0 ∷ []) 3 1) (7 ∷ []) ≡ 7 ∷ []
 unfolding computing wingRules wingOutcome uploadedBuffer
 untouched-wings = refl

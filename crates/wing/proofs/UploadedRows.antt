@@ -35,9 +35,9 @@ use Rattle.wing.proofs.Acceptance.{winged-is}
 -- the words of cell p are among the list's, and stand at no large place
 pub words-within : (d s p size : ℕ) (cells : List ℕ) → size ≡ listSize d → d ≤ 7 → s ≤ 4096 → p < s →
     length cells ≡ listLength d s →
-    (p * size + vertexPlace 0 + suc d ≤ length cells) × (p * size ≤ 4096 * 9)
+    (p * size + vertexPlace 0 + suc d ≤ length cells) × (p * size ≤ 4096 * 10)
 words-within d s p size cells es hd hs h e =
-    let less : p * size ≤ 4096 * 9 = mul-le-mul {n₁ = p} {m₁ = size} {n₂ = 4096} {m₂ = 9} (omega arith) (omega (arith, es)) in
+    let less : p * size ≤ 4096 * 10 = mul-le-mul {n₁ = p} {m₁ = size} {n₂ = 4096} {m₂ = 10} (omega arith) (omega (arith, es)) in
     (omega (arith, cell-within d p cells s h e, ap (λ z. p * z) es), less)
 
 -- cell p of a list's words

@@ -10,7 +10,7 @@ use native.Mathlib.Omega.{arith}
 use lib.Dec.{eqb, ltb}
 use lib.ListN.{length}
 use borrow.Author.Tests.{ltb-false}
-use Rattle.rules.specs.Limits.{maxDimension, axesOk}
+use Rattle.rules.specs.Limits.{maxDimension, axesOk, versionOk}
 use Rattle.rules.specs.Shapes.{shapeOk}
 use Rattle.rules.specs.Calls.{Outcome, accepted, refused}
 use Rattle.rules.proofs.Accepting.{accepted-by}
@@ -23,7 +23,7 @@ use Rattle.read.proofs.Order.{passed-each}
 use Rattle.list.specs.List.{ListInput, listOutcome}
 use Rattle.hosting.specs.Lists.{byBytes, hostListInput, hostListOutcome}
 use Rattle.hosting.specs.Moves.{MoveTold, toldMove, hostMoveRules, hostMoveOutcome}
-use Rattle.hosting.specs.Reads.{wordCount, withHeader, hostReadOutcome}
+use Rattle.hosting.specs.Reads.{toldSize, wordCount, withHeader, hostReadOutcome}
 use Rattle.page.specs.Key.{printed, textOutcome}
 use Rattle.page.proofs.Staged.{list-long}
 use Rattle.winged.specs.Inner.Sent.{countOf}
@@ -48,11 +48,11 @@ by-bytes false lengths o m h = omega arith
 by-bytes true false o m h = omega arith
 by-bytes true true o m h = h
 
-pub list-within : (d n v s : ℕ) (table points out : List ℕ) → countOf (hostListOutcome d n v s table points out) ≤ length out
+pub list-within : (k d n v s : ℕ) (table points out : List ℕ) → countOf (hostListOutcome k d n v s table points out) ≤ length out
 unfolding hostListOutcome
-list-within d n v s table points out =
-    by-bytes (shapeOk maxDimension d v s && axesOk n) (eqb (length table) (tableLength d s * 2) && eqb (length points) (v * n * 8))
-    (listOutcome (hostListInput d n v s table points out)) (length out) (listed (hostListInput d n v s table points out))
+list-within k d n v s table points out =
+    by-bytes (versionOk k && (shapeOk maxDimension d v s && axesOk n)) (eqb (length table) (tableLength d s * 2) && eqb (length points) (v * n * 8))
+    (listOutcome (hostListInput k d n v s table points out)) (length out) (listed (hostListInput k d n v s table points out))
 
 pub move-within : (i : MoveTold) → countOf (hostMoveOutcome i) ≤ i .room
 unfolding hostMoveOutcome hostMoveRules
@@ -78,7 +78,7 @@ read-within b header cells points = go (readOutcome i) refl
     go : (o : Outcome Header) → readOutcome i ≡ o → countOf (withHeader (length header) (wordCount b o)) ≤ length cells / 2
     go (accepted x) e =
         let by = accepted-by readRules (λ i. headerOf (i .bytes)) i x refl e in
-        pick (ltb (length header) 40) (passed-each i (by .1) .cells)
+        pick (ltb (length header) toldSize) (passed-each i (by .1) .cells)
     go (refused k) e = omega arith
 
 pub read-small : (o : Outcome ℕ) (b header cells points : List ℕ) → o ≡ hostReadOutcome b header cells points → length cells < 18446744073709551616 →

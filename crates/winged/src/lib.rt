@@ -137,6 +137,7 @@ pub extern "C" fn winged_move(
 
 #[no_mangle]
 pub extern "C" fn winged_list(
+    version: u32,
     d: u32,
     n: u32,
     v: u32,
@@ -145,10 +146,11 @@ pub extern "C" fn winged_list(
     points: &[u8],
     text: &mut [u8],
 ) -> i64
-    ensures answer { λ r. ⌜ r ≡ hostAnswer (hostListOutcome d n v s (now (table .entry)) (now (points .entry)) (now (text .entry))) ⌝ }
-    ensures buffer { λ _. ⌜ now (text .exit) ≡ hostListBuffer d n v s (now (table .entry)) (now (points .entry)) (now (text .entry)) ⌝ }
+    ensures answer { λ r. ⌜ r ≡ hostAnswer (hostListOutcome version d n v s (now (table .entry)) (now (points .entry)) (now (text .entry))) ⌝ }
+    ensures buffer { λ _. ⌜ now (text .exit) ≡ hostListBuffer version d n v s (now (table .entry)) (now (points .entry)) (now (text .entry)) ⌝ }
 {
     answered(list_bytes(
+        version as usize,
         d as usize,
         n as usize,
         v as usize,

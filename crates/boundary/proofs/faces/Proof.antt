@@ -58,7 +58,7 @@ face-size-requires c κs = limits (search needs) .dimension
 mul-less : tie.Need-mul-less
 mul-less c =
     let l = limits (search needs) in
-    omega (arith, mul-le-mul {n₁ = c .before .count-faces .result} {m₁ = c .face-size .result} {n₂ = 32768} {m₂ = 8} (omega arith) (omega arith))
+    omega (arith, mul-le-mul {n₁ = c .before .count-faces .result} {m₁ = c .face-size .result} {n₂ = 32768} {m₂ = 9} (omega arith) (omega arith))
 
 returns-4 : tie.Need-returns-4
 unfolding facesRules boundaryCells

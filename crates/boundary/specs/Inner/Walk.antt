@@ -29,7 +29,7 @@ onBoundary d ws p a = ltb 0 d && eqb (wingIn d ws p a) empty
 
 -- of one entry, and of a list of entries
 abbrev pub cellFrom : ℕ → Entry → List Cell
-cellFrom a e = keep (λ f. filled (f .row)) (atEmpty (drop a (faces (e .cell .sign) (e .cell .row))) (drop a (e .wings)))
+cellFrom a e = keep (λ f. filled (f .row)) (atEmpty (drop a (faces (e .cell .sign) (e .cell .material) (e .cell .row))) (drop a (e .wings)))
 
 abbrev pub entriesFrom : ℕ → List Entry → List Cell
 entriesFrom a [] = []

@@ -7,6 +7,8 @@ use lib.ListN.{length}
 use borrow.Author.Needs.{needs}
 use borrow.Author.Tests.{eqb-true, ltb-false, not-false}
 use Rattle.words.proofs.Placed.{placed-first}
+use Rattle.rules.specs.Limits.{maxDimension, axesOk, versionOk}
+use Rattle.rules.specs.Shapes.{shapeOk}
 use Rattle.rules.proofs.InLimits.{ListLimits, list-limits-are}
 use Rattle.rules.proofs.Tests.{and-parts}
 use Rattle.records.specs.Inner.Inside.{Table}
@@ -23,7 +25,10 @@ abbrev start : tie.Else1 → tie.Start
 start c = search needs
 
 limits : (c : tie.Else1) → let a = start c .args in ListLimits (a .d) (a .n) (a .v) (a .s)
-limits c = list-limits-are _ _ _ _ (ap not (sym (c .before .numbers-fit .ensures)) ∙ c .if1 .left)
+limits c =
+    let a = start c .args in
+    let fit = not-false _ (ap not (sym (c .before .numbers-fit .ensures)) ∙ c .if1 .left) in
+    list-limits-are _ _ _ _ (ap not (and-parts (versionOk (a .version)) (shapeOk maxDimension (a .d) (a .v) (a .s) && axesOk (a .n)) fit .1))
 
 -- what the tests say of the table and the points
 told : (c : tie.Else3) → let a = start (search needs) .args in Table (a .d) (a .s) (a .table .now) × Points (a .n) (a .v) (a .points .now)
@@ -62,7 +67,9 @@ key-size-requires c κs = told (search needs)
 
 -- what is compared with the room is the length of the key
 compared : (c : tie.After-less) → let a = start (search needs) .args in
-    c .less .result ≡ ltb (length (a .out .now)) (length (listText (listInput (a .d) (a .n) (a .v) (a .s) (a .table .now) (a .points .now) 0)))
+    c .less .result
+    ≡ ltb (length (a .out .now))
+    (length (listText (listInput (a .version) (a .d) (a .n) (a .v) (a .s) (a .table .now) (a .points .now) 0)))
 unfolding listText
 compared c = let k : tie.After-key-size = search needs in c .less .ensures ∙ ap (ltb _) (k .key-size .ensures .text)
 
@@ -85,7 +92,7 @@ returns-6 c =
     let a = start (search needs) .args in
     accepts _ _ _ _ (cc (compared (search needs))) (k .key-size .ensures .text)
     (c .before .before .put-key .ensures .content
-    ∙ placed-first (keyText (a .d) (a .n) (a .v) (a .points .now) (tableFaces (a .d) (a .s) (a .table .now))) (a .out .now))
+    ∙ placed-first (keyText (a .version) (a .d) (a .n) (a .v) (a .points .now) (tableFaces (a .d) (a .s) (a .table .now))) (a .out .now))
 
 pub list-spec : {M : Type 1} → statement M
 list-spec =

@@ -1,8 +1,8 @@
 -- What the parts of the listing are told.
 --   Points n v ps         the floats are v points of n axes, in range
 --   VertexOf n p ps       point p is among them
---   SizeOf fs n k         n faces, whose lines have k bytes
---   KeySize .. n k        n faces, in a key of k bytes
+--   SizeOf k fs n m       n faces, whose lines have m bytes
+--   KeySize .. n m        n faces, in a key of m bytes
 use mathlib.Core.Path.{_≡_}
 use mathlib.Core.Bool.{true}
 use mathlib.Core.List.{List}
@@ -26,10 +26,10 @@ pub record VertexOf (n p : ℕ) (ps : List Float) : Type 0 where
   pub within : p * n + n ≤ length ps
   pub ranged : allOf inRange ps ≡ true
 
-pub record SizeOf (fs : List Cell) (n k : ℕ) : Type 0 where
+pub record SizeOf (k : ℕ) (fs : List Cell) (n m : ℕ) : Type 0 where
   pub faces : n ≡ length fs
-  pub bytes : k ≡ length (faceLines fs)
+  pub bytes : m ≡ length (faceLines k fs)
 
-pub record KeySize (d n v : ℕ) (ps : List Float) (fs : List Cell) (count bytes : ℕ) : Type 0 where
+pub record KeySize (k d n v : ℕ) (ps : List Float) (fs : List Cell) (count bytes : ℕ) : Type 0 where
   pub faces : count ≡ length fs
-  pub text : bytes ≡ length (keyText d n v ps fs)
+  pub text : bytes ≡ length (keyText k d n v ps fs)

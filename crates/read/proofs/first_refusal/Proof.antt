@@ -64,11 +64,15 @@ returns-8 c = sym (first-is readRules (input (search needs)) 8 (cc))
 
 returns-9 : tie.Need-returns-9
 unfolding readRules
-returns-9 c = sym (first-is readRules (input (search needs)) 15 (cc))
+returns-9 c = sym (first-is readRules (input (search needs)) 18 (cc))
 
 returns-10 : tie.Need-returns-10
 unfolding readRules
-returns-10 c = sym (none-is readRules (input (search needs)) (cc))
+returns-10 c = sym (first-is readRules (input (search needs)) 15 (cc))
+
+returns-11 : tie.Need-returns-11
+unfolding readRules
+returns-11 c = sym (none-is readRules (input (search needs)) (cc))
 
 pub first-refusal-spec : {M : Type 1} → statement M
 first-refusal-spec =
@@ -90,6 +94,8 @@ first-refusal-spec =
     returns-7
     (λ c κs. whole (search needs))
     returns-8
-    (λ c κs. long (search needs))
+    (λ c κs. whole (search needs))
     returns-9
-    returns-10)
+    (λ c κs. long (search needs))
+    returns-10
+    returns-11)

@@ -9,18 +9,20 @@ returns : tie.Need-returns
 unfolding headerOf
 returns c =
     rw (
+      c .before .before .before .before .before .version .ensures .0,
       c .before .before .before .before .dimension .ensures .0,
       c .before .before .before .axes .ensures .0,
       c .before .before .vertex-count .ensures .0,
       c .before .cell-count .ensures .0,
       c .steps .ensures .0,
-      c .before .before .before .before .before .step .ensures,
+      c .before .before .before .before .before .before .step .ensures,
     ) refl
 
 pub header-of-spec : {M : Type 1} → statement M
 header-of-spec =
     tie.close
     (tie.spec
+    (λ c κs. search needs)
     (λ c κs. search needs)
     (λ c κs. search needs)
     (λ c κs. search needs)

@@ -1,7 +1,7 @@
 -- What the readers of a table are told, and what they read.
 --   Table d s ws          the words are s records of dimension d, numbers within the limits
 --   Inside d s p ws       the words are s records of dimension d, and p is one of them
---   signIn d ws p         the sign word of record p
+--   signIn d ws p         the sign word of record p; materialIn d ws p its material
 --   vertexIn d ws p k     its vertex k; wingIn d ws p a its wing a
 use mathlib.Core.Path.{_≡_}
 use mathlib.Core.List.{List}
@@ -23,6 +23,9 @@ pub record Inside (d s p : ℕ) (ws : List ℕ) : Type 0 where
 
 abbrev pub signIn : ℕ → List ℕ → ℕ → ℕ
 signIn d ws p = getD (part (recordSize d) p ws) 0 0
+
+abbrev pub materialIn : ℕ → List ℕ → ℕ → ℕ
+materialIn d ws p = entryIn d ws p .cell .material
 
 abbrev pub vertexIn : ℕ → List ℕ → ℕ → ℕ → ℕ
 vertexIn d ws p k = getD (entryIn d ws p .cell .row) k 0

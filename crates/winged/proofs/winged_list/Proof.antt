@@ -17,7 +17,7 @@ answered-requires c κs =
     omega (
       arith,
       ap countOf (c .before .before .list-bytes .ensures .0),
-      list-within (a .d) (a .n) (a .v) (a .s) (a .table .now) (a .points .now) (a .text .now),
+      list-within (a .version) (a .d) (a .n) (a .v) (a .s) (a .table .now) (a .points .now) (a .text .now),
     )
 
 returns : tie.Need-returns

@@ -17,7 +17,7 @@ wing-bytes-requires c κs =
 wing-bytes-requires-2 : tie.Need-wing-bytes-requires-2
 wing-bytes-requires-2 c κs =
     let s : tie.Start = search needs in
-    ap (smallTable (s .args .d) (s .args .s)) (length-replicate {A = ℕ} 69632 0) ∙ all-small (s .args .d) (s .args .s)
+    ap (smallTable (s .args .d) (s .args .s)) (length-replicate {A = ℕ} 73728 0) ∙ all-small (s .args .d) (s .args .s)
 
 pub winged-wing-spec : {M : Type 1} → statement M
 winged-wing-spec =

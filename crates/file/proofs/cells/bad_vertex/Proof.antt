@@ -7,9 +7,10 @@ use lib.ListN.{getD, drop}
 use borrow.Author.Needs.{needs}
 use Rattle.words.specs.Records.{anyOf}
 use Rattle.words.proofs.Loops.{any-goes, any-stops, any-ends}
+use Rattle.simplex.specs.Cell.{noCell}
 use Rattle.solids.specs.Accept.{vertexBeyond}
 use Rattle.file.specs.File.{vertexCountOf, fileCells}
-use Rattle.file.proofs.Parts.{noCell, cells-length, row-at}
+use Rattle.file.proofs.Parts.{cells-length, row-at}
 use Rattle.file.proofs.cells.bad_vertex.Statement.{statement}
 use Rattle.file.proofs.cells.bad_vertex.Tie as tie
 
@@ -40,7 +41,7 @@ here c =
     let l = looked c in
     let s = start l in
     let m = l .before .dimension .result + 1 in
-    cc (row-at (s .args .b .now) (s .pre) (l .loop .p) (omega arith) _ m (c .before .cell-at .ensures .0) (omega arith))
+    cc (row-at (s .args .b .now) (s .pre) (l .loop .p) (omega arith) m (omega arith) _ (c .before .vertices-at .ensures .0))
 
 returns : tie.Need-returns Inv-loop μ-loop
 returns c =
@@ -77,7 +78,6 @@ bad-vertex-spec =
     (λ c. search needs)
     loop-holds
     (λ c κs. search needs)
-    (λ c. search needs)
     (λ c κs. search needs)
     returns
     (λ c. search needs)

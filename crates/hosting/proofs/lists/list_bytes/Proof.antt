@@ -10,33 +10,34 @@ use Rattle.hosting.proofs.lists.list_bytes.Statement.{statement}
 use Rattle.hosting.proofs.lists.list_bytes.Tie as tie
 
 -- rows 2 to 4 where they do not apply
-two : (c : tie.Else1) → let s : tie.Start = search needs in let a = s .args in not (numbers (a .d) (a .n) (a .v) (a .s)) ≡ false
+two : (c : tie.Else1) → let s : tie.Start = search needs in let a = s .args in not (numbers (a .version) (a .d) (a .n) (a .v) (a .s)) ≡ false
 two c = ap not (sym (c .before .numbers-fit .ensures)) ∙ c .if1 .left
 
 three : (c : tie.Else2) → let s : tie.Start = search needs in let a = s .args in
-    not (lengths (a .d) (a .n) (a .v) (a .s) (a .table .now) (a .points .now)) ≡ false
+    not (lengths (a .version) (a .d) (a .n) (a .v) (a .s) (a .table .now) (a .points .now)) ≡ false
 three c = ap not (sym (c .before .lengths-fit .ensures)) ∙ c .if2 .left
 
 four : (c : tie.Else3) → let s : tie.Start = search needs in not (allOf inRange (floats64 (s .args .points .now))) ≡ false
 four c = ap not (sym (c .before .all-in-range .ensures)) ∙ c .if3 .left
 
 returns : tie.Need-returns
-returns c = list-2 _ _ _ _ _ _ _ (ap not (sym (c .before .numbers-fit .ensures)) ∙ c .if1 .taken)
+returns c = list-2 _ _ _ _ _ _ _ _ (ap not (sym (c .before .numbers-fit .ensures)) ∙ c .if1 .taken)
 
 returns-2 : tie.Need-returns-2
-returns-2 c = list-3 _ _ _ _ _ _ _ (two (search needs)) (ap not (sym (c .before .lengths-fit .ensures)) ∙ c .if2 .taken)
+returns-2 c = list-3 _ _ _ _ _ _ _ _ (two (search needs)) (ap not (sym (c .before .lengths-fit .ensures)) ∙ c .if2 .taken)
 
 returns-3 : tie.Need-returns-3
-returns-3 c = list-4 _ _ _ _ _ _ _ (two (search needs)) (three (search needs)) (ap not (sym (c .before .all-in-range .ensures)) ∙ c .if3 .taken)
+returns-3 c = list-4 _ _ _ _ _ _ _ _ (two (search needs)) (three (search needs)) (ap not (sym (c .before .all-in-range .ensures)) ∙ c .if3 .taken)
 
 list-decoded-requires : tie.Need-list-decoded-requires
 list-decoded-requires c κs =
     let s : tie.Start = search needs in
     let a = s .args in
-    list-small (a .d) (a .n) (a .v) (a .s) (a .table .now) (a .points .now) (two (search needs)) (three (search needs)) (four (search needs))
+    list-small (a .version) (a .d) (a .n) (a .v) (a .s) (a .table .now) (a .points .now)
+    (two (search needs)) (three (search needs)) (four (search needs))
 
 returns-4 : tie.Need-returns-4
-returns-4 c = list-right _ _ _ _ _ _ _ (two (search needs)) (three (search needs)) _ _ (c .before .before .list-decoded .ensures)
+returns-4 c = list-right _ _ _ _ _ _ _ _ (two (search needs)) (three (search needs)) _ _ (c .before .before .list-decoded .ensures)
 
 pub list-bytes-spec : {M : Type 1} → statement M
 list-bytes-spec =
@@ -44,7 +45,7 @@ list-bytes-spec =
     (tie.spec
     (λ c κs. search needs)
     returns
-    (λ c κs. list-needs _ _ _ _ (two c))
+    (λ c κs. let s : tie.Start = search needs in list-needs (s .args .version) _ _ _ _ (two c))
     returns-2
     (λ c κs. search needs)
     returns-3

@@ -24,7 +24,7 @@ returns c =
     let a = s .args in
     let words : tie.After-decode = search needs in
     let floats : tie.After-decode2 = search needs in
-    list-decodes (a .d) (a .n) (a .v) (a .s) (a .table .now) (a .points .now) (a .text .now) _ _ _ _ (c .before .before .list .ensures)
+    list-decodes (a .version) (a .d) (a .n) (a .v) (a .s) (a .table .now) (a .points .now) (a .text .now) _ _ _ _ (c .before .before .list .ensures)
     (words-front (a .table .now) _ _ (words .decode .ensures)) (floats-front (a .points .now) _ _ (floats .decode2 .ensures))
 
 pub list-decoded-spec : {M : Type 1} → statement M

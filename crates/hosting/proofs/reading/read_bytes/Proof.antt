@@ -10,6 +10,7 @@ use Rattle.rules.specs.Calls.{accepted}
 use Rattle.rules.specs.Numbers.{outcomeOf}
 use Rattle.file.specs.File.{pointCount}
 use Rattle.file.specs.Tests.{cellsLength, fileWords}
+use Rattle.hosting.specs.Reads.{toldSize}
 use Rattle.hosting.proofs.ReadRows.{Passed, passed, roomy, short, rooms, words-read, read-refused, read-short, read-done}
 use borrow.Author.Needs.{needs}
 use Rattle.hosting.proofs.reading.read_bytes.Statement.{statement}
@@ -35,7 +36,7 @@ enough : (c : tie.Else1) → let s : tie.Start = search needs in let a = s .args
 enough c = sym (c .before .no-room .ensures) ∙ c .if1 .left
 
 space : (c : tie.Else1) → let s : tie.Start = search needs in let a = s .args in
-    (40 ≤ length (a .header .now)) × (cellsLength (a .file .now) ≤ length (a .cells .now) / 2)
+    (toldSize ≤ length (a .header .now)) × (cellsLength (a .file .now) ≤ length (a .cells .now) / 2)
     × (pointCount (a .file .now) ≤ length (a .points .now) / 8)
 space c = let s : tie.Start = search needs in let a = s .args in rooms (a .file .now) (a .header .now) (a .cells .now) (a .points .now) (enough c)
 

@@ -13,12 +13,12 @@ use Rattle.listing.proofs.faces.faces_size.Statement.{statement}
 use Rattle.listing.proofs.faces.faces_size.Tie as tie
 
 abbrev Inv-loop : tie.InvT-loop
-Inv-loop d s table count₀ bytes₀ at₀ count bytes at = AtFace d s table (at .cell) (at .position) × (bytes ≤ 256 * count)
+Inv-loop version d s table count₀ bytes₀ at₀ count bytes at = AtFace d s table (at .cell) (at .position) × (bytes ≤ 256 * count)
     × (count + length (facesFrom d s table (at .cell) (at .position)) ≡ length (tableFaces d s table))
-    × (bytes + length (faceLines (facesFrom d s table (at .cell) (at .position))) ≡ length (faceLines (tableFaces d s table)))
+    × (bytes + length (faceLines version (facesFrom d s table (at .cell) (at .position))) ≡ length (faceLines version (tableFaces d s table)))
 
 abbrev μ-loop : tie.MeasureT-loop
-μ-loop d s table count₀ bytes₀ at₀ count bytes at = length (facesFrom d s table (at .cell) (at .position))
+μ-loop version d s table count₀ bytes₀ at₀ count bytes at = length (facesFrom d s table (at .cell) (at .position))
 
 few : (c : tie.Start Inv-loop μ-loop) → length (tableFaces (c .args .d) (c .args .s) (c .args .table .now)) ≤ 32768
 few c = faces-few (c .args .d) (c .args .s) (c .args .table .now) (c .pre)
@@ -45,7 +45,7 @@ loop-holds c =
     let a = c .before .before .args in
     let n = c .next-face .ensures in
     let all = sym (from-start (a .d) (a .s) (a .table .now)) ∙ n .same in
-    (n .place, omega arith, omega (arith, ap length all), omega (arith, ap (λ fs. length (faceLines fs)) all))
+    (n .place, omega arith, omega (arith, ap length all), omega (arith, ap (λ fs. length (faceLines (a .version) fs)) all))
 
 add-count : tie.Need-add-count Inv-loop μ-loop
 add-count c = omega (arith, few (search needs))
@@ -68,11 +68,11 @@ loop-again c =
     let turn = turnOf c in
     let a = turn .before .before .before .args in
     let later = facesFrom (a .d) (a .s) (a .table .now) (c .next-face2 .result .cell) (c .next-face2 .result .position) in
-    let here = faceLine (faceAt (a .d) (a .table .now) (turn .loop .at .cell) (turn .loop .at .position)) in (
+    let here = faceLine (a .version) (faceAt (a .d) (a .table .now) (turn .loop .at .cell) (turn .loop .at .position)) in (
       c .next-face2 .ensures .place,
       omega arith,
       omega (arith, ap length (next c)),
-      omega (arith, ap (λ fs. length (faceLines fs)) (next c), length-append here (faceLines later)),
+      omega (arith, ap (λ fs. length (faceLines (a .version) fs)) (next c), length-append here (faceLines (a .version) later)),
     )
 
 returns : tie.Need-returns Inv-loop μ-loop
@@ -80,7 +80,7 @@ returns c =
     let turn = c .before .before in
     let s = turn .before .before .before in
     let none = from-end (s .args .d) (s .args .s) (s .args .table .now) (turn .loop .at .cell) (turn .loop .at .position) (omega arith) in (
-      record { faces = omega (arith, ap length none); bytes = omega (arith, ap (λ fs. length (faceLines fs)) none) },
+      record { faces = omega (arith, ap length none); bytes = omega (arith, ap (λ fs. length (faceLines (s .args .version) fs)) none) },
       (omega (arith, few s), omega (arith, few s)),
     )
 

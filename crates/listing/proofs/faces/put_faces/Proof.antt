@@ -11,10 +11,11 @@ use Rattle.listing.proofs.faces.put_faces.Statement.{statement}
 use Rattle.listing.proofs.faces.put_faces.Tie as tie
 
 abbrev Inv-loop : tie.InvT-loop
-Inv-loop d s table buf₀ at cur₀ place₀ buf cur place = Walked faceLine d s table at buf₀ (place .cell) (place .position) cur buf
+Inv-loop version d s table buf₀ at cur₀ place₀ buf cur place =
+    Walked (faceLine version) d s table at buf₀ (place .cell) (place .position) cur buf
 
 abbrev μ-loop : tie.MeasureT-loop
-μ-loop d s table buf₀ at cur₀ place₀ buf cur place = length (facesFrom d s table (place .cell) (place .position))
+μ-loop version d s table buf₀ at cur₀ place₀ buf cur place = length (facesFrom d s table (place .cell) (place .position))
 
 -- the turn that has come to a face, and the table's length
 abbrev turn : tie.Then1 Inv-loop μ-loop → tie.At-loop Inv-loop μ-loop

@@ -42,8 +42,8 @@ returns c =
         first,
         c .before .vertices-len .ensures,
         size .bytes,
-        length-append (firstLine d n v (length fs)) (vertexLines n v ps ++ faceLines fs),
-        length-append (vertexLines n v ps) (faceLines fs),
+        length-append (firstLine d n v (length fs)) (vertexLines n v ps ++ faceLines (s .args .version) fs),
+        length-append (vertexLines n v ps) (faceLines (s .args .version) fs),
       );
     }
 

@@ -8,8 +8,8 @@ use borrow.Author.Needs.{needs}
 use Rattle.listing.proofs.key.put_key.Statement.{statement}
 use Rattle.listing.proofs.key.put_key.Tie as tie
 
-cast-t16 : tie.Need-cast-t16
-cast-t16 c =
+cast-t17 : tie.Need-cast-t17
+cast-t17 c =
     let s : tie.Start = search needs in
     omega (arith, s .pre .2, faces-few (s .args .d) (s .args .s) (s .args .table .now) (s .pre .0))
 
@@ -17,14 +17,15 @@ first-line-requires : tie.Need-first-line-requires
 first-line-requires c κs =
     let s : tie.Start = search needs in
     let a = s .args in
-    first-fits (a .d) (a .n) (a .v) (a .points .now) _ (a .faces) (s .pre .2) (a .buf .now) (s .pre .3)
+    first-fits (a .version) (a .d) (a .n) (a .v) (a .points .now) _ (a .faces) (s .pre .2) (a .buf .now) (s .pre .3)
 
 put-vertices-requires : tie.Need-put-vertices-requires
 put-vertices-requires c κs =
     let s : tie.Start = search needs in
     let a = s .args in
     let f : tie.After-first-line = search needs in
-    let left = vertices-left (a .d) (a .n) (a .v) (a .points .now) _ (a .faces) (s .pre .2) (a .buf .now) (s .pre .3) (f .first-line .ensures) in
+    let left =
+    vertices-left (a .version) (a .d) (a .n) (a .v) (a .points .now) _ (a .faces) (s .pre .2) (a .buf .now) (s .pre .3) (f .first-line .ensures) in
     (s .pre .1, left-fits (vertexLines (a .n) (a .v) (a .points .now)) _ left)
 
 put-faces-requires : tie.Need-put-faces-requires
@@ -33,7 +34,7 @@ put-faces-requires c κs =
     let a = s .args in
     let f : tie.After-first-line = search needs in
     let v : tie.After-put-vertices = search needs in
-    let left = faces-left (a .d) (a .n) (a .v) (a .points .now) _ (a .faces) (s .pre .2) (a .buf .now) (s .pre .3)
+    let left = faces-left (a .version) (a .d) (a .n) (a .v) (a .points .now) _ (a .faces) (s .pre .2) (a .buf .now) (s .pre .3)
     (f .first-line .ensures) (v .put-vertices .ensures) in
     (s .pre .0, left .room)
 
@@ -43,7 +44,7 @@ returns c =
     let a = s .args in
     let f : tie.After-first-line = search needs in
     let v : tie.After-put-vertices = search needs in
-    key-put (a .d) (a .n) (a .v) (a .points .now) _ (a .faces) (s .pre .2) (a .buf .now) (s .pre .3)
+    key-put (a .version) (a .d) (a .n) (a .v) (a .points .now) _ (a .faces) (s .pre .2) (a .buf .now) (s .pre .3)
     (f .first-line .ensures) (v .put-vertices .ensures) (c .before .before .put-faces .ensures)
 
 pub put-key-spec : {M : Type 1} → statement M
@@ -53,7 +54,7 @@ put-key-spec =
     (λ c. search needs)
     (λ c. search needs)
     (λ c. search needs)
-    cast-t16
+    cast-t17
     (λ c. search needs)
     (λ c. search needs)
     first-line-requires

@@ -64,15 +64,17 @@ returns c =
     let page = a .page .now in
     let list = c .before .before .list .ensures in
     let vertices = ap (λ k. k * a .v) (add-one (a .h)) in
-    let i = listInput (a .d) (a .n) (sweptVertices (a .v) (a .h)) (a .s) (a .table .now) (movedLevels (told (call m))) (length page) in
+    let i = listInput (a .version) (a .d) (a .n) (sweptVertices (a .v) (a .h)) (a .s) (a .table .now) (movedLevels (told (call m))) (length page) in
     let stage = sym
-    (moved-accepted (a .d) (a .n) (a .v) (a .s) (a .h) (a .step) (a .table .now) (a .points .now) (length page) (m .m .given .0 .0) (ok m)) in (
+    (moved-accepted (a .version) (a .d) (a .n) (a .v) (a .s) (a .h) (a .step) (a .table .now) (a .points .now) (length page)
+    (m .m .given .0 .0) (ok m)) in (
       list .0
-          ∙ ap₂ (λ v ps. listOutcome (listInput (a .d) (a .n) v (a .s) (a .table .now) ps (length page))) vertices (front m .1)
+          ∙ ap₂ (λ v ps. listOutcome (listInput (a .version) (a .d) (a .n) v (a .s) (a .table .now) ps (length page))) vertices (front m .1)
           ∙ list-counted i
           ∙ ap counted stage,
       list .1
-          ∙ ap₂ {C = List ℕ} (λ v ps. listBuffer (listInput (a .d) (a .n) v (a .s) (a .table .now) ps (length page)) page) vertices (front m .1)
+          ∙ ap₂ {C = List ℕ}
+          (λ v ps. listBuffer (listInput (a .version) (a .d) (a .n) v (a .s) (a .table .now) ps (length page)) page) vertices (front m .1)
           ∙ list-left i page
           ∙ ap (λ o. pageAfter o page) stage,
     )
@@ -83,7 +85,7 @@ returns-2 c =
     let a = start call .args in
     let page = a .page .now in
     let stage =
-    sym (moved-refused (a .d) (a .n) (a .v) (a .s) (a .h) (a .step) (a .table .now)
+    sym (moved-refused (a .version) (a .d) (a .n) (a .v) (a .s) (a .h) (a .step) (a .table .now)
     (a .points .now) (length page) (numberOf (c .before .r .given .0 .0))
     (sym (call .move-points .ensures .0) ∙ ap outcomeOf (c .before .r .given .1))) in
     (ap counted stage, ap (λ o. pageAfter o page) stage)

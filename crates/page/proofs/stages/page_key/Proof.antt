@@ -88,9 +88,9 @@ returns-2 c =
     let page = s .args .page .now in
     let next = c .before .before .winged-key .ensures in
     let stage =
-    ap₂ {C = Outcome (List ℕ)} (λ ws ps. wingedKey (h .d) (h .n) (h .v) (h .s) (h .h) (h .step) ws ps (length page))
+    ap₂ {C = Outcome (List ℕ)} (λ ws ps. wingedKey (h .version) (h .d) (h .n) (h .v) (h .s) (h .h) (h .step) ws ps (length page))
     (front (search needs) .1) (front-points x .1)
-    ∙ ap (λ room. wingedKey (h .d) (h .n) (h .v) (h .s) (h .h) (h .step) (fileWords b) (filePoints b) room) (s .pre)
+    ∙ ap (λ room. wingedKey (h .version) (h .d) (h .n) (h .v) (h .s) (h .h) (h .step) (fileWords b) (filePoints b) room) (s .pre)
     ∙ sym (key-read b h (ok x) (call x .before .before .before .if1 .left)) in
     (next .0 ∙ ap counted stage, next .1 ∙ ap (λ o. pageAfter o page) stage)
 

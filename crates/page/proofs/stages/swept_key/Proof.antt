@@ -74,9 +74,10 @@ returns c =
     let page = a .page .now in
     let next = c .before .before .moved-key .ensures in
     let stage =
-    ap₂ {C = Outcome (List ℕ)} (λ d ws. movedKey d (a .n) (a .v) (a .h * (a .s * d)) (a .h) (a .step) ws (a .points .now) (length page))
+    ap₂ {C = Outcome (List ℕ)} (λ d ws. movedKey (a .version) d (a .n) (a .v) (a .h * (a .s * d)) (a .h) (a .step) ws (a .points .now) (length page))
     (add-one (a .d)) (front m .1)
-    ∙ sym (swept-accepted (a .d) (a .n) (a .v) (a .s) (a .h) (a .step) (a .table .now) (a .points .now) (length page) (m .m .given .0 .0) (ok m)) in
+    ∙ sym (swept-accepted (a .version) (a .d) (a .n) (a .v) (a .s) (a .h) (a .step) (a .table .now) (a .points .now) (length page)
+    (m .m .given .0 .0) (ok m)) in
     (next .0 ∙ ap counted stage, next .1 ∙ ap (λ o. pageAfter o page) stage)
 
 returns-2 : tie.Need-returns-2
@@ -85,7 +86,7 @@ returns-2 c =
     let a = start call .args in
     let page = a .page .now in
     let stage =
-    sym (swept-refused (a .d) (a .n) (a .v) (a .s) (a .h) (a .step) (a .table .now)
+    sym (swept-refused (a .version) (a .d) (a .n) (a .v) (a .s) (a .h) (a .step) (a .table .now)
     (a .points .now) (length page) (numberOf (c .before .r .given .0 .0))
     (sym (call .sweep .ensures .0) ∙ ap outcomeOf (c .before .r .given .1))) in
     (ap counted stage, ap (λ o. pageAfter o page) stage)

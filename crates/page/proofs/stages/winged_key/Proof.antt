@@ -47,8 +47,8 @@ returns c =
     let page = a .page .now in
     let next = c .before .before .swept-key .ensures in
     let stage =
-    ap (λ ws. sweptKey (a .d) (a .n) (a .v) (a .s) (a .h) (a .step) ws (a .points .now) (length page)) (front m .1)
-    ∙ sym (winged-accepted (a .d) (a .n) (a .v) (a .s) (a .h) (a .step) (a .cells .now) (a .points .now) (length page)
+    ap (λ ws. sweptKey (a .version) (a .d) (a .n) (a .v) (a .s) (a .h) (a .step) ws (a .points .now) (length page)) (front m .1)
+    ∙ sym (winged-accepted (a .version) (a .d) (a .n) (a .v) (a .s) (a .h) (a .step) (a .cells .now) (a .points .now) (length page)
     (m .m .given .0 .0) (ok m)) in
     (next .0 ∙ ap counted stage, next .1 ∙ ap (λ o. pageAfter o page) stage)
 
@@ -58,7 +58,7 @@ returns-2 c =
     let a = start call .args in
     let page = a .page .now in
     let stage =
-    sym (winged-refused (a .d) (a .n) (a .v) (a .s) (a .h) (a .step) (a .cells .now)
+    sym (winged-refused (a .version) (a .d) (a .n) (a .v) (a .s) (a .h) (a .step) (a .cells .now)
     (a .points .now) (length page) (numberOf (c .before .r .given .0 .0))
     (sym (call .wing .ensures .0) ∙ ap outcomeOf (c .before .r .given .1))) in
     (ap counted stage, ap (λ o. pageAfter o page) stage)

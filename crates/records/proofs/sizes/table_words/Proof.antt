@@ -6,7 +6,7 @@ use Rattle.records.proofs.sizes.table_words.Statement.{statement}
 use Rattle.records.proofs.sizes.table_words.Tie as tie
 
 mul-result : tie.Need-mul-result
-mul-result c = omega (arith, mul-le-mul {n₁ = c .before .args .s} {m₁ = c .record-size .result} {n₂ = 4096} {m₂ = 17} (omega arith) (omega arith))
+mul-result c = omega (arith, mul-le-mul {n₁ = c .before .args .s} {m₁ = c .record-size .result} {n₂ = 4096} {m₂ = 18} (omega arith) (omega arith))
 
 returns : tie.Need-returns
 returns c = rw (c .record-size .ensures)

@@ -1,4 +1,4 @@
--- Sign word, lower vertices, upper vertices: the words of a list cell of dimension d + 1, piece by piece. Assumes nothing.
+-- Sign word, material, lower vertices, upper vertices: the words of a list cell of dimension d + 1, piece by piece. Assumes nothing.
 use mathlib.Core.Path.{_≡_, sym, ap, _∙_}
 use mathlib.Core.List.{List}
 use Prim.Native.Nat.{ℕ, suc, _+_, _-_, _*_, _≤_, _<_}
@@ -12,11 +12,11 @@ use Rattle.words.specs.Inner.Placed.{placed, Put}
 use Rattle.words.proofs.Records.{tabulate-length}
 use Rattle.words.proofs.Placed.{placed-length}
 use Rattle.words.proofs.Writing.{Left, left-starts, left-next, left-run, left-none}
-use Rattle.records.specs.Layout.{listSize, recordSize, vertexPlace}
+use Rattle.records.specs.Layout.{listSize, recordSize, materialPlace, vertexPlace}
 use Rattle.sweeping.specs.Inner.SweptWords.{recordWords}
 use Rattle.simplex.specs.SignWords.{turnedSign}
 use Rattle.sweeping.specs.Inner.RecordWords.{liftedFrom}
-use Rattle.sweeping.proofs.RecordLaws.{record-long, word-sign, word-lower, word-upper}
+use Rattle.sweeping.proofs.RecordLaws.{record-long, word-sign, word-material, word-lower, word-upper}
 use Rattle.sweeping.proofs.record.write_cell.Statement.{statement}
 use Rattle.sweeping.proofs.record.write_cell.Tie as tie
 
@@ -52,13 +52,23 @@ abbrev start : tie.After-turned → tie.Start
 start c = search needs
 
 signed : (c : tie.After-turned) → let s = start c in
-    Upto s (vertexPlace 0) (s .args .at + vertexPlace 0) (set (s .args .out .now) (s .args .at) (c .turned .result))
+    Upto s materialPlace (s .args .at + materialPlace) (set (s .args .out .now) (s .args .at) (c .turned .result))
 signed c =
     let s = start c in
     let a = s .args in
     left-next 0 (words s) 0 (omega (arith, long s)) (left-starts _ (words s) _ (room s)) _ _
     (c .turned .ensures ∙ ap (λ (w : ℕ). turnedSign w (a .k * a .d)) (c .before .sign .ensures)
     ∙ word s 0 _ (omega arith) (word-sign _ _ _ _ _ _ _ _ (s .pre .0 .long) (s .pre .1 .0 .1) (s .pre .1 .0 .2))) (omega arith)
+
+-- then the material,
+made : (c : tie.After-material) → let s : tie.Start = search needs in let t : tie.After-turned = search needs in
+    Upto s (vertexPlace 0) (s .args .at + vertexPlace 0)
+    (set (set (s .args .out .now) (s .args .at) (t .turned .result)) (s .args .at + materialPlace) (c .material .result))
+made c =
+    let s : tie.Start = search needs in
+    left-next 0 (words s) materialPlace (omega (arith, long s)) (signed (search needs)) _ _
+    (c .material .ensures ∙ word s materialPlace _ (omega arith)
+    (word-material _ _ _ _ _ _ _ _ (s .pre .0 .long) (s .pre .1 .0 .1) (s .pre .1 .0 .2))) (omega arith)
 
 -- then the lower vertices,
 lowered : (c : tie.Start) (old E : List ℕ) → let a = c .args in
@@ -95,17 +105,23 @@ mul-turned c =
     let low = s .pre .0 .dimension in
     omega (arith, low, mul-le-mul-left {m = s .args .k} {n = 6} (s .args .d) (omega (arith, low)))
 
+slice-write-out-2 : tie.Need-slice-write-out-2
+slice-write-out-2 c =
+    let s : tie.Start = search needs in
+    let t : tie.After-turned = search needs in
+    omega (arith, s .pre .1 .1, length-set (s .args .out .now) (s .args .at) (t .turned .result))
+
 write-vertices-requires : tie.Need-write-vertices-requires
 write-vertices-requires c κs =
     let s : tie.Start = search needs in
     let a = s .args in
-    (s .pre .0, ((omega arith, s .pre .1 .0 .1, omega arith), omega (arith, length-set (a .out .now) (a .at) (c .before .turned .result))))
+    (s .pre .0, ((omega arith, s .pre .1 .0 .1, omega arith), omega (arith, s .pre .1 .1, made (search needs) .same)))
 
 write-vertices-requires-2 : tie.Need-write-vertices-requires-2
 write-vertices-requires-2 c κs =
     let s : tie.Start = search needs in
     let first : tie.After-write-vertices = search needs in
-    let same = lowered s _ _ (signed (search needs)) (first .write-vertices .ensures) .same in
+    let same = lowered s _ _ (made (search needs)) (first .write-vertices .ensures) .same in
     (s .pre .0, ((omega arith, s .pre .1 .0 .1, omega arith), omega (arith, s .pre .1 .1, same)))
 
 returns : tie.Need-returns
@@ -113,7 +129,7 @@ returns c =
     let s : tie.Start = search needs in
     let first : tie.After-write-vertices = search needs in
     let second : tie.After-write-vertices2 = search needs in
-    whole s _ _ (lowered s _ _ (signed (search needs)) (first .write-vertices .ensures)) (second .write-vertices2 .ensures)
+    whole s _ _ (lowered s _ _ (made (search needs)) (first .write-vertices .ensures)) (second .write-vertices2 .ensures)
 
 same-length : tie.Need-same-length
 same-length c = let s : tie.Start = search needs in ap length (returns c) ∙ placed-length _ (words s) _ (room s)
@@ -127,6 +143,10 @@ write-cell-spec =
     (λ c κs. search needs)
     (λ c. search needs)
     (λ c. search needs)
+    (λ c κs. search needs)
+    (λ c. search needs)
+    (λ c. search needs)
+    slice-write-out-2
     (λ c. search needs)
     (λ c. search needs)
     (λ c. search needs)

@@ -18,14 +18,14 @@ use Rattle.tables.proofs.Faults.{found-9, found-10, found-11, found-non
 use Rattle.tables.proofs.adjacency.adjacent.Statement.{statement}
 use Rattle.tables.proofs.adjacency.adjacent.Tie as tie
 
-abbrev held : tie.Start → List Cell
-held s = let a = s .args in heldCells (a .d) (a .s) (a .rows .now) (a .signs .now)
+abbrev held : tie.Start → (ℕ → ℕ) → List Cell
+held s made = let a = s .args in heldCells (a .d) (a .s) (a .rows .now) (a .signs .now) made
 
-nine : (s : tie.Start) → cellTwice (held s) ≡ true → 9 ≡ faults (held s)
-nine s = let a = s .args in found-9 _ _ (a .rows .now) (a .signs .now) (s .pre .0 .0) (s .pre .0 .1) (s .pre .0 .2)
+nine : (s : tie.Start) (made : ℕ → ℕ) → cellTwice (held s made) ≡ true → 9 ≡ faults (held s made)
+nine s made = let a = s .args in found-9 _ _ (a .rows .now) (a .signs .now) made (s .pre .0 .0) (s .pre .0 .1) (s .pre .0 .2)
 
 -- what pairing found
-module _ (p : tie.After-pair) where
+module _ (p : tie.After-pair) (made : ℕ → ℕ) where
   abbrev matched : tie.After-earlier-equal
   matched = p .before .before .before
 
@@ -44,55 +44,56 @@ module _ (p : tie.After-pair) where
   counted : faces ≡ faceCount (start .args .d) (start .args .s)
   counted = sym (face-count (start .args .d) (start .args .s) some)
 
-  ten : cellTwice (held start) ≡ false → p .pair .result .crowded ≡ true → 10 ≡ faults (held start)
+  ten : cellTwice (held start made) ≡ false → p .pair .result .crowded ≡ true → 10 ≡ faults (held start made)
   ten once e =
       let a = start .args in
-      found-10 (a .d) (a .s) (a .rows .now) (a .signs .now) (start .pre .0 .0) (start .pre .0 .1) (start .pre .0 .2) keys faces counted
+      found-10 (a .d) (a .s) (a .rows .now) (a .signs .now) made (start .pre .0 .0) (start .pre .0 .1) (start .pre .0 .2) keys faces counted
       (matched .earlier-equal .ensures .1 .0) once (sym (p .pair .ensures .twice) ∙ e)
 
   module _ (met : p .pair .result .crowded ≡ false) where
-    twin : cellTwice (held start) ≡ p .pair .result .repeated
+    twin : cellTwice (held start made) ≡ p .pair .result .repeated
     twin =
         let a = start .args in
-        twins-are (a .d) (a .s) (a .rows .now) (a .signs .now) (start .pre .0 .0) (start .pre .0 .1) (start .pre .0 .2) keys faces counted
+        twins-are (a .d) (a .s) (a .rows .now) (a .signs .now) made (start .pre .0 .0) (start .pre .0 .1) (start .pre .0 .2) keys faces counted
         (matched .earlier-equal .ensures .1 .0) (sym (p .pair .ensures .twice) ∙ met) some
         ∙ sym (p .pair .ensures .twin)
 
-    eleven : cellTwice (held start) ≡ false → p .pair .result .equal ≡ true → 11 ≡ faults (held start)
+    eleven : cellTwice (held start made) ≡ false → p .pair .result .equal ≡ true → 11 ≡ faults (held start made)
     eleven once e =
         let a = start .args in
-        found-11 (a .d) (a .s) (a .rows .now) (a .signs .now) (start .pre .0 .0) (start .pre .0 .1) (start .pre .0 .2) keys faces counted
+        found-11 (a .d) (a .s) (a .rows .now) (a .signs .now) made (start .pre .0 .0) (start .pre .0 .1) (start .pre .0 .2) keys faces counted
         (matched .earlier-equal .ensures .1 .0) (sym (p .pair .ensures .twice) ∙ met) once (sym (p .pair .ensures .like) ∙ e)
 
-    none : cellTwice (held start) ≡ false → p .pair .result .equal ≡ false → 0 ≡ faults (held start)
+    none : cellTwice (held start made) ≡ false → p .pair .result .equal ≡ false → 0 ≡ faults (held start made)
     none once e =
         let a = start .args in
-        found-none (a .d) (a .s) (a .rows .now) (a .signs .now) (start .pre .0 .0) (start .pre .0 .1) (start .pre .0 .2) keys faces counted
+        found-none (a .d) (a .s) (a .rows .now) (a .signs .now) made (start .pre .0 .0) (start .pre .0 .1) (start .pre .0 .2) keys faces counted
         (matched .earlier-equal .ensures .1 .0) (sym (p .pair .ensures .twice) ∙ met) once (sym (p .pair .ensures .like) ∙ e)
 
-    wings : (X : List ℕ) → X ≡ p .pair .last .1 .1 .1 .1 .1 .0 → Winged (start .args .d) (held start) X
+    wings : (X : List ℕ) → X ≡ p .pair .last .1 .1 .1 .1 .1 .0 → Winged (start .args .d) (held start made) X
     wings X e =
         let a = start .args in
-        found-wings (a .d) (a .s) (a .rows .now) (a .signs .now) (start .pre .0 .0) (start .pre .0 .1) (start .pre .0 .2) keys faces counted
+        found-wings (a .d) (a .s) (a .rows .now) (a .signs .now) made (start .pre .0 .0) (start .pre .0 .1) (start .pre .0 .2) keys faces counted
         (matched .earlier-equal .ensures .1 .0) (sym (p .pair .ensures .twice) ∙ met) (a .wings .now) X (start .pre .1) (start .pre .0 .3)
         (e ∙ p .pair .ensures .wings)
 
 returns : tie.Need-returns
 returns c =
-    let s = c .before .before .before .before in
-    (nine s (sym (c .before .any-repeated .ensures (s .args .signs .now)) ∙ c .if2 .taken), λ z. absurd (omega (arith, z)))
+    let s = c .before .before .before .before in (
+      (λ made. nine s made (sym (c .before .any-repeated .ensures (s .args .signs .now) made) ∙ c .if2 .taken)),
+      (λ made z. absurd (omega (arith, z))),
+    )
 
 -- points have no faces
 returns-2 : tie.Need-returns-2
 returns-2 c =
     let s = c .before .before .before .before in
     let a = s .args in
-    let empty : 0 ≡ faceCount (a .d) (a .s) = sym (ap (λ (d : ℕ). faceCount d (a .s)) (c .before .before .before .if1 .taken)) in
-    let once = sym (c .before .any-repeated .ensures (a .signs .now)) ∙ c .if2 .left in (
-      found-none _ _ (a .rows .now) (a .signs .now) (s .pre .0 .0) (s .pre .0 .1)
-          (s .pre .0 .2) [] 0 empty (λ g l. absurd (not-suc-le-zero l)) refl once refl,
-      λ z.
-          found-wings _ _ (a .rows .now) (a .signs .now) (s .pre .0 .0)
+    let empty : 0 ≡ faceCount (a .d) (a .s) = sym (ap (λ (d : ℕ). faceCount d (a .s)) (c .before .before .before .if1 .taken)) in (
+      (λ made. found-none _ _ (a .rows .now) (a .signs .now) made (s .pre .0 .0) (s .pre .0 .1) (s .pre .0 .2) [] 0 empty
+          (λ g l. absurd (not-suc-le-zero l)) refl (sym (c .before .any-repeated .ensures (a .signs .now) made) ∙ c .if2 .left) refl),
+      λ made z.
+          found-wings _ _ (a .rows .now) (a .signs .now) made (s .pre .0 .0)
           (s .pre .0 .1) (s .pre .0 .2) [] 0 empty (λ g l. absurd (not-suc-le-zero l)) refl (a .wings .now) _ (s .pre .1) (s .pre .0 .3) refl,
     )
 
@@ -120,30 +121,39 @@ pair-requires c κs =
 returns-3 : tie.Need-returns-3
 returns-3 c =
     let p = c .before .before .before .before in
-    (nine (start p) (sym (c .before .any-repeated2 .ensures (start p .args .signs .now)) ∙ c .if4 .taken), λ z. absurd (omega (arith, z)))
+    let s = start p (λ q. 0) in (
+      (λ made. nine s made (sym (c .before .any-repeated2 .ensures (s .args .signs .now) made) ∙ c .if4 .taken)),
+      (λ made z. absurd (omega (arith, z))),
+    )
 
 returns-4 : tie.Need-returns-4
 returns-4 c =
     let p = c .before .before .before .before in
-    let once = sym (c .before .any-repeated2 .ensures (start p .args .signs .now)) ∙ c .if4 .left in
-    (ten p once (cc), λ z. absurd (omega (arith, z)))
+    let s = start p (λ q. 0) in (
+      (λ made. ten p made (sym (c .before .any-repeated2 .ensures (s .args .signs .now) made) ∙ c .if4 .left) (cc)),
+      (λ made z. absurd (omega (arith, z))),
+    )
 
 returns-5 : tie.Need-returns-5
 returns-5 c =
-    let p = c .before .before in
-    (nine (start p) (twin p (c .before .if3 .left) ∙ c .if5 .taken), λ z. absurd (omega (arith, z)))
+    let p = c .before .before in (
+      (λ made. nine (start p made) made (twin p made (c .before .if3 .left) ∙ c .if5 .taken)),
+      (λ made z. absurd (omega (arith, z))),
+    )
 
 returns-6 : tie.Need-returns-6
 returns-6 c =
     let p = c .before .before .before in
-    let met = c .before .before .if3 .left in
-    (eleven p met (twin p met ∙ c .before .if5 .left) (c .if6 .taken), λ z. absurd (omega (arith, z)))
+    let met = c .before .before .if3 .left in (
+      (λ made. eleven p made met (twin p made met ∙ c .before .if5 .left) (c .if6 .taken)),
+      (λ made z. absurd (omega (arith, z))),
+    )
 
 returns-7 : tie.Need-returns-7
 returns-7 c =
     let p = c .before .before .before in
     let met = c .before .before .if3 .left in
-    (none p met (twin p met ∙ c .before .if5 .left) (c .if6 .left), λ z. wings p met _ refl)
+    ((λ made. none p made met (twin p made met ∙ c .before .if5 .left) (c .if6 .left)), (λ made z. wings p made met _ refl))
 
 pub adjacent-spec : {M : Type 1} → statement M
 adjacent-spec =

@@ -19,7 +19,7 @@ any-seen-requires c κs = omega arith
 returns : tie.Need-returns
 returns c =
     let s = c .before .before .before .before in
-    λ signs. c .any-seen .ensures ∙ sym (twice-is _ _ _ signs (s .pre .0) (s .pre .1) (s .pre .2)
+    λ signs made. c .any-seen .ensures ∙ sym (twice-is _ _ _ signs made (s .pre .0) (s .pre .1) (s .pre .2)
     (c .before .before .earlier-equal .last .1 .1 .1 .1 .1 .0) (c .before .before .earlier-equal .ensures .1 .0))
 
 pub any-repeated-spec : {M : Type 1} → statement M

@@ -6,14 +6,15 @@ use native.Mathlib.Omega.{arith}
 use lib.ListN.{length}
 use borrow.Author.Count.{below-none, below-more}
 use borrow.Author.Needs.{needs}
-use Rattle.tables.specs.Inner.Held.{cellHeld, cellRead}
+use Rattle.tables.specs.Inner.Held.{cellHeld, cellRead, materialAt}
 use Rattle.simplex.specs.Order.{ascending}
 use Rattle.tables.proofs.gather.gather.Statement.{statement}
 use Rattle.tables.proofs.gather.gather.Tie as tie
 
 abbrev Inv-loop : tie.InvT-loop
 Inv-loop size d s words rows₀ signs₀ p₀ rows signs p =
-    (p ≤ s) × (length rows ≡ 32768) × (length signs ≡ 4096) × ((q : ℕ) → q < p → cellHeld d rows signs q ≡ ascending (cellRead size d words q))
+    (p ≤ s) × (length rows ≡ 32768) × (length signs ≡ 4096)
+    × ((q : ℕ) → q < p → cellHeld d rows signs (materialAt size words) q ≡ ascending (cellRead size d words q))
 
 abbrev μ-loop : tie.MeasureT-loop
 μ-loop size d s words rows₀ signs₀ p₀ rows signs p = s - p

@@ -86,7 +86,7 @@ returns-4 c =
     let v : tie.After-enum-told2 = search needs in
     let size : tie.After-record-size = search needs in
     let none = sym (ap verdictOf (v .enum-told2 .given .1)) ∙ answered t in
-    sound-same _ _ _ _ (inside (search needs)) (long (search needs)) _ _ _ _ none
+    sound-same _ _ _ _ (inside (search needs)) (long (search needs)) _ _ _ _ _ none
     (rw (size .record-size .ensures) at (t .take .ensures .1 (ap verdictOf (v .enum-told2 .given .1)))) (c .same .ensures)
 
 pub is-sound-spec : {M : Type 1} → statement M

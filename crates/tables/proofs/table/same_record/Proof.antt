@@ -1,4 +1,4 @@
--- A record is compared in its three parts. Assumes nothing.
+-- A record is compared in its parts, but for its material. Assumes nothing.
 use mathlib.Core.Path.{refl, sym, ap, _∙_}
 use Prim.Native.Nat.{ℕ, _+_, _*_, _≤_}
 use native.Mathlib.Nat.{mul-le-mul-right}
@@ -18,7 +18,7 @@ held c = let a = c .args in omega (arith, mul-le-mul-right {m = a .p} {n = 4095}
 returns : tie.Need-returns
 returns c =
     let s : tie.Start = search needs in
-    sym (record-same (s .args .d) _ _ _ _ _ (s .args .table .now)
+    sym (record-same (s .args .d) _ _ _ _ _ _ (s .args .table .now) refl
     ∙ rw (ne-eqb _ _ (λ e. c .if1 .taken (e ∙ sym (c .before .sign-word .ensures)))) refl)
 
 mul-same-run-2 : tie.Need-mul-same-run-2
@@ -39,7 +39,7 @@ returns-2 c =
     c .same-run2 .ensures
     ∙ ap (λ (w : ℕ). sameRow (run (a .d + 1) (a .at + w) (a .table .now)) (run (a .d + 1) (a .p * (a .d + 1)) (a .wings .now)))
     (place .first-wing .ensures)
-    ∙ sym (record-same (a .d) _ _ _ _ _ (a .table .now) ∙ rw (
+    ∙ sym (record-same (a .d) _ _ _ _ _ _ (a .table .now) refl ∙ rw (
       eq-eqb _ _ (same .if1 .left ∙ word .sign-word .ensures),
       sym (vertices .same-run .ensures) ∙ also .if2 .taken,
     ) refl)
@@ -49,7 +49,7 @@ returns-3 c =
     let s : tie.Start = search needs in
     let word : tie.After-sign-word = search needs in
     let same : tie.Else1 = search needs in
-    sym (record-same (s .args .d) _ _ _ _ _ (s .args .table .now) ∙ rw (
+    sym (record-same (s .args .d) _ _ _ _ _ _ (s .args .table .now) refl ∙ rw (
       eq-eqb _ _ (same .if1 .left ∙ word .sign-word .ensures),
       sym (c .before .same-run .ensures) ∙ c .if2 .left,
     ) refl)

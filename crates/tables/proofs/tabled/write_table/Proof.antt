@@ -29,7 +29,7 @@ take-requires c κs =
 abbrev start : tie.After-take → tie.Start
 start c = search needs
 
--- what is answered of rows 6 to 11
+-- what is answered of rows 6 to 8, 18 and 9 to 11
 answered : (c : tie.After-take) → let a = start c .args in
     verdictOf (c .take .result) ≡ firstRefusal solidRules (recordList (listSize (a .d)) (a .d) (a .v) (a .s) (a .cells .now))
 answered c =
@@ -43,7 +43,7 @@ returns c =
     let v = c .before .verdict .given in
     refuses _ _ _ _ _ _ (s .pre .2) (v .0 .0) (sym (ap verdictOf (v .1)) ∙ answered (search needs))
 
--- rows 6 to 11 pass
+-- these rows pass
 none : (c : tie.After-enum-told) → let a = start (search needs) .args in
     0 ≡ firstRefusal solidRules (recordList (listSize (a .d)) (a .d) (a .v) (a .s) (a .cells .now))
 none c = sym (ap verdictOf (c .enum-told .given .1)) ∙ answered (search needs)
@@ -58,7 +58,9 @@ fits : (c : tie.Else1) → let a = start (search needs) .args in
 fits c = sym (c .before .too-short .ensures) ∙ c .if1 .left
 
 fill-requires : tie.Need-fill-requires
-fill-requires c κs = (omega arith, omega arith, ltb-false _ _ (or-false _ _ (fits (search needs)) .0))
+fill-requires c κs =
+    let s : tie.Start = search needs in
+    (omega arith, omega arith, s .pre .2, ltb-false _ _ (or-false _ _ (fits (search needs)) .0))
 
 returns-3 : tie.Need-returns-3
 returns-3 c =
@@ -72,7 +74,7 @@ returns-3 c =
     let a = s .args in
     accepts _ _ _ _ _ _ (s .pre .2) (none t) _ _ (fits e) (count .table-words .ensures)
     (wrote .fill .ensures
-    ∙ taken-written (a .d) (a .v) (a .s) (a .cells .now) _ _ _ (a .table .now) (omega arith)
+    ∙ taken-written (a .d) (a .v) (a .s) (a .cells .now) _ _ _ _ (a .table .now) (omega arith)
     (omega arith) (s .pre .2) (rw (l .list-size .ensures) at (call .take .ensures .1 (ap verdictOf (t .enum-told .given .1)))))
 
 pub write-table-spec : {M : Type 1} → statement M

@@ -1,4 +1,4 @@
--- `take` answers the first refusal of rows 6 to 11: each test is a row's, by the laws of Refusing. Assumes nothing.
+-- `take` answers the first refusal: each test is a row's, by the laws of Refusing. Assumes nothing.
 use mathlib.Core.Path.{_≡_, sym, _∙_}
 use mathlib.Core.Bool.{false}
 use mathlib.Core.List.{List}
@@ -6,9 +6,10 @@ use Prim.Native.Nat.{ℕ, suc}
 use native.Mathlib.Omega.{arith}
 use borrow.Author.Needs.{needs}
 use Rattle.simplex.specs.Cell.{Sign}
-use Rattle.solids.specs.Accept.{Listed, badSign, listedCells, vertexBeyond, vertexTwice}
+use Rattle.solids.specs.Accept.{Listed, badMaterial, badSign, listedCells, vertexBeyond, vertexTwice}
 use Rattle.tables.specs.Inner.Held.{recordList}
-use Rattle.tables.proofs.Refusing.{first-sign, first-vertex, first-twice, sign-bad, vertex-beyond, vertex-twice, refused-rest, solid-held}
+use Rattle.tables.proofs.Refusing.{first-sign, first-vertex, first-twice, first-material, sign-bad, vertex-beyond, vertex-twice}
+use Rattle.tables.proofs.Refusing.{material-bad, refused-rest, solid-held}
 use Rattle.tables.proofs.take.take.Statement.{statement}
 use Rattle.tables.proofs.take.take.Tie as tie
 
@@ -24,7 +25,7 @@ rows c = c .gather .last .1 .1 .1 .1 .0
 abbrev signs : tie.After-gather → List Sign
 signs c = c .gather .last .1 .1 .1 .1 .1 .0
 
--- rows 6 to 8 are what the code tests
+-- rows 6 to 8 and 18 are what the code tests
 six : (c : tie.After-bad-sign) → badSign (list c) ≡ c .bad-sign .result
 six c =
     let s = start c in
@@ -49,6 +50,12 @@ eight c =
     vertex-twice (a .size) (a .d) (a .v) (a .s) (a .words .now) (pre .1) (pre .4) (rows g) (signs g) (pre .3) (pre .0)
     (g .gather .ensures .0 .0) (g .gather .ensures .1) ∙ sym (c .any-falls .ensures)
 
+eighteen : (c : tie.After-bad-material) → badMaterial (listedCells (list (search needs))) ≡ c .bad-material .result
+eighteen c =
+    let s : tie.Start = search needs in
+    let a = s .args in
+    material-bad (a .size) (a .d) (a .v) (a .s) (a .words .now) (s .pre .0 .1) (s .pre .0 .4) ∙ sym (c .bad-material .ensures)
+
 -- and where they pass
 six-passes : (c : tie.Else1) → badSign (list (c .before)) ≡ false
 six-passes c = six (c .before) ∙ c .if1 .left
@@ -58,6 +65,9 @@ seven-passes c = seven (c .before) ∙ c .if2 .left
 
 eight-passes : (c : tie.Else3) → vertexTwice (listedCells (list (search needs))) ≡ false
 eight-passes c = eight (c .before) ∙ c .if3 .left
+
+eighteen-passes : (c : tie.Else4) → badMaterial (listedCells (list (search needs))) ≡ false
+eighteen-passes c = eighteen (c .before) ∙ c .if4 .left
 
 -- a refusal's number is not 0
 some : (n : ℕ) → suc n ≡ 0 → ⊥
@@ -84,18 +94,29 @@ adjacent-requires c κs =
     ((pre .0, pre .3, g .gather .ensures .0 .0, s .pre .1 .2), sym (e .before .any-falls .ensures) ∙ e .if3 .left)
 
 returns-4 : tie.Need-returns-4
-returns-4 c =
+returns-4 c = (
+  first-material (list (search needs)) (six-passes (search needs)) (seven-passes (search needs)) (eight-passes (search needs))
+      (eighteen (c .before) ∙ c .if4 .taken),
+  λ z. absurd (some _ z),
+)
+
+returns-5 : tie.Need-returns-5
+returns-5 c =
     let s : tie.Start = search needs in
     let g : tie.After-gather = search needs in
+    let fourth : tie.Else4 = search needs in
+    let third = fourth .before .before in
+    let second = third .before .before .before in
+    let first = second .before .before .before .before .before .before in
     let held = g .gather .ensures in
     let a = s .args in
     let pre = s .pre .0 in
     let rest =
     refused-rest (a .size) (a .d) (a .v) (a .s) (a .words .now) (pre .1) (pre .4) (rows g) (signs g) (pre .3) (pre .0) (held .0 .0) (held .1)
-    (six-passes (search needs)) (seven-passes (search needs)) (eight-passes (search needs)) in
+    (six-passes first) (seven-passes second) (eight-passes third) (eighteen-passes fourth) in
     let cells = solid-held (a .size) (a .d) (a .v) (a .s) (a .words .now) (pre .1) (pre .4)
     (rows g) (signs g) (pre .3) (pre .0) (held .0 .0) (held .1) in
-    (c .adjacent .ensures .0 ∙ sym rest, λ z. record { wide = held .0 .0; cells = cells; winged = c .adjacent .ensures .1 z })
+    (c .adjacent .ensures .0 _ ∙ sym rest, λ z. record { wide = held .0 .0; cells = cells; winged = c .adjacent .ensures .1 _ z })
 
 pub take-spec : {M : Type 1} → statement M
 take-spec =
@@ -108,5 +129,7 @@ take-spec =
     returns-2
     (λ c κs. search needs)
     returns-3
+    (λ c κs. search needs)
+    returns-4
     adjacent-requires
-    returns-4)
+    returns-5)

@@ -16,7 +16,7 @@ abbrev start : tie.After-list-size → tie.Start
 start c = search needs
 
 within : (c : tie.After-list-size) → let a = start c .args in
-    (a .p * c .list-size .result + vertexPlace 0 + suc (a .d) ≤ length (a .cells .now)) × (a .p * c .list-size .result ≤ 4096 * 9)
+    (a .p * c .list-size .result + vertexPlace 0 + suc (a .d) ≤ length (a .cells .now)) × (a .p * c .list-size .result ≤ 4096 * 10)
 within c =
     let s = start c in
     let a = s .args in
