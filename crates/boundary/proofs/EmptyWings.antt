@@ -13,8 +13,8 @@ use Rattle.simplex.specs.Cell.{Cell, Row, Sign, cell, filled, one}
 use Rattle.simplex.specs.Chain.{total}
 use Rattle.simplex.specs.Faces.{allFaces, faces, keep}
 use Rattle.simplex.proofs.Cancel.{loneIn}
-use Rattle.simplex.proofs.Counts.{All}
-use Rattle.simplex.proofs.FaceCounts.{All-both, All-keep, All-map, all-in, faces-filled, facets-none, facets-same, keep-all, keep-append}
+use Rattle.simplex.proofs.Each.{All, All-both, All-keep, All-map}
+use Rattle.simplex.proofs.FaceCounts.{all-in, faces-filled, facets-none, facets-same, keep-all, keep-append}
 use Rattle.simplex.proofs.FaceCounts.{keep-ext, total-faces, two-long}
 use Rattle.simplex.proofs.Rows.{Long}
 use Rattle.solids.specs.Table.{entriesFrom, tableOf}

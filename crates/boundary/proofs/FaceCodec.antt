@@ -10,7 +10,7 @@ use lib.Seq.{take-at}
 use Rattle.words.specs.Records.{part}
 use Rattle.words.proofs.Records.{EachLong, tabulate-ext, tabulate-getD}
 use Rattle.simplex.specs.Cell.{Cell, cell, noCell}
-use Rattle.simplex.proofs.Counts.{All}
+use Rattle.simplex.proofs.Each.{All}
 use Rattle.simplex.proofs.Rows.{Long}
 use Rattle.records.specs.Layout.{faceOf, faceSize, facesOf, faceWords, facesWords}
 use Rattle.solids.proofs.Codec.{sign-back, words-record}

@@ -13,8 +13,8 @@ use lib.ListN.{length, length-append}
 use Rattle.words.specs.Records.{tabulate, part}
 use Rattle.simplex.specs.Cell.{Row, Cell, filled}
 use Rattle.simplex.specs.Faces.{faces, keep}
-use Rattle.simplex.proofs.Counts.{All, All-append}
-use Rattle.simplex.proofs.FaceCounts.{All-keep, faces-long}
+use Rattle.simplex.proofs.Each.{All, All-append, All-keep}
+use Rattle.simplex.proofs.FaceCounts.{faces-long}
 use Rattle.simplex.proofs.Faces.{faces-length}
 use Rattle.simplex.proofs.Rows.{Long}
 use Rattle.records.specs.Layout.{Entry, empty, recordSize, faceSize, entryIn, faceWords, facesWords}

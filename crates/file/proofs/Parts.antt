@@ -22,12 +22,13 @@ use lib.Ieee.{nan}
 use Rattle.words.specs.Bytes.{float64, word16, words16, wordsFrom}
 use Rattle.words.proofs.Records.{record-fits, tabulate-length, tabulate-at}
 use Rattle.words.proofs.Bytes.{words-of}
+use Rattle.rules.specs.Limits.{withMaterials}
 use Rattle.simplex.specs.Cell.{noCell}
 use Rattle.simplex.specs.SignWords.{signWord}
 use Rattle.records.specs.Layout.{cellWords}
 use Rattle.file.specs.File.{headerSize, versionOf, dimensionOf, cellCountOf, pointCount, cellsStart, cellHead, cellBytes, fileLength}
 use Rattle.file.specs.File.{filePoints, cellPart, signBytes, materialOf, fileCell, fileCells}
-use Rattle.file.specs.Inner.Places.{materialAt, wordsAt}
+use Rattle.file.specs.Inner.Places.{materialFrom, cellWordsFrom}
 
 -- bytes of a cell, and before its vertices
 abbrev pub size : List ℕ → ℕ
@@ -40,7 +41,7 @@ abbrev pub cellPlace : List ℕ → ℕ → ℕ
 cellPlace b p = cellsStart b + p * size b
 
 pub head-some : (k : ℕ) → 1 ≤ cellHead k
-head-some k = go (eqb k 2)
+head-some k = go (withMaterials k)
   where
     go : (t : Bool) → 1 ≤ cond t 3 1
     go true = omega arith
@@ -84,11 +85,11 @@ module _ (b : List ℕ) where
   pub cell-next : (p : ℕ) → cellPlace b p + size b ≡ cellPlace b (p + 1)
   cell-next p = omega (arith, add-mul p 1 (size b), one-mul (size b))
 
-  pub material-at : (p : ℕ) → materialOf b p ≡ materialAt (versionOf b) b (cellPlace b p)
+  pub material-at : (p : ℕ) → materialOf b p ≡ materialFrom (versionOf b) b (cellPlace b p)
   material-at p =
       let e2 : cellPlace b p + 2 ≡ cellPlace b p + 1 + 1 = omega arith in
       let some = head-some (versionOf b) in
-      ap₂ (λ x y. cond (eqb (versionOf b) 2) (x + y * 256) 0) (byte-at p 1 (omega (arith, some)))
+      ap₂ (λ x y. cond (withMaterials (versionOf b)) (x + y * 256) 0) (byte-at p 1 (omega (arith, some)))
       (byte-at p 2 (omega (arith, some)) ∙ ap (λ k. getD b k 0) e2)
 
   module _ (whole : length b ≡ fileLength b) (p : ℕ) (h : p < cellCountOf b) where
@@ -121,8 +122,8 @@ module _ (b : List ℕ) where
       pub row-at : (at : ℕ) → at ≡ cellPlace b p + head b → wordsFrom b at m ≡ getD (fileCells b) p noCell .row
       row-at at e = ap (λ x. wordsFrom b x m) e ∙ row-from ∙ sym (ap (λ c. c .row) file-cell)
 
-      pub words-at : (at : ℕ) → at ≡ cellPlace b p → wordsAt (versionOf b) b at m ≡ cellWords (fileCell b p)
+      pub words-at : (at : ℕ) → at ≡ cellPlace b p → cellWordsFrom (versionOf b) b at m ≡ cellWords (fileCell b p)
       words-at at e =
-          ap (λ x. wordsAt (versionOf b) b x m) e
-          ∙ ap₂ {C = List ℕ} (λ x w. signWord (eqb x 43) ∷ materialAt (versionOf b) b (cellPlace b p) ∷ w) (sym (first-byte p)) row-from
+          ap (λ x. cellWordsFrom (versionOf b) b x m) e
+          ∙ ap₂ {C = List ℕ} (λ x w. signWord (eqb x 43) ∷ materialFrom (versionOf b) b (cellPlace b p) ∷ w) (sym (first-byte p)) row-from
           ∙ ap {B = List ℕ} (λ n. signWord (eqb (getD (cellPart b p) 0 0) 43) ∷ n ∷ words16 (drop (head b) (cellPart b p))) (sym (material-at p))

@@ -19,6 +19,7 @@ use lib.Ieee.{Float}
 use Rattle.words.specs.Records.{tabulate, part}
 use Rattle.words.specs.Bytes.{word16, word64, float64, words16}
 use Rattle.words.specs.Text.{ascii}
+use Rattle.rules.specs.Limits.{withMaterials}
 use Rattle.simplex.specs.Cell.{Cell, cell}
 use Rattle.points.specs.declared.step.Step.{Step}
 use Rattle.points.specs.declared.step.Step.the-variants as S
@@ -88,7 +89,7 @@ abbrev pub cellsStart : List ℕ → ℕ
 cellsStart b = headerSize + pointCount b * 8
 
 abbrev pub cellHead : ℕ → ℕ
-cellHead k = cond (eqb k 2) 3 1
+cellHead k = cond (withMaterials k) 3 1
 
 abbrev pub cellBytes : ℕ → ℕ → ℕ
 cellBytes k d = cellHead k + suc d * 2
@@ -107,7 +108,7 @@ abbrev pub signBytes : List ℕ → List ℕ
 signBytes b = tabulate (cellCountOf b) (λ p. getD (cellPart b p) 0 0)
 
 abbrev pub materialOf : List ℕ → ℕ → ℕ
-materialOf b p = cond (eqb (versionOf b) 2) (word16 (cellPart b p) 1) 0
+materialOf b p = cond (withMaterials (versionOf b)) (word16 (cellPart b p) 1) 0
 
 -- 43 is plus, 45 is minus
 abbrev pub fileCell : List ℕ → ℕ → Cell

@@ -4,6 +4,7 @@ use records::sizes::MATERIAL;
 use records::sizes::VERTICES;
 use records::sizes::list_size;
 use rules::limits::Shape;
+use rules::limits::with_materials;
 use simplex::sign_words::sign_word;
 use words::copy;
 use words::little;
@@ -20,7 +21,7 @@ ghost use Rattle.solids.specs.Accept.{vertexBeyond, vertexTwice, repeats, badMa
 ghost use Rattle.file.specs.File.{headerSize, versionOf, dimensionOf, vertexCountOf, cellCountOf, cellsStart, cellHead, cellBytes};
 ghost use Rattle.file.specs.File.{fileLength, signBytes, fileCells};
 ghost use Rattle.file.specs.Tests.{cellsLength, fileWords};
-ghost use Rattle.file.specs.Inner.Places.{materialAt, wordsAt};
+ghost use Rattle.file.specs.Inner.Places.{materialFrom, cellWordsFrom};
 
 // Where cell p stands.
 fn cell_at(b: &[u8], p: usize) -> usize
@@ -28,9 +29,9 @@ fn cell_at(b: &[u8], p: usize) -> usize
     ensures { λ r. ⌜ (r ≡ cellsStart (now (b .entry)) + p * cellBytes (versionOf (now (b .entry))) (dimensionOf (now (b .entry))))
         × (r + cellBytes (versionOf (now (b .entry))) (dimensionOf (now (b .entry))) ≤ length (now (b .entry))) ⌝ }
 {
-    let points = numbers::point_count(b);
+    let start = numbers::cells_start(b);
     let size = numbers::cell_size(numbers::version(b), numbers::dimension(b));
-    40 + points * 8 + p * size
+    start + p * size
 }
 
 // Where its vertices stand.
@@ -45,9 +46,9 @@ fn vertices_at(b: &[u8], p: usize) -> usize
 // The material of the cell at `at`: files of version 1 have none.
 fn material(b: &[u8], version: usize, at: usize) -> u16
     requires { ⌜ at + cellHead version ≤ length (now b) ⌝ }
-    ensures { λ r. ⌜ r ≡ materialAt version (now (b .entry)) at ⌝ }
+    ensures { λ r. ⌜ r ≡ materialFrom version (now (b .entry)) at ⌝ }
 {
-    if version == 2 {
+    if with_materials(version) {
         return little::word16(b, at + 1);
     }
     0
@@ -196,7 +197,7 @@ pub fn words(b: &[u8]) -> usize
 // Writes the words of the cell of m vertices at `at` to the places from `to`.
 fn write_cell(b: &[u8], version: usize, m: usize, at: usize, out: &mut [u16], to: usize)
     requires { ⌜ (at + cellHead version + m * 2 ≤ length (now b)) × (to + 2 + m ≤ length (now out)) ⌝ }
-    ensures { λ _. ⌜ now (out .exit) ≡ placed to (wordsAt version (now (b .entry)) at m) (now (out .entry)) ⌝ }
+    ensures { λ _. ⌜ now (out .exit) ≡ placed to (cellWordsFrom version (now (b .entry)) at m) (now (out .entry)) ⌝ }
 {
     out[to] = sign_word(b[at] == 43);
     out[to + MATERIAL] = material(b, version, at);
@@ -214,7 +215,7 @@ pub fn write_cells(b: &[u8], out: &mut [u16])
     let bytes = numbers::cell_size(version, d);
     let size = list_size(d);
     let mut p: usize = 0;
-    let mut at = 40 + numbers::point_count(b) * 8;
+    let mut at = numbers::cells_start(b);
     let mut to: usize = 0;
     while p < count {
         write_cell(b, version, d + 1, at, out, to);

@@ -6,6 +6,7 @@ use rules::limits::Shape;
 use rules::limits::axes_ok;
 use rules::limits::steps_ok;
 use rules::limits::version_ok;
+use rules::limits::with_materials;
 use words::little;
 ghost use mathlib.Core.Path.{_≡_};
 ghost use mathlib.Core.Bool.{not};
@@ -14,7 +15,7 @@ ghost use lib.Dec.{eqb};
 ghost use lib.ListN.{length, getD, take};
 ghost use Rattle.simplex.specs.Cell.{sameRow};
 ghost use Rattle.file.specs.File.{headerSize, versionOf, dimensionOf, axesOf, vertexCountOf, cellCountOf, stepsOf, pointCount};
-ghost use Rattle.file.specs.File.{cellHead, cellBytes, fileLength};
+ghost use Rattle.file.specs.File.{cellsStart, cellHead, cellBytes, fileLength};
 ghost use Rattle.file.specs.Tests.{notOurs, numbersFit, numbersOk};
 
 fn wide(x: u8) -> usize
@@ -86,11 +87,19 @@ pub fn point_count(b: &[u8]) -> usize
     vertex_count(b) * axes(b)
 }
 
+// Where the cells begin: behind the header and the points.
+pub fn cells_start(b: &[u8]) -> usize
+    requires { ⌜ headerSize ≤ length (now b) ⌝ }
+    ensures { λ r. ⌜ (r ≡ cellsStart (now (b .entry))) × (r < 268435456) ⌝ }
+{
+    40 + point_count(b) * 8
+}
+
 // Bytes of a cell before its vertices: the sign, and in version 2 the material.
 pub(crate) fn head(version: usize) -> usize
     ensures { λ r. ⌜ (r ≡ cellHead version) × (r ≤ 3) ⌝ }
 {
-    if version == 2 {
+    if with_materials(version) {
         return 3;
     }
     1
@@ -160,8 +169,8 @@ pub fn wrong_length(b: &[u8]) -> bool
     requires { ⌜ headerSize ≤ length (now b) ⌝ }
     ensures { λ r. ⌜ r ≡ not (eqb (length (now (b .entry))) (fileLength (now (b .entry)))) ⌝ }
 {
-    let points = point_count(b);
+    let start = cells_start(b);
     let count = cell_count(b);
     let size = cell_size(version(b), dimension(b));
-    b.len() != 40 + points * 8 + count * size
+    b.len() != start + count * size
 }

@@ -4,7 +4,7 @@
 --   list-needs, list-small    what the tests say of the numbers and the lengths
 --   list-decodes              list on what is decoded
 -- Assumes nothing.
-use mathlib.Core.Path.{_≡_, refl, sym, ap}
+use mathlib.Core.Path.{_≡_, refl, sym}
 use mathlib.Core.Bool.{Bool, true, false, not, _&&_}
 use mathlib.Core.List.{List}
 use Prim.Native.Nat.{ℕ, _*_, _≤_}
@@ -18,27 +18,20 @@ use Rattle.words.specs.Bytes.{words16}
 use Rattle.words.specs.Records.{allOf}
 use Rattle.words.proofs.Bytes.{words-count}
 use Rattle.rules.specs.Calls.{Outcome, refused}
-use Rattle.rules.specs.Limits.{maxDimension, maxAxes, maxVertices, maxCells, axesOk, versionOk}
-use Rattle.rules.specs.Shapes.{shapeOk}
+use Rattle.rules.specs.Limits.{maxDimension, maxAxes, maxVertices, maxCells}
 use Rattle.rules.proofs.InLimits.{list-limits-are}
 use Rattle.rules.proofs.Tests.{and-parts}
 use Rattle.records.specs.Layout.{recordSize, tableLength}
 use Rattle.points.specs.Step.{inRange}
-use Rattle.list.specs.List.{listInput, listRules, listOutcome, listBuffer}
+use Rattle.list.specs.List.{numbersFit, listInput, listRules, listOutcome, listBuffer}
 use Rattle.hosting.specs.Floats.{floats64}
 use Rattle.hosting.specs.Lists.{hostListInput, hostListOutcome, hostListBuffer}
 use Rattle.hosting.specs.Inner.Rooms.{tableRoom, floatRoom}
 use Rattle.hosting.proofs.FloatLaws.{floats-length}
 
 module _ (k d n v s : ℕ) where
-  abbrev pub numbers : Bool
-  numbers = versionOk k && (shapeOk maxDimension d v s && axesOk n)
-
-  pub list-needs : not numbers ≡ false → (d ≤ maxDimension) × (n ≤ maxAxes) × (v ≤ maxVertices) × (s ≤ maxCells)
-  list-needs a =
-      let parts = and-parts (versionOk k) (shapeOk maxDimension d v s && axesOk n) (not-false numbers a) in
-      let l = list-limits-are d n v s (ap not (parts .1)) in
-      (l .dimension, l .axes, l .vertices, l .cells)
+  pub list-needs : not (numbersFit k d n v s) ≡ false → (d ≤ maxDimension) × (n ≤ maxAxes) × (v ≤ maxVertices) × (s ≤ maxCells)
+  list-needs a = let l = list-limits-are k d n v s a in (l .dimension, l .axes, l .vertices, l .cells)
 
   module _ (table points : List ℕ) where
     abbrev pub lengths : Bool
@@ -49,7 +42,7 @@ module _ (k d n v s : ℕ) where
         let both = and-parts (eqb (length table) (tableLength d s * 2)) (eqb (length points) (v * n * 8)) (not-false lengths b) in
         (eqb-true _ _ (both .0), eqb-true _ _ (both .1))
 
-    pub list-small : not numbers ≡ false → not lengths ≡ false → not (allOf inRange (floats64 points)) ≡ false →
+    pub list-small : not (numbersFit k d n v s) ≡ false → not lengths ≡ false → not (allOf inRange (floats64 points)) ≡ false →
         (length table ≤ tableRoom * 2) × (length points ≤ floatRoom * 8) × (allOf inRange (floats64 points) ≡ true)
     list-small a b c =
         let l = list-needs a in
@@ -68,11 +61,11 @@ module _ (k d n v s : ℕ) (table points out : List ℕ) where
   abbrev Refuses : ℕ → Type 0
   Refuses i = (refused i ≡ hostListOutcome k d n v s table points out) × (out ≡ hostListBuffer k d n v s table points out)
 
-  pub list-2 : not (numbers k d n v s) ≡ true → Refuses 2
+  pub list-2 : not (numbersFit k d n v s) ≡ true → Refuses 2
   unfolding hostListOutcome hostListBuffer
   list-2 a = rw a (refl, refl)
 
-  module _ (a : not (numbers k d n v s) ≡ false) where
+  module _ (a : not (numbersFit k d n v s) ≡ false) where
     pub list-3 : not (lengths k d n v s table points) ≡ true → Refuses 3
     unfolding hostListOutcome hostListBuffer
     list-3 b = rw (a, b) (refl, refl)

@@ -30,7 +30,8 @@ use Rattle.rules.proofs.InLimits.{limits-are}
 use Rattle.rules.proofs.Tests.{and-parts}
 use Rattle.records.specs.Layout.{listSize}
 use Rattle.solids.proofs.Tests.{or-false}
-use Rattle.file.specs.File.{headerSize, dimensionOf, axesOf, vertexCountOf, cellCountOf, stepsOf, kindOf, axisOf, pointCount, fileLength}
+use Rattle.file.specs.File.{headerSize, dimensionOf, axesOf, vertexCountOf, cellCountOf, stepsOf, kindOf, axisOf, pointCount, cellsStart}
+use Rattle.file.specs.File.{fileLength}
 use Rattle.file.specs.Tests.{numbersOk, cellsLength, fileWords}
 use Rattle.file.proofs.Stores.{words-count}
 use Rattle.read.specs.declared.Header.{Header}
@@ -217,11 +218,11 @@ module _ (b : List ℕ) where
             length-take-le 24 (drop 16 b) (omega (arith, length-drop 16 b)),
           )
 
-  pub points-put : (k : ℕ) (points new : List ℕ) → k ≡ pointCount b → new ≡ placed 0 (take (40 + k * 8 - 40) (drop 40 b)) points →
+  pub points-put : (end : ℕ) (points new : List ℕ) → end ≡ cellsStart b → new ≡ placed 0 (take (end - 40) (drop 40 b)) points →
       new ≡ written (pointBytes b) points
   unfolding pointBytes
-  points-put k points new ek en =
-      let n : 40 + k * 8 - 40 ≡ pointCount b * 8 = omega (arith, ek) in
+  points-put end points new e en =
+      let n : end - 40 ≡ pointCount b * 8 = omega (arith, e) in
       en ∙ ap (λ m. placed 0 (take m (drop 40 b)) points) n ∙ placed-first (pointBytes b) points
 
   -- an accepted file, as the code wrote its parts

@@ -7,11 +7,9 @@ use Prim.Native.Nat.{ℕ, _*_}
 use lib.Dec.{eqb}
 use lib.ListN.{length}
 use Rattle.words.specs.Bytes.{words16}
-use Rattle.rules.specs.Limits.{maxDimension, axesOk, versionOk}
-use Rattle.rules.specs.Shapes.{shapeOk}
 use Rattle.rules.specs.Calls.{Outcome, refused, after}
 use Rattle.records.specs.Layout.{tableLength}
-use Rattle.list.specs.List.{ListInput, listInput, listText, listOutcome}
+use Rattle.list.specs.List.{ListInput, numbersFit, listInput, listText, listOutcome}
 use Rattle.hosting.specs.Floats.{floats64}
 
 abbrev pub byBytes : Bool → Bool → Outcome ℕ → Outcome ℕ
@@ -24,7 +22,7 @@ module _ (k d n v s : ℕ) (table points out : List ℕ) where
   -- two bytes for each word of the table, eight for each float of the points
   unfoldable pub hostListOutcome : Outcome ℕ
   hostListOutcome =
-      byBytes (versionOk k && (shapeOk maxDimension d v s && axesOk n)) (eqb (length table) (tableLength d s * 2) && eqb (length points) (v * n * 8))
+      byBytes (numbersFit k d n v s) (eqb (length table) (tableLength d s * 2) && eqb (length points) (v * n * 8))
       (listOutcome hostListInput)
 
   unfoldable pub hostListBuffer : List ℕ

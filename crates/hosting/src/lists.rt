@@ -5,8 +5,7 @@ ghost use Prim.Native.Nat.{_*_, _≤_};
 ghost use lib.Dec.{eqb};
 ghost use lib.ListN.{length};
 ghost use Rattle.words.specs.Records.{allOf};
-ghost use Rattle.rules.specs.Limits.{maxDimension, maxAxes, maxVertices, maxCells, axesOk, versionOk};
-ghost use Rattle.rules.specs.Shapes.{shapeOk};
+ghost use Rattle.rules.specs.Limits.{maxDimension, maxAxes, maxVertices, maxCells};
 ghost use Rattle.rules.specs.Numbers.{outcomeOf};
 ghost use Rattle.records.specs.Layout.{tableLength};
 ghost use Rattle.points.specs.Step.{inRange};
@@ -17,24 +16,14 @@ ghost use Rattle.hosting.specs.Lists.{hostListInput, hostListOutcome, ho
 use crate::floats;
 use crate::floats::FLOAT_ROOM;
 use list::list;
+use list::numbers_fit;
 use records::sizes::TABLE_ROOM;
 use records::sizes::table_words;
 use rules::compare::both;
 use rules::compare::equal;
-use rules::limits::Shape;
-use rules::limits::axes_ok;
-use rules::limits::version_ok;
 use rules::refusal::Answer;
 use rules::refusal::Refusal;
 use words::copy;
-
-// Row 2.
-fn numbers_fit(version: usize, d: usize, n: usize, v: usize, s: usize) -> bool
-    ensures { λ r. ⌜ r ≡ (versionOk version && (shapeOk maxDimension d v s && axesOk n)) ⌝ }
-{
-    let fits = both(Shape::within(Shape::MAX_DIMENSION, d, v, s), axes_ok(n));
-    both(version_ok(version), fits)
-}
 
 // Row 3: two bytes for each word of the table, eight for each float of the points.
 fn lengths_fit(d: usize, n: usize, v: usize, s: usize, table: usize, points: usize) -> bool

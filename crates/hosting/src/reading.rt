@@ -87,7 +87,7 @@ fn put_points(file: &[u8], points: &mut [u8])
     requires { ⌜ (length (now file) ≡ fileLength (now file)) × (pointCount (now file) ≤ length (now points) / 8) ⌝ }
     ensures { λ _. ⌜ now (points .exit) ≡ written (pointBytes (now (file .entry))) (now (points .entry)) ⌝ }
 {
-    let end = 40 + numbers::point_count(file) * 8;
+    let end = numbers::cells_start(file);
     put_text(points, 0, &file[40..end]);
 }
 

@@ -1,9 +1,10 @@
 -- The call list: it takes a table and its points and writes the key's text, in the form of a version. Paper, sections 8 and 9.
 --   listInput         what the call is told
 --   listText          the key's text
+--   numbersFit k d n v s      row 2 of the numbers by themselves
 --   listTests         its refusals in order, but for row 15
 --   listRules, listOutcome (the count of bytes), listBuffer
-use mathlib.Core.Bool.{not, _&&_}
+use mathlib.Core.Bool.{Bool, not, _&&_}
 use mathlib.Core.List.{List, [], _∷_, _++_}
 use Prim.Native.Nat.{ℕ, _*_}
 use lib.Dec.{eqb}
@@ -39,9 +40,13 @@ listText i = keyText (i .version) (i .d) (i .n) (i .v) (i .points) (boundaryOf (
 abbrev pub listLength : ListInput → ℕ
 listLength i = length (listText i)
 
+-- 2: the version, the shape and the axes are within their limits
+abbrev pub numbersFit : ℕ → ℕ → ℕ → ℕ → ℕ → Bool
+numbersFit k d n v s = versionOk k && (shapeOk maxDimension d v s && axesOk n)
+
 abbrev pub listTests : List (Rule ListInput)
 listTests =
-    refuse 2 (λ i. not (versionOk (i .version) && (shapeOk maxDimension (i .d) (i .v) (i .s) && axesOk (i .n))))
+    refuse 2 (λ i. not (numbersFit (i .version) (i .d) (i .n) (i .v) (i .s)))
     ∷ refuse 3 (λ i. not (eqb (length (i .table)) (tableLength (i .d) (i .s)) && eqb (length (i .points)) (i .v * i .n)))
     ∷ refuse 4 (λ i. not (allOf inRange (i .points)))
     ∷ refuse 14 (λ i. not (sound (i .d) (i .v) (i .s) (i .table)))

@@ -17,15 +17,13 @@ ghost use mathlib.Core.Bool.{_&&_};
 ghost use Prim.Native.Nat.{_*_, _≤_};
 ghost use lib.Dec.{eqb};
 ghost use lib.ListN.{length};
-ghost use Rattle.rules.specs.Limits.{maxDimension, axesOk, versionOk};
-ghost use Rattle.rules.specs.Shapes.{shapeOk};
 ghost use Rattle.rules.specs.Numbers.{outcomeOf};
 ghost use Rattle.records.specs.Layout.{tableLength};
-ghost use Rattle.list.specs.List.{listInput, listOutcome, listBuffer};
+ghost use Rattle.list.specs.List.{numbersFit, listInput, listOutcome, listBuffer};
 
-// Row 2.
-fn numbers_fit(version: usize, d: usize, n: usize, v: usize, s: usize) -> bool
-    ensures { λ r. ⌜ r ≡ (versionOk version && (shapeOk maxDimension d v s && axesOk n)) ⌝ }
+// Row 2: whether it passes.
+pub fn numbers_fit(version: usize, d: usize, n: usize, v: usize, s: usize) -> bool
+    ensures { λ r. ⌜ r ≡ numbersFit version d n v s ⌝ }
 {
     let fits = both(Shape::within(Shape::MAX_DIMENSION, d, v, s), axes_ok(n));
     both(version_ok(version), fits)

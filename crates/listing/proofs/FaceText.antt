@@ -12,7 +12,7 @@ use Prim.Native.Nat.{ℕ, zero, suc, _+_, _≤_, _<_}
 use native.Mathlib.Nat.{le-of-suc-le-suc, not-suc-le-zero}
 use native.Mathlib.Omega.{arith}
 use lib.ListN.{length, take, set, length-append}
-use borrow.Author.Tests.{eq-eqb, ne-eqb}
+use Rattle.rules.specs.Limits.{withMaterials}
 use Rattle.simplex.specs.Cell.{Sign, Cell}
 use Rattle.simplex.specs.SignWords.{signOf, signWord}
 use Rattle.printing.specs.Decimal.{digits}
@@ -38,11 +38,11 @@ take-more (suc n) (y ∷ row) x h =
     ∙ ap {B = List ℕ} (λ r. y ∷ r) (take-more n row x (le-of-suc-le-suc h))
 
 module _ (k : ℕ) (f : Cell) where
-  pub fields-one : (k ≡ 2 → ⊥) → faceFields k f ≡ f .row
-  fields-one n = ap (λ t. f .row ++ cond t (f .material ∷ []) []) (ne-eqb k 2 n) ∙ append-nil (f .row)
+  pub fields-one : withMaterials k ≡ false → faceFields k f ≡ f .row
+  fields-one e = ap (λ t. f .row ++ cond t (f .material ∷ []) []) e ∙ append-nil (f .row)
 
-  pub fields-two : k ≡ 2 → faceFields k f ≡ f .row ++ f .material ∷ []
-  fields-two e = ap (λ t. f .row ++ cond t (f .material ∷ []) []) (eq-eqb k 2 e)
+  pub fields-two : withMaterials k ≡ true → faceFields k f ≡ f .row ++ f .material ∷ []
+  fields-two e = ap (λ t. f .row ++ cond t (f .material ∷ []) []) e
 
   pub face-line : (sign row : List ℕ) → sign ≡ signText (f .sign) → row ≡ faceFields k f → faceLine k f ≡ line sign (map digits row)
   unfolding faceLine

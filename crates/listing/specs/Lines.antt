@@ -7,11 +7,11 @@
 use mathlib.Core.List.{List, [], _∷_, _++_, map}
 use mathlib.Core.Bool.{true, false, cond}
 use Prim.Native.Nat.{ℕ}
-use lib.Dec.{eqb}
 use lib.Ieee.{Float}
 use lib.ListN.{length}
 use Rattle.words.specs.Records.{tabulate, part, concat}
 use Rattle.words.specs.Text.{ascii}
+use Rattle.rules.specs.Limits.{withMaterials}
 use Rattle.simplex.specs.Cell.{Sign, Cell}
 use Rattle.printing.specs.Decimal.{digits, coordinate}
 use Rattle.printing.specs.Fields.{line}
@@ -36,7 +36,7 @@ abbrev pub vertexLines : ℕ → ℕ → List Float → List ℕ
 vertexLines n v ps = concat (tabulate v (vertexLine n ps))
 
 abbrev pub faceFields : ℕ → Cell → List ℕ
-faceFields k f = f .row ++ cond (eqb k 2) (f .material ∷ []) []
+faceFields k f = f .row ++ cond (withMaterials k) (f .material ∷ []) []
 
 unfoldable pub faceLine : ℕ → Cell → List ℕ
 faceLine k f = line (signText (f .sign)) (map digits (faceFields k f))

@@ -6,6 +6,7 @@ use boundary::walk::next_face;
 use printing::fields::fields_len;
 use printing::lines::first_line;
 use records::reading::material;
+use rules::limits::with_materials;
 ghost use mathlib.Core.Path.{_≡_};
 ghost use mathlib.Core.List.{[], _∷_};
 ghost use Prim.Native.Nat.{_+_, _≤_, _<_};
@@ -59,7 +60,7 @@ fn fill_fields(
     ensures { λ r. ⌜ take r (now (row .exit)) ≡ faceFields version (faceAt d (now (table .entry)) p a) ⌝ }
 {
     fill_row(d, s, table, p, a, row);
-    if version == 2 {
+    if with_materials(version) {
         row[d] = material(d, s, table, p);
         return d + 1;
     }

@@ -8,7 +8,8 @@ use lib.Dec.{eqb}
 use Rattle.simplex.specs.Cell.{Cell, Row, filled, one, sameRow}
 use Rattle.simplex.specs.Chain.{sumRows, total}
 use Rattle.simplex.specs.Faces.{allFaces}
-use Rattle.simplex.proofs.Counts.{All, allFaces-append, countFaces, countFaces-append, countFaces-cond, countFaces-le, countFaces-map, sumChain-le}
+use Rattle.simplex.proofs.Each.{All}
+use Rattle.simplex.proofs.Counts.{allFaces-append, countFaces, countFaces-append, countFaces-cond, countFaces-le, countFaces-map, sumChain-le}
 use Rattle.simplex.proofs.Counts.{sumChain-sumRows, sumFaces-countFaces, sumRows-add, sumRows-append, sumRows-cond, sumRows-le}
 use Rattle.simplex.proofs.Rows.{Below, Filled, Good, hits}
 use Rattle.simplex.proofs.Sums.{sumChain-allFaces, sumFaces}

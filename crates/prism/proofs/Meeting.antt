@@ -12,7 +12,8 @@ use borrow.Author.Tests.{eq-eqb}
 use Rattle.simplex.specs.Cell.{Cell, Row, filled, one}
 use Rattle.simplex.specs.Chain.{total}
 use Rattle.simplex.specs.Faces.{allFaces, facets, without}
-use Rattle.simplex.proofs.Counts.{All, one-le, sumRows-countFaces-zero, sumRows-zero}
+use Rattle.simplex.proofs.Each.{All}
+use Rattle.simplex.proofs.Counts.{one-le, sumRows-countFaces-zero, sumRows-zero}
 use Rattle.simplex.proofs.FaceCounts.{facets-le, without-filled}
 use Rattle.simplex.proofs.Rows.{Below, Filled, Good, Long}
 use Rattle.simplex.proofs.Without.{without-length}

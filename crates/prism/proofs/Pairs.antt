@@ -11,7 +11,8 @@ use Rattle.simplex.specs.Cell.{Cell, Row, filled, one, sameRow, times}
 use Rattle.simplex.specs.Chain.{sumRows, total}
 use Rattle.simplex.specs.Faces.{allFaces, faces, facets, prefixed}
 use Rattle.simplex.proofs.Cancel.{Balanced, Paired, count-keep, loneIn, on-bal, plus-minus, restricted}
-use Rattle.simplex.proofs.Counts.{All, All-append, cond-le, one-and, sumChain-le, sumRows-allFaces}
+use Rattle.simplex.proofs.Each.{All, All-append}
+use Rattle.simplex.proofs.Counts.{cond-le, one-and, sumChain-le, sumRows-allFaces}
 use Rattle.simplex.proofs.Rows.{Below, Good, hits}
 use Rattle.simplex.proofs.Sums.{Functional, plusOn, sumChain, sumChain-allFaces, sumChain-append}
 use Rattle.solids.proofs.Solid.{Solid}

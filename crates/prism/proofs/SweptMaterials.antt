@@ -7,35 +7,30 @@ use mathlib.Core.List.{List, [], _∷_, _++_}
 use Prim.Native.Nat.{ℕ, zero, suc}
 use lib.Dec.{eqb}
 use lib.ListN.{length}
-use Rattle.words.specs.Records.{tabulate}
 use Rattle.simplex.specs.Cell.{Cell}
 use Rattle.simplex.specs.Chain.{ofMaterial}
 use Rattle.simplex.proofs.FaceCounts.{keep-append}
-use Rattle.simplex.proofs.Insert.{Each}
+use Rattle.simplex.proofs.Each.{Each, each-append}
 use Rattle.simplex.proofs.Materials.{ofMaterial-step}
+use Rattle.solids.proofs.Solid.{each-tabulated}
 use Rattle.prism.specs.Cells.{level, prism, prismCell, sweepOf}
 
 module _ (Q : ℕ → Type 0) where
-  each-append : (xs ys : List Cell) → Each (λ c. Q (c .material)) xs → Each (λ c. Q (c .material)) ys →
-      Each (λ c. Q (c .material)) (xs ++ ys)
-  each-append [] ys a b = b
-  each-append (x ∷ xs) ys a b = (a .0, each-append xs ys (a .1) b)
+  abbrev Made : List Cell → Type 0
+  Made cs = Each (λ c. Q (c .material)) cs
 
-  each-tabulated : (n : ℕ) (f : ℕ → Cell) → ((k : ℕ) → Q (f k .material)) → Each (λ c. Q (c .material)) (tabulate n f)
-  each-tabulated zero f h = tt
-  each-tabulated (suc n) f h = (h 0, each-tabulated n (λ k. f (suc k)) (λ k. h (suc k)))
+  each-prism : (v i : ℕ) (c : Cell) → Q (c .material) → Made (prism v i c)
+  each-prism v i c q = each-tabulated (λ c. Q (c .material)) (length (c .row)) (λ k. prismCell v i k c) (λ k l. q)
 
-  each-prism : (v i : ℕ) (c : Cell) → Q (c .material) → Each (λ c. Q (c .material)) (prism v i c)
-  each-prism v i c q = each-tabulated (length (c .row)) (λ k. prismCell v i k c) (λ k. q)
-
-  each-level : (v i : ℕ) (cs : List Cell) → Each (λ c. Q (c .material)) cs → Each (λ c. Q (c .material)) (level v i cs)
+  each-level : (v i : ℕ) (cs : List Cell) → Made cs → Made (level v i cs)
   each-level v i [] a = tt
   each-level v i (c ∷ cs) a =
-      each-append (prism v i c) (level v i cs) (each-prism v i c (a .0)) (each-level v i cs (a .1))
+      each-append (λ c. Q (c .material)) (prism v i c) (level v i cs) (each-prism v i c (a .0)) (each-level v i cs (a .1))
 
-  pub each-swept : (v h : ℕ) (cs : List Cell) → Each (λ c. Q (c .material)) cs → Each (λ c. Q (c .material)) (sweepOf v h cs)
+  pub each-swept : (v h : ℕ) (cs : List Cell) → Made cs → Made (sweepOf v h cs)
   each-swept v zero cs a = tt
-  each-swept v (suc h) cs a = each-append (sweepOf v h cs) (level v h cs) (each-swept v h cs a) (each-level v h cs a)
+  each-swept v (suc h) cs a =
+      each-append (λ c. Q (c .material)) (sweepOf v h cs) (level v h cs) (each-swept v h cs a) (each-level v h cs a)
 
 module _ (m : ℕ) where
   ofMaterial-level : (v i : ℕ) (cs : List Cell) → ofMaterial m (level v i cs) ≡ level v i (ofMaterial m cs)

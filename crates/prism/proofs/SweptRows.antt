@@ -13,7 +13,7 @@ use borrow.Author.Tests.{ltb-true, ltb-false}
 use Rattle.words.proofs.Records.{tabulate-at, tabulate-length}
 use Rattle.simplex.specs.Cell.{Cell, Row, cell, noCell}
 use Rattle.simplex.specs.Faces.{without}
-use Rattle.simplex.proofs.Counts.{All}
+use Rattle.simplex.proofs.Each.{All}
 use Rattle.simplex.proofs.Rows.{Below, Filled, Long}
 use Rattle.simplex.proofs.Without.{drop-face, drop-face-ge, take-face-ge, take-face-lt, without-left, without-map, without-right}
 use Rattle.solids.proofs.Solid.{rowAt}

@@ -13,8 +13,9 @@ use Rattle.simplex.specs.Chain.{sumRows, total}
 use Rattle.simplex.specs.Faces.{allFaces, facets}
 use Rattle.simplex.specs.Sort.{Asc}
 use Rattle.simplex.proofs.Cancel.{Paired}
-use Rattle.simplex.proofs.Counts.{All, All-append, one-and, sumChain-le, sumChain-sumRows, sumRows-append, sumRows-cond, sumRows-le}
-use Rattle.simplex.proofs.FaceCounts.{All-both, facets-le, facets-same}
+use Rattle.simplex.proofs.Each.{All, All-append, All-both}
+use Rattle.simplex.proofs.Counts.{one-and, sumChain-le, sumChain-sumRows, sumRows-append, sumRows-cond, sumRows-le}
+use Rattle.simplex.proofs.FaceCounts.{facets-le, facets-same}
 use Rattle.simplex.proofs.Rows.{Below, Filled, Good, Long, hits}
 use Rattle.solids.proofs.Solid.{Solid, all-tabulated}
 use Rattle.prism.specs.Cells.{level, prism, prismCell, sweepOf}

@@ -11,7 +11,7 @@ use Rattle.words.specs.Records.{concat, tabulate}
 use Rattle.words.proofs.Records.{EachLong, concat-length, tabulate-at, tabulate-ext, tabulate-length}
 use Rattle.simplex.specs.Cell.{Cell, cell, noCell}
 use Rattle.simplex.specs.Faces.{without}
-use Rattle.simplex.proofs.Counts.{All}
+use Rattle.simplex.proofs.Each.{All}
 use Rattle.simplex.proofs.Rows.{Long}
 use Rattle.records.specs.Layout.{empty, Entry}
 use Rattle.solids.specs.Table.{entryAt, tableOf, wingAt}

@@ -11,7 +11,7 @@ use native.Mathlib.Decide.{ℕ-discrete}
 use mathlib.Core.Logic.{_≢_}
 use Rattle.simplex.specs.Cell.{Cell}
 use Rattle.simplex.specs.Faces.{without}
-use Rattle.simplex.proofs.Counts.{All}
+use Rattle.simplex.proofs.Each.{All}
 use Rattle.simplex.proofs.Rows.{Long}
 use Rattle.solids.specs.Wings.{neighbour, neighbourFrom}
 use Rattle.solids.proofs.Solid.{Solid, rowAt}

@@ -1,7 +1,7 @@
 -- What numbers within the limits are, from the test of row 2 where it does not apply.
 --   Limits, limits-are              a shape's: the dimension at most top, the vertices, the cells
 --   SweepLimits, sweep-limits-are   a sweep's: a shape's of dimension 6, with the steps
---   ListLimits, list-limits-are     a list's: a shape's of dimension 7, with the axes
+--   ListLimits, list-limits-are     a list's: a shape's of dimension 7, with the axes; row 2 tests the version too
 --   MoveLimits, move-limits-are     a move's: axes, vertices, steps
 --   no-shape                        cells without vertices are of no shape
 --   sizes-follow                    sizes that have a vertex where others within the limits have, and no cells where those have none
@@ -12,7 +12,7 @@ use Prim.Native.Nat.{ℕ, zero, suc, _≤_}
 use lib.Dec.{eqb, leb, eqb·suc-zero}
 use borrow.Author.Tests.{leb-true, le-leb, not-false}
 use Rattle.rules.specs.Limits.{maxDimension, maxSource, maxAxes, maxVertices, maxCells, maxSteps, within}
-use Rattle.rules.specs.Limits.{axesOk, verticesOk, cellsOk, sizesOk, stepsOk}
+use Rattle.rules.specs.Limits.{axesOk, verticesOk, cellsOk, sizesOk, stepsOk, versionOk}
 use Rattle.rules.specs.Shapes.{shapeOk}
 use Rattle.rules.proofs.Tests.{and-parts}
 
@@ -51,9 +51,10 @@ pub record ListLimits (d n v s : ℕ) : Type 0 where
   pub vertices : v ≤ maxVertices
   pub cells : s ≤ maxCells
 
-pub list-limits-are : (d n v s : ℕ) → not (shapeOk maxDimension d v s && axesOk n) ≡ false → ListLimits d n v s
-list-limits-are d n v s e =
-    let both = and-parts (shapeOk maxDimension d v s) (axesOk n) (not-false (shapeOk maxDimension d v s && axesOk n) e) in
+pub list-limits-are : (k d n v s : ℕ) → not (versionOk k && (shapeOk maxDimension d v s && axesOk n)) ≡ false → ListLimits d n v s
+list-limits-are k d n v s e =
+    let numbers = shapeOk maxDimension d v s && axesOk n in
+    let both = and-parts (shapeOk maxDimension d v s) (axesOk n) (and-parts (versionOk k) numbers (not-false (versionOk k && numbers) e) .1) in
     let l = shape-limits maxDimension d v s (both .0) in
     record { dimension = l .dimension; axes = at-most maxAxes n (both .1); vertices = l .vertices; cells = l .cells }
 

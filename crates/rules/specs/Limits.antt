@@ -2,6 +2,7 @@
 --   maxDimension      d of a table; read and sweep go to maxSource, since a sweep adds one
 --   maxAxes, maxVertices, maxCells, maxSteps, maxMaterial, maxVersion
 --   axesOk, verticesOk, cellsOk, stepsOk, versionOk      one number is within its limits
+--   withMaterials k   whether files and keys of version k have materials
 --   sizesOk v s       vertex and cell count are; a solid may be without cells, and only then without vertices
 --   sweptVertices     the vertex count of a sweep: v vertices give (h + 1) v in h steps
 use mathlib.Core.Bool.{Bool, _&&_, _||_}
@@ -29,7 +30,7 @@ maxSteps = 64
 abbrev pub maxMaterial : ℕ
 maxMaterial = 999
 
--- of a file and of a key: materials come with version 2
+-- of a file and of a key
 abbrev pub maxVersion : ℕ
 maxVersion = 2
 
@@ -54,6 +55,9 @@ stepsOk h = within 1 maxSteps h
 
 abbrev pub versionOk : ℕ → Bool
 versionOk k = within 1 maxVersion k
+
+abbrev pub withMaterials : ℕ → Bool
+withMaterials k = eqb k 2
 
 abbrev pub sweptVertices : ℕ → ℕ → ℕ
 sweptVertices v h = suc h * v

@@ -6,7 +6,8 @@ use crate::compare::either;
 use crate::compare::equal;
 ghost use mathlib.Core.Path.{_≡_};
 ghost use Prim.Native.Nat.{_≤_};
-ghost use Rattle.rules.specs.Limits.{axesOk, verticesOk, cellsOk, sizesOk, stepsOk, versionOk, maxVertices, maxSteps, sweptVertices};
+ghost use Rattle.rules.specs.Limits.{axesOk, verticesOk, cellsOk, sizesOk, stepsOk, versionOk, withMaterials};
+ghost use Rattle.rules.specs.Limits.{maxVertices, maxSteps, sweptVertices};
 ghost use Rattle.rules.specs.Shapes.{shapeOf, shapeOk};
 
 // Dimension, vertex count and cell count of a table.
@@ -51,6 +52,13 @@ pub fn version_ok(version: usize) -> bool
     between(1, Shape::MAX_VERSION, version)
 }
 
+// Whether files and keys of that version have materials.
+pub fn with_materials(version: usize) -> bool
+    ensures { λ r. ⌜ r ≡ withMaterials version ⌝ }
+{
+    equal(version, 2)
+}
+
 // A solid may be without cells, and only then without vertices.
 pub fn sizes_ok(v: usize, s: usize) -> bool
     ensures { λ r. ⌜ r ≡ sizesOk v s ⌝ }
@@ -82,7 +90,7 @@ impl Shape {
 
     pub const MAX_MATERIAL: u16 = 999;
 
-    // Of a file and of a key: materials come with version 2.
+    // Of a file and of a key.
     pub const MAX_VERSION: usize = 2;
 
     // Whether the numbers make a shape: d is at most top, which is MAX_DIMENSION, or MAX_SOURCE for what is read or

@@ -1,6 +1,5 @@
 -- Sums over rows and over faces, signs aside.
 --   countFaces g w        the sum of g over the faces of a row
---   All P cs              each row of the list has the property
 use mathlib.Core.Path.{_≡_, refl, sym, ap, _∙_, fun-ext}
 use mathlib.Core.Bool.{Bool, true, false, not, cond, _&&_}
 use mathlib.Core.List.{List, [], _∷_, _++_, map, append-assoc}
@@ -9,6 +8,7 @@ use native.Mathlib.Omega.{arith}
 use Rattle.simplex.specs.Cell.{Cell, Row, one, times}
 use Rattle.simplex.specs.Chain.{sumRows}
 use Rattle.simplex.specs.Faces.{allFaces, faces}
+use Rattle.simplex.proofs.Each.{All}
 use Rattle.simplex.proofs.Rows.{Below}
 use Rattle.simplex.proofs.Sums.{Functional, sumChain, sumChain-allFaces, sumFaces}
 
@@ -61,10 +61,6 @@ pub sumRows-add : (f g : Row → ℕ) (cs : List Cell) → sumRows (λ y. f y + 
 sumRows-add f g [] = refl
 sumRows-add f g (c ∷ cs) = omega (arith, sumRows-add f g cs)
 
-abbrev pub All : (Row → Type 0) → List Cell → Type 0
-All p [] = Unit {0}
-All p (c ∷ cs) = p (c .row) × All p cs
-
 pub sumRows-le : (p : Row → Type 0) (f g : Row → ℕ) (cs : List Cell) → All p cs → ((y : Row) → p y → f y ≤ g y) → sumRows f cs ≤ sumRows g cs
 sumRows-le p f g [] a h = omega arith
 sumRows-le p f g (c ∷ cs) a h = omega (arith, h (c .row) (a .0), sumRows-le p f g cs (a .1) h)
@@ -105,8 +101,3 @@ countFaces-zero (x ∷ v) = omega (arith, countFaces-zero v)
 pub sumRows-countFaces-zero : (cs : List Cell) → sumRows (countFaces (λ y. 0)) cs ≡ 0
 sumRows-countFaces-zero [] = refl
 sumRows-countFaces-zero (c ∷ cs) = omega (arith, sumRows-countFaces-zero cs, countFaces-zero (c .row))
-
--- the faces of rows below nv are below nv
-pub All-append : (p : Row → Type 0) (xs ys : List Cell) → All p xs → All p ys → All p (xs ++ ys)
-All-append p [] ys a b = b
-All-append p (c ∷ xs) ys a b = (a .0, All-append p xs ys (a .1) b)

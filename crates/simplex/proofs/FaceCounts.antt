@@ -13,7 +13,8 @@ use Rattle.simplex.specs.Chain.{total}
 use Rattle.simplex.specs.Faces.{allFaces, faces, facets, keep, prefixed, without}
 use Rattle.simplex.specs.Sort.{Asc}
 use Rattle.simplex.proofs.Cancel.{total-keep}
-use Rattle.simplex.proofs.Counts.{All, All-append, cond-le, one-le, countFaces, sumChain-sumRows, sumFaces-countFaces}
+use Rattle.simplex.proofs.Each.{All, All-append, All-map}
+use Rattle.simplex.proofs.Counts.{cond-le, one-le, countFaces, sumChain-sumRows, sumFaces-countFaces}
 use Rattle.simplex.proofs.Rows.{Long, hits, sameRow-refl}
 use Rattle.simplex.proofs.Sums.{sumChain-faces}
 
@@ -101,10 +102,6 @@ pub keep-ext : (R : Row → Type 0) (q r : Row → Bool) (L : List Cell) → All
 keep-ext R q r [] a h = refl
 keep-ext R q r (c ∷ L) a h = ap₂ {C = List Cell} (λ t l. cond t (c ∷ l) l) (h (c .row) (a .0)) (keep-ext R q r L (a .1) h)
 
-pub All-map : (R Q : Row → Type 0) (L : List Cell) → ((w : Row) → R w → Q w) → All R L → All Q L
-All-map R Q [] h a = tt
-All-map R Q (c ∷ L) h a = (h (c .row) (a .0), All-map R Q L h (a .1))
-
 -- cells of dimension 1 and above have two vertices at least; those of dimension 0 have no faces
 pub two-long : (d : ℕ) (cs : List Cell) → All (Long (suc (suc d))) cs → All (λ v. 2 ≤ length v) cs
 two-long d cs long = All-map (Long (suc (suc d))) (λ v. 2 ≤ length v) cs (λ w e. omega arith) long
@@ -122,18 +119,6 @@ pub all-in : (L : List Cell) → All (λ w. 0 < total w L) L
 all-in [] = tt
 all-in (c ∷ L) =
     (omega (arith, ap one (sameRow-refl (c .row))), All-map (λ w. 0 < total w L) (λ w. 0 < total w (c ∷ L)) L (λ w h. omega arith) (all-in L))
-
-pub All-both : (R Q : Row → Type 0) (L : List Cell) → All R L → All Q L → All (λ w. R w × Q w) L
-All-both R Q [] a b = tt
-All-both R Q (c ∷ L) a b = ((a .0, b .0), All-both R Q L (a .1) (b .1))
-
-pub All-keep : (R : Row → Type 0) (q : Cell → Bool) (L : List Cell) → All R L → All R (keep q L)
-All-keep R q [] a = tt
-All-keep R q (c ∷ L) a = go (q c) (All-keep R q L (a .1))
-  where
-    go : (t : Bool) → All R (keep q L) → All R (cond t (c ∷ keep q L) (keep q L))
-    go true r = (a .0, r)
-    go false r = r
 
 -- faces have one vertex less
 front-long : (n x : ℕ) (L : List Cell) → All (Long n) L → All (Long (suc n)) (map (prefixed x) L)

@@ -1,5 +1,5 @@
 -- Laws of signed simplices.
---   Signs Rows Without                  products of signs; rows; rows less a vertex
+--   Signs Rows Each Without             products of signs; rows; a property of each element; rows less a vertex
 --   Up Insert Sorting Swaps Ascending   rows that ascend, sorting, exchanges of neighbours, orientation
 --   Places Removed Faces                where each vertex of the sorted row stood; a row less a vertex, sorted; the faces by position
 --   Sums Counts Cancel FaceCounts       sums over signed cells and over faces; faces that cancel
@@ -9,6 +9,7 @@
 --   Examples                            two signs and the places of a row, computed
 pub mod Signs
 pub mod Rows
+pub mod Each
 pub mod Without
 pub mod Up
 pub mod Insert

@@ -16,7 +16,7 @@ use Rattle.simplex.specs.Cell.{Cell, Row, Sign, cell, one, sameRow, time
 use Rattle.simplex.specs.Chain.{countOn, ofMaterial, Same}
 use Rattle.simplex.specs.Faces.{allFaces, faces, keep, prefixed}
 use Rattle.simplex.proofs.FaceCounts.{keep-append}
-use Rattle.simplex.proofs.Insert.{Each}
+use Rattle.simplex.proofs.Each.{Each}
 use Rattle.simplex.proofs.Rows.{sameRow-refl, sameRow-true}
 use Rattle.simplex.proofs.Signs.{times-self, times-same}
 use Rattle.simplex.proofs.Sums.{Functional, sumChain}
@@ -115,14 +115,6 @@ chain-made m f b (c ∷ cs) = go (eqb (c .material) m) (chain-made m f b cs)
 pub same-material : (xs ys : List Cell) → Same xs ys → (m : ℕ) (f : Functional) (b : Bool) →
     sumChain f b (ofMaterial m xs) ≡ sumChain f b (ofMaterial m ys)
 same-material xs ys e m f b = chain-made m f b xs ∙ sum-same xs ys e (madeSum m f b) ∙ sym (chain-made m f b ys)
-
-pub each-keep : (Q : Cell → Type 0) (q : Cell → Bool) (cs : List Cell) → Each Q cs → Each Q (keep q cs)
-each-keep Q q [] a = tt
-each-keep Q q (c ∷ cs) a = go (q c) (each-keep Q q cs (a .1))
-  where
-    go : (t : Bool) → Each Q (keep q cs) → Each Q (cond t (c ∷ keep q cs) (keep q cs))
-    go true r = (a .0, r)
-    go false r = r
 
 abbrev pub MadeOf : ℕ → List Cell → Type 0
 MadeOf n cs = Each (λ c. c .material ≡ n) cs

@@ -20,9 +20,8 @@ use Rattle.simplex.specs.Faces.{facets}
 use Rattle.simplex.specs.Order.{ascending, itself, sorted}
 use Rattle.simplex.specs.Sort.{Asc}
 use Rattle.simplex.proofs.Cancel.{Paired, loneIn, plus-minus}
-use Rattle.simplex.proofs.Counts.{All}
-use Rattle.simplex.proofs.FaceCounts.{All-both, All-map}
-use Rattle.simplex.proofs.Insert.{Each, sortBy-all}
+use Rattle.simplex.proofs.Each.{All, All-both, All-map, Each, each-map}
+use Rattle.simplex.proofs.Insert.{sortBy-all}
 use Rattle.simplex.proofs.Rows.{Below, Filled, Good, Long}
 use Rattle.simplex.proofs.Ascending.{ascending-of-asc}
 use Rattle.simplex.proofs.Sorting.{sorted-ascends, sorted-length}
@@ -35,8 +34,7 @@ use Rattle.records.proofs.Parts.{part-within}
 use Rattle.solids.proofs.Codec.{cells-back, list-record}
 use Rattle.solids.proofs.Solid.{Solid, all-tabulated}
 use Rattle.solids.proofs.Tables.{cellAt}
-use Rattle.solids.proofs.Tests.{all-below, asc-once, below-all, each-row, few-of, none-of, of-few, of-none, once-each, once-signs, row-each}
-use Rattle.solids.proofs.Tests.{signs-once}
+use Rattle.solids.proofs.Tests.{all-below, asc-once, below-all, few-of, none-of, of-few, of-none, once-each, once-signs, signs-once}
 
 pub record Passed (l : Listed) : Type 0 where
   pub sign : badSign l ≡ false
@@ -95,10 +93,6 @@ all-made : (cs : List Cell) → Each (λ c. ltb maxMaterial (c .material) ≡ fa
 all-made [] a = tt
 all-made (c ∷ cs) a = (ltb-false maxMaterial (c .material) (a .0), all-made cs (a .1))
 
-made-all : (cs : List Cell) → Each (λ c. c .material ≤ maxMaterial) cs → Each (λ c. ltb maxMaterial (c .material) ≡ false) cs
-made-all [] a = tt
-made-all (c ∷ cs) a = (le-ltb maxMaterial (c .material) (a .0), made-all cs (a .1))
-
 -- accepted cells are a solid
 pub accepted-solid : (l : Listed) → length (l .words) ≡ l .s * listSize (l .d) →
     acceptable l ≡ true → Solid (l .v) (solidOf l) × All (Long (suc (l .d))) (solidOf l)
@@ -108,8 +102,7 @@ accepted-solid l e k = (
         (λ w r. (long-filled (l .d) (sorted w) (sorted-length w ∙ r .0), sorted-below (l .v) w (r .1)))
         (All-both (Long (suc (l .d))) (Below (l .v)) cells long (all-below (l .v) cells (p .vertex)));
     asc = all-sorted (λ w. repeats w ≡ false) Asc cells (λ w r. sorted-ascends w (once-each w r))
-        (each-row (λ w. repeats w ≡ false) (λ c. repeats (c .row) ≡ false) cells (λ c r. r)
-        (none-of (λ c. repeats (c .row)) cells (p .twice)));
+        (none-of (λ c. repeats (c .row)) cells (p .twice));
     distinct = few-of 1 (solidOf l) (p .cell);
     meet = few-of 2 (facets (solidOf l)) (p .crowded);
     paired = paired;
@@ -169,8 +162,12 @@ solid-accepted d v cs solid long =
       sign = sign-words d cs long;
       vertex = ap (vertexBeyond v) (cells-back d cs long) ∙ below-all v cs (All-map (Good v) (Below v) cs (λ w g. g .1) (solid .rows));
       twice = ap vertexTwice (cells-back d cs long)
-          ∙ of-none (λ c. repeats (c .row)) cs (row-each Asc (λ c. repeats (c .row) ≡ false) cs (λ c a. asc-once (c .row) a) (solid .asc));
-      material = ap badMaterial (cells-back d cs long) ∙ of-none (λ c. ltb maxMaterial (c .material)) cs (made-all cs (solid .materials));
+          ∙ of-none (λ c. repeats (c .row)) cs
+          (each-map (λ c. Asc (c .row)) (λ c. repeats (c .row) ≡ false) cs (λ c a. asc-once (c .row) a) (solid .asc));
+      material = ap badMaterial (cells-back d cs long)
+          ∙ of-none (λ c. ltb maxMaterial (c .material)) cs
+          (each-map (λ c. c .material ≤ maxMaterial) (λ c. ltb maxMaterial (c .material) ≡ false) cs
+          (λ c. le-ltb maxMaterial (c .material)) (solid .materials));
       cell = ap cellTwice back ∙ of-few 1 cs (solid .distinct) cs;
       crowded = ap (λ xs. crowdedFace (facets xs)) back ∙ of-few 2 F (solid .meet) F;
       equal = ap (λ xs. equalSigns (facets xs)) back ∙ once-signs F signs F;

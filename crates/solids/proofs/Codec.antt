@@ -12,7 +12,7 @@ use Rattle.words.specs.Records.{concat, part, tabulate}
 use Rattle.words.proofs.Records.{EachLong, concat-length, part-concat, tabulate-ext, tabulate-getD, tabulate-length}
 use Rattle.simplex.specs.Cell.{Cell, Sign, cell, noCell}
 use Rattle.simplex.specs.Faces.{without}
-use Rattle.simplex.proofs.Counts.{All}
+use Rattle.simplex.proofs.Each.{All}
 use Rattle.simplex.proofs.Rows.{Long}
 use Rattle.simplex.specs.SignWords.{signOf, signWord}
 use Rattle.records.specs.Layout.{Entry, cellIn, cellOf, cellWords, cellsOf, entriesOf, entryOf, entryWords}

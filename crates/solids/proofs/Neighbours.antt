@@ -16,7 +16,8 @@ use Rattle.simplex.specs.Chain.{sumRows, total}
 use Rattle.simplex.specs.Faces.{allFaces, faces, facets, without}
 use Rattle.simplex.specs.Sort.{Asc}
 use Rattle.simplex.proofs.Cancel.{total-keep}
-use Rattle.simplex.proofs.Counts.{All, countFaces, one-and, sumRows-allFaces, sumRows-le}
+use Rattle.simplex.proofs.Each.{All}
+use Rattle.simplex.proofs.Counts.{countFaces, one-and, sumRows-allFaces, sumRows-le}
 use Rattle.simplex.proofs.FaceCounts.{countFaces-face, countFaces-find, countFaces-once, total-faces, without-filled}
 use Rattle.simplex.proofs.Rows.{hits, sameRow-refl, sameRow-true}
 use Rattle.solids.specs.Wings.{hasFace, neighbourFrom}

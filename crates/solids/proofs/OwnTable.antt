@@ -9,7 +9,7 @@ use Rattle.words.specs.Records.{concat}
 use Rattle.rules.specs.Limits.{maxDimension}
 use Rattle.rules.specs.Shapes.{shapeOk}
 use Rattle.simplex.specs.Cell.{Cell}
-use Rattle.simplex.proofs.Counts.{All}
+use Rattle.simplex.proofs.Each.{All}
 use Rattle.simplex.proofs.Rows.{Long, same-rows}
 use Rattle.solids.specs.Accept.{acceptable, solidOf}
 use Rattle.records.specs.Layout.{cellWords, entriesOf, ownList, recordSize, tableLength, tableWords}

@@ -3,10 +3,9 @@
 --                     and materials are within their limit
 --   rowAt cs p        the row of cell p
 use mathlib.Core.Bool.{true}
-use mathlib.Core.List.{List, [], _∷_}
+use mathlib.Core.List.{List}
 use Prim.Native.Nat.{ℕ, zero, suc, _≤_, _<_}
 use native.Mathlib.Omega.{arith}
-use native.Mathlib.Nat.{le-of-suc-le-suc, not-suc-le-zero}
 use lib.ListN.{length, getD}
 use Rattle.words.specs.Records.{tabulate}
 use Rattle.rules.specs.Limits.{maxMaterial}
@@ -15,8 +14,7 @@ use Rattle.simplex.specs.Chain.{total}
 use Rattle.simplex.specs.Faces.{facets}
 use Rattle.simplex.specs.Sort.{Asc}
 use Rattle.simplex.proofs.Cancel.{Paired}
-use Rattle.simplex.proofs.Counts.{All}
-use Rattle.simplex.proofs.Insert.{Each}
+use Rattle.simplex.proofs.Each.{All, Each, each-at}
 use Rattle.simplex.proofs.Rows.{Good}
 
 pub record Solid (nv : ℕ) (cs : List Cell) : Type 0 where
@@ -31,10 +29,11 @@ abbrev pub rowAt : List Cell → ℕ → Row
 rowAt cs n = (getD cs n noCell) .row
 
 pub all-at : (R : Row → Type 0) (cs : List Cell) → All R cs → (p : ℕ) → p < length cs → R (rowAt cs p)
-all-at R [] a p h = absurd (not-suc-le-zero h)
-all-at R (c ∷ cs) a zero h = a .0
-all-at R (c ∷ cs) a (suc p) h = all-at R cs (a .1) p (le-of-suc-le-suc h)
+all-at R cs a p h = each-at (λ c. R (c .row)) cs p noCell a h
+
+pub each-tabulated : {A : Type 0} (Q : A → Type 0) (n : ℕ) (f : ℕ → A) → ((p : ℕ) → p < n → Q (f p)) → Each Q (tabulate n f)
+each-tabulated Q zero f h = tt
+each-tabulated Q (suc n) f h = (h 0 (omega arith), each-tabulated Q n (λ p. f (suc p)) (λ p l. h (suc p) (omega arith)))
 
 pub all-tabulated : (R : Row → Type 0) (n : ℕ) (f : ℕ → Cell) → ((p : ℕ) → p < n → R (f p .row)) → All R (tabulate n f)
-all-tabulated R zero f h = tt
-all-tabulated R (suc n) f h = (h 0 (omega arith), all-tabulated R n (λ p. f (suc p)) (λ p l. h (suc p) (omega arith)))
+all-tabulated R = each-tabulated (λ c. R (c .row))

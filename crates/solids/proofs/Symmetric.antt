@@ -13,7 +13,7 @@ use Rattle.simplex.specs.Cell.{Cell, Row, filled, one, sameRow}
 use Rattle.simplex.specs.Chain.{sumRows}
 use Rattle.simplex.specs.Faces.{without}
 use Rattle.simplex.specs.Sort.{Asc}
-use Rattle.simplex.proofs.Counts.{All}
+use Rattle.simplex.proofs.Each.{All}
 use Rattle.simplex.proofs.Rows.{Long, hits, sameRow-refl}
 use Rattle.simplex.proofs.Without.{two-faces}
 use Rattle.solids.specs.Wings.{hasFace, neighbour}

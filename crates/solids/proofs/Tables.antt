@@ -14,7 +14,7 @@ use Rattle.words.specs.Records.{tabulate}
 use Rattle.words.proofs.Records.{tabulate-at, tabulate-length}
 use Rattle.simplex.specs.Cell.{Cell, Row, Sign, cell, noCell}
 use Rattle.simplex.specs.Faces.{faces, prefixed, without}
-use Rattle.simplex.proofs.Counts.{All}
+use Rattle.simplex.proofs.Each.{All}
 use Rattle.simplex.proofs.Rows.{Long}
 use Rattle.simplex.proofs.Without.{without-length}
 use Rattle.records.specs.Layout.{empty, Entry}

@@ -1,5 +1,4 @@
 -- What the tests of a list of cells say, each both ways.
---   Each Q xs         every element of the list has the property
 use mathlib.Core.Path.{_≡_, ap, ap₂, refl, subst, sym}
 use mathlib.Core.Bool.{_&&_, Bool, false, true, true≢false, _||_}
 use Prim.Native.Nat.{_+_, ℕ, _≤_}
@@ -13,8 +12,7 @@ use Rattle.rules.proofs.Tests.{and-parts}
 use Rattle.simplex.specs.Cell.{Cell, Row, Sign, one, sameRow, times}
 use Rattle.simplex.specs.Chain.{countOn, total}
 use Rattle.simplex.specs.Sort.{Asc, occurs}
-use Rattle.simplex.proofs.Counts.{All}
-use Rattle.simplex.proofs.Insert.{Each}
+use Rattle.simplex.proofs.Each.{All, Each, each-map}
 use Rattle.simplex.proofs.Rows.{Below, sameRow-true}
 use Rattle.simplex.proofs.Signs.{times-same}
 use Rattle.simplex.proofs.Sums.{plusOn, sumChain}
@@ -33,15 +31,6 @@ pub of-none : {A : Type 0} (q : A → Bool) (xs : List A) → Each (λ x. q x �
 of-none q [] a = refl
 of-none q (x ∷ xs) a = rw (a .0) (of-none q xs (a .1))
 
--- a property of each cell's row
-pub each-row : (R : Row → Type 0) (Q : Cell → Type 0) (cs : List Cell) → ((c : Cell) → Q c → R (c .row)) → Each Q cs → All R cs
-each-row R Q [] h a = tt
-each-row R Q (c ∷ cs) h a = (h c (a .0), each-row R Q cs h (a .1))
-
-pub row-each : (R : Row → Type 0) (Q : Cell → Type 0) (cs : List Cell) → ((c : Cell) → R (c .row) → Q c) → All R cs → Each Q cs
-row-each R Q [] h a = tt
-row-each R Q (c ∷ cs) h a = (h c (a .0), row-each R Q cs h (a .1))
-
 -- 7: no vertex is nv or above
 below-is : (nv : ℕ) (w : Row) → anyOf (λ x. leb nv x) w ≡ false → Below nv w
 below-is nv [] e = tt
@@ -52,12 +41,12 @@ is-below nv [] b = refl
 is-below nv (x ∷ w) b = rw (lt-leb nv x (b .0)) (is-below nv w (b .1))
 
 pub all-below : (nv : ℕ) (cs : List Cell) → vertexBeyond nv cs ≡ false → All (Below nv) cs
-all-below nv cs e = each-row (Below nv) (λ c. anyOf (λ x. leb nv x) (c .row) ≡ false) cs
+all-below nv cs e = each-map (λ c. anyOf (λ x. leb nv x) (c .row) ≡ false) (λ c. Below nv (c .row)) cs
     (λ c k. below-is nv (c .row) k) (none-of (λ c. anyOf (λ x. leb nv x) (c .row)) cs e)
 
 pub below-all : (nv : ℕ) (cs : List Cell) → All (Below nv) cs → vertexBeyond nv cs ≡ false
 below-all nv cs a = of-none (λ c. anyOf (λ x. leb nv x) (c .row)) cs
-    (row-each (Below nv) (λ c. anyOf (λ x. leb nv x) (c .row) ≡ false) cs (λ c k. is-below nv (c .row) k) a)
+    (each-map (λ c. Below nv (c .row)) (λ c. anyOf (λ x. leb nv x) (c .row) ≡ false) cs (λ c k. is-below nv (c .row) k) a)
 
 -- 8: no vertex twice in a cell
 absent : (x : ℕ) (w : Row) → anyOf (eqb x) w ≡ false → occurs x w ≡ 0
@@ -96,7 +85,7 @@ seen R w (c ∷ cs) a = go (sameRow (c .row) w) (sameRow-true (c .row) w) (seen 
 
 -- no row stands more than n times in the list
 pub few-of : (n : ℕ) (cs : List Cell) → anyOf (λ c. ltb n (total (c .row) cs)) cs ≡ false → (w : Row) → total w cs ≤ n
-few-of n cs e w = go (seen (λ v. total v cs ≤ n) w cs (each-row (λ v. total v cs ≤ n) (λ c. ltb n (total (c .row) cs) ≡ false)
+few-of n cs e w = go (seen (λ v. total v cs ≤ n) w cs (each-map (λ c. ltb n (total (c .row) cs) ≡ false) (λ c. total (c .row) cs ≤ n)
     cs (λ c k. ltb-false n (total (c .row) cs) k) (none-of (λ c. ltb n (total (c .row) cs)) cs e)))
   where
     go : (total w cs ≡ 0) ⊎ (total w cs ≤ n) → total w cs ≤ n

@@ -18,7 +18,7 @@ use Rattle.simplex.specs.Cell.{Cell}
 use Rattle.simplex.specs.Faces.{without}
 use Rattle.simplex.specs.Order.{ascending, below, places, sorted}
 use Rattle.simplex.specs.Sort.{Up}
-use Rattle.simplex.proofs.Counts.{All}
+use Rattle.simplex.proofs.Each.{All}
 use Rattle.simplex.proofs.Places.{places-below, places-length}
 use Rattle.simplex.proofs.Removed.{rank-below, sorted-at-place, sorted-at-rank, up-without}
 use Rattle.simplex.proofs.Rows.{Long}

@@ -18,7 +18,7 @@ use Rattle.rules.specs.Shapes.{shapeOk}
 use Rattle.rules.proofs.InLimits.{limits-are}
 use Rattle.rules.proofs.Tests.{and-parts}
 use Rattle.simplex.specs.Cell.{Cell, Row, sameRow}
-use Rattle.simplex.proofs.Counts.{All}
+use Rattle.simplex.proofs.Each.{All}
 use Rattle.simplex.proofs.Rows.{Below, Good, Long, sameRow-true}
 use Rattle.solids.specs.Accept.{Listed, acceptable, solidOf}
 use Rattle.records.specs.Layout.{empty, Entry, entriesOf, listSize, ownList, recordSize, tableLength, tableWords}

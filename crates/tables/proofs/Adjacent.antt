@@ -15,7 +15,7 @@ use Rattle.simplex.specs.Cell.{Cell, Row, Sign, alternating, cell, times, noCel
 use Rattle.simplex.specs.Chain.{total}
 use Rattle.simplex.specs.Faces.{facets}
 use Rattle.simplex.specs.Sort.{Asc}
-use Rattle.simplex.proofs.Counts.{All}
+use Rattle.simplex.proofs.Each.{All}
 use Rattle.simplex.proofs.Rows.{Long}
 use Rattle.solids.specs.Accept.{cellTwice, crowdedFace, equalSigns}
 use Rattle.tables.specs.Inner.Held.{Blank, Winged, cellHeld, falls, heldCells}

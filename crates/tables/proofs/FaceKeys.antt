@@ -11,7 +11,7 @@ use lib.Seq.{getD-append-add}
 use Rattle.words.specs.Records.{part}
 use Rattle.simplex.specs.Cell.{Cell, cell, sameRow, noCell}
 use Rattle.simplex.specs.Faces.{allFaces, face, faces, facets, without}
-use Rattle.simplex.proofs.Counts.{All}
+use Rattle.simplex.proofs.Each.{All}
 use Rattle.simplex.proofs.FaceCounts.{facets-none, facets-same, two-long}
 use Rattle.simplex.proofs.Faces.{face-at, faces-length}
 use Rattle.simplex.proofs.Rows.{Long}

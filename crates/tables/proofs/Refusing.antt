@@ -16,7 +16,7 @@ use Rattle.rules.specs.Limits.{maxMaterial}
 use Rattle.rules.specs.Calls.{firstRefusal}
 use Rattle.simplex.specs.Cell.{Cell, Sign}
 use Rattle.simplex.specs.Order.{ascending, sorted}
-use Rattle.simplex.proofs.Insert.{Each}
+use Rattle.simplex.proofs.Each.{Each}
 use Rattle.solids.specs.Accept.{Listed, badMaterial, badSign, listedCells, repeats, solidOf, solidRules, vertexBeyond, vertexTwice}
 use Rattle.tables.specs.Inner.Held.{aboveAt, beyondAt, cellHeld, cellRead, falls, faults, heldCells, materialAt, recordList}
 use Rattle.records.specs.Layout.{cellIn, cellOf, listSize, materialPlace, vertexPlace}
@@ -25,6 +25,7 @@ use Rattle.words.proofs.Below.{below-not, some-below, true-unless}
 use Rattle.records.proofs.Parts.{part-within}
 use Rattle.tables.proofs.Stored.{read-material}
 use Rattle.tables.proofs.SortedTests.{beyond-last, fallsIn, twice-falls}
+use Rattle.solids.proofs.Solid.{each-tabulated}
 use Rattle.solids.proofs.Tests.{of-none, or-false}
 
 any-at : {A : Type 0} (q : A → Bool) (n : ℕ) (f : ℕ → A) (p : ℕ) → p < n → q (f p) ≡ true → anyOf q (tabulate n f) ≡ false → ⊥
@@ -32,10 +33,6 @@ any-at q zero f p h e k = not-suc-le-zero h
 any-at q (suc n) f zero h e k = true≢false (sym e ∙ or-false (q (f 0)) (anyOf q (tabulate n (λ i. f (suc i)))) k .0)
 any-at q (suc n) f (suc p) h e k =
     any-at q n (λ i. f (suc i)) p (le-of-suc-le-suc h) e (or-false (q (f 0)) (anyOf q (tabulate n (λ i. f (suc i)))) k .1)
-
-each-tabulated : {A : Type 0} (Q : A → Type 0) (n : ℕ) (f : ℕ → A) → ((p : ℕ) → p < n → Q (f p)) → Each Q (tabulate n f)
-each-tabulated Q zero f h = tt
-each-tabulated Q (suc n) f h = (h 0 (omega arith), each-tabulated Q n (λ i. f (suc i)) (λ p l. h (suc p) (omega arith)))
 
 -- a test of a tabulated list is one of the numbers below its length
 pub any-tabulate : {A : Type 0} (q : A → Bool) (r : ℕ → Bool) (n : ℕ) (f : ℕ → A) →

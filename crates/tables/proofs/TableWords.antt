@@ -10,7 +10,7 @@ use Rattle.words.specs.Records.{concat, part, tabulate}
 use Rattle.words.proofs.Records.{tabulate-ext, tabulate-getD, tabulate-map}
 use Rattle.simplex.specs.Cell.{Cell, Row, Sign, noCell}
 use Rattle.simplex.specs.Faces.{without}
-use Rattle.simplex.proofs.Counts.{All}
+use Rattle.simplex.proofs.Each.{All}
 use Rattle.simplex.proofs.Rows.{Long}
 use Rattle.tables.specs.Inner.Held.{Winged, cellHeld, heldCells, heldWords, recordHeld, run}
 use Rattle.simplex.specs.SignWords.{signWord}

@@ -16,7 +16,7 @@ use Rattle.rules.proofs.Tests.{and-parts}
 use Rattle.simplex.specs.Cell.{Cell, Row}
 use Rattle.simplex.specs.Chain.{total}
 use Rattle.simplex.specs.Faces.{facets, without}
-use Rattle.simplex.proofs.Counts.{All}
+use Rattle.simplex.proofs.Each.{All}
 use Rattle.simplex.proofs.Rows.{Long, same-rows, sameRow-true}
 use Rattle.solids.specs.Accept.{cellTwice}
 use Rattle.tables.specs.Inner.Pairing.{twinAt}

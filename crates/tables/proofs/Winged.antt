@@ -14,7 +14,7 @@ use Rattle.simplex.specs.Cell.{Cell, Row, one}
 use Rattle.simplex.specs.Chain.{total}
 use Rattle.simplex.specs.Faces.{face, facets, without}
 use Rattle.simplex.specs.Sort.{Asc}
-use Rattle.simplex.proofs.Counts.{All}
+use Rattle.simplex.proofs.Each.{All}
 use Rattle.simplex.proofs.Rows.{Long}
 use Rattle.simplex.proofs.Without.{without-inj}
 use Rattle.tables.specs.Inner.Held.{Blank, Winged}

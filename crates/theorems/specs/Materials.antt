@@ -27,7 +27,9 @@ pub record Materials : Type 0 where
   pub swept : (x : SweepInput) (i p k : ℕ) → i < x .h → p < x .s → k ≤ x .d →
       let es = entriesOf (x .d) (x .s) (x .table) in
       entryAt (sweptTable (x .d) (x .v) (x .s) (x .h) es) (cellNumber (x .d) (x .s) i p k) .cell .material ≡ entryAt es p .cell .material
-  -- a boundary face that of its cell
+  -- a boundary face that of its cell: the boundary of a table is that of its cells one after the other,
+  pub joined : (e : Entry) (es : List Entry) → boundaryOf (e ∷ es) ≡ boundaryOf (e ∷ []) ++ boundaryOf es
+  -- and each face of a cell has the cell's
   pub faced : (e : Entry) (f : ℕ) → f < length (boundaryOf (e ∷ [])) → getD (boundaryOf (e ∷ [])) f noCell .material ≡ e .cell .material
   -- neighbours are told from the vertices alone
   pub wings : (xs ys : List Cell) → map (λ (c : Cell). c .row) xs ≡ map (λ (c : Cell). c .row) ys →

@@ -9,7 +9,7 @@ use lib.Dec.{ltb}
 use lib.IntN.{ℤ, pos, negsuc, subℕ, _+ℤ_, _-ℤ_, negℤ, negℤ-negℤ, negℤ-+ℤ, +ℤ-assoc, +ℤ-comm, pos-+ℤ-pos}
 use borrow.Author.Tests.{ltb-true, ltb-false, lt-ltb, le-ltb}
 use Rattle.simplex.specs.Cell.{Cell, Row, alternating, cell, times}
-use Rattle.simplex.proofs.Counts.{All}
+use Rattle.simplex.proofs.Each.{All}
 use Rattle.simplex.proofs.Rows.{Long}
 use Rattle.simplex.proofs.Signs.{not-not, times-comm}
 use Rattle.simplex.proofs.Sums.{Functional, plusOn, sumChain}

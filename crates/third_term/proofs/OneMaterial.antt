@@ -19,8 +19,8 @@ use Rattle.simplex.specs.Chain.{ofMaterial, total}
 use Rattle.simplex.specs.Faces.{allFaces, facets, keep}
 use Rattle.simplex.specs.Sort.{Asc}
 use Rattle.simplex.proofs.Cancel.{Paired, loneIn, plus-minus}
-use Rattle.simplex.proofs.FaceCounts.{All-keep}
-use Rattle.simplex.proofs.Materials.{each-keep, ofMaterial-allFaces, ofMaterial-keep}
+use Rattle.simplex.proofs.Each.{All-keep, each-keep}
+use Rattle.simplex.proofs.Materials.{ofMaterial-allFaces, ofMaterial-keep}
 use Rattle.simplex.proofs.Rows.{Good}
 use Rattle.simplex.proofs.Sums.{Functional, plusOn, sumChain}
 use Rattle.solids.proofs.Solid.{Solid}

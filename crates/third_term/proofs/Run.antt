@@ -15,7 +15,7 @@ use Rattle.rules.proofs.InLimits.{Limits, limits-are, sizes-follow}
 use Rattle.rules.proofs.Tests.{and-parts}
 use Rattle.rules.proofs.Accepting.{front-of}
 use Rattle.simplex.specs.Cell.{Cell}
-use Rattle.simplex.proofs.Counts.{All}
+use Rattle.simplex.proofs.Each.{All}
 use Rattle.simplex.proofs.Rows.{Long}
 use Rattle.records.specs.Layout.{faceSize, empty, Entry, entriesOf, tableLength, tableWords}
 use Rattle.solids.specs.Table.{sound, tableOf, tableOfList}

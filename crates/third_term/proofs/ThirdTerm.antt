@@ -9,8 +9,8 @@ use Rattle.rules.specs.Calls.{written}
 use Rattle.simplex.specs.Cell.{Cell, Row, filled}
 use Rattle.simplex.specs.Chain.{Same, coefficient, total}
 use Rattle.simplex.specs.Faces.{allFaces, facets}
-use Rattle.simplex.proofs.Counts.{All}
-use Rattle.simplex.proofs.FaceCounts.{All-keep, allFaces-long}
+use Rattle.simplex.proofs.Each.{All, All-keep}
+use Rattle.simplex.proofs.FaceCounts.{allFaces-long}
 use Rattle.simplex.proofs.Rows.{Long}
 use Rattle.solids.proofs.Tests.{count-sum}
 use Rattle.prism.specs.Cells.{sweepOf, topCopy}

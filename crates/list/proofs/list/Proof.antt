@@ -1,14 +1,12 @@
 -- The call list: each return is a rule's, and only an accepted call writes. Assumes nothing.
 use mathlib.Core.Path.{_≡_, sym, ap, _∙_}
-use mathlib.Core.Bool.{not, _&&_}
+use mathlib.Core.Bool.{not}
 use Prim.Native.Nat.{_*_}
 use lib.Dec.{eqb, ltb}
 use lib.ListN.{length}
 use borrow.Author.Needs.{needs}
 use borrow.Author.Tests.{eqb-true, ltb-false, not-false}
 use Rattle.words.proofs.Placed.{placed-first}
-use Rattle.rules.specs.Limits.{maxDimension, axesOk, versionOk}
-use Rattle.rules.specs.Shapes.{shapeOk}
 use Rattle.rules.proofs.InLimits.{ListLimits, list-limits-are}
 use Rattle.rules.proofs.Tests.{and-parts}
 use Rattle.records.specs.Inner.Inside.{Table}
@@ -25,10 +23,7 @@ abbrev start : tie.Else1 → tie.Start
 start c = search needs
 
 limits : (c : tie.Else1) → let a = start c .args in ListLimits (a .d) (a .n) (a .v) (a .s)
-limits c =
-    let a = start c .args in
-    let fit = not-false _ (ap not (sym (c .before .numbers-fit .ensures)) ∙ c .if1 .left) in
-    list-limits-are _ _ _ _ (ap not (and-parts (versionOk (a .version)) (shapeOk maxDimension (a .d) (a .v) (a .s) && axesOk (a .n)) fit .1))
+limits c = list-limits-are (start c .args .version) _ _ _ _ (ap not (sym (c .before .numbers-fit .ensures)) ∙ c .if1 .left)
 
 -- what the tests say of the table and the points
 told : (c : tie.Else3) → let a = start (search needs) .args in Table (a .d) (a .s) (a .table .now) × Points (a .n) (a .v) (a .points .now)

@@ -11,7 +11,7 @@ use Rattle.rules.specs.Limits.{maxMaterial}
 use Rattle.simplex.specs.Cell.{noCell}
 use Rattle.solids.specs.Accept.{badMaterial}
 use Rattle.file.specs.File.{cellHead, fileCells}
-use Rattle.file.specs.Inner.Places.{materialAt}
+use Rattle.file.specs.Inner.Places.{materialFrom}
 use Rattle.file.proofs.Parts.{cells-length, file-cell, material-at}
 use Rattle.file.proofs.cells.bad_material.Statement.{statement}
 use Rattle.file.proofs.cells.bad_material.Tie as tie
@@ -46,7 +46,7 @@ here c =
     let v : tie.After-version Inv-loop μ-loop = search needs in
     ap (λ x. ltb maxMaterial (x .material)) (file-cell b (s .pre) (l .loop .p) (omega arith))
     ∙ ap (ltb maxMaterial)
-    (material-at b (l .loop .p) ∙ ap₂ (λ k i. materialAt k b i) (sym (v .version .ensures .0)) (sym (c .before .cell-at .ensures .0))
+    (material-at b (l .loop .p) ∙ ap₂ (λ k i. materialFrom k b i) (sym (v .version .ensures .0)) (sym (c .before .cell-at .ensures .0))
     ∙ sym (c .material .ensures))
 
 returns : tie.Need-returns Inv-loop μ-loop

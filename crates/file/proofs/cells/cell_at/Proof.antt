@@ -9,25 +9,29 @@ use Rattle.file.proofs.Parts.{cellPlace, size, cell-room}
 use Rattle.file.proofs.cells.cell_at.Statement.{statement}
 use Rattle.file.proofs.cells.cell_at.Tie as tie
 
--- the product that the code computes, and that the cell is within the file
-sized : (c : tie.After-cell-size) → let a = c .before .before .before .before .before .args in let bytes = size (a .b .now) in
-    (a .p * c .cell-size .result ≡ a .p * bytes) × (cellPlace (a .b .now) (a .p) + bytes ≤ length (a .b .now))
-sized c =
-    let s = c .before .before .before .before .before in
-    let a = s .args in (
-      ap (λ n. a .p * n) (c .cell-size .ensures .0
-          ∙ ap₂ cellBytes (c .before .before .version .ensures .0) (c .before .dimension .ensures .0)),
+-- the place that the code computes, and that the cell is within the file
+placed : (c : tie.After-cell-size) → let s : tie.Start = search needs in let a = s .args in let k : tie.After-cells-start = search needs in
+    (k .cells-start .result + a .p * c .cell-size .result ≡ cellPlace (a .b .now) (a .p))
+    × (cellPlace (a .b .now) (a .p) + size (a .b .now) ≤ length (a .b .now))
+placed c =
+    let s : tie.Start = search needs in
+    let a = s .args in
+    let k : tie.After-cells-start = search needs in
+    let v : tie.After-version = search needs in
+    let d : tie.After-dimension = search needs in (
+      ap₂ (λ x n. x + a .p * n) (k .cells-start .ensures .0) (c .cell-size .ensures .0
+          ∙ ap₂ cellBytes (v .version .ensures .0) (d .dimension .ensures .0)),
       cell-room (a .b .now) (s .pre .0) (a .p) (s .pre .1),
     )
 
-mul-result-2 : tie.Need-mul-result-2
-mul-result-2 c = record { fits = omega (arith, sized c) }
+mul-result : tie.Need-mul-result
+mul-result c = record { fits = omega (arith, placed c) }
 
-add-result-2 : tie.Need-add-result-2
-add-result-2 c = record { fits = omega (arith, sized c) }
+add-result : tie.Need-add-result
+add-result c = record { fits = omega (arith, placed c) }
 
 returns : tie.Need-returns
-returns c = (omega (arith, sized c), omega (arith, sized c))
+returns c = (placed c .0, omega (arith, placed c))
 
 pub cell-at-spec : {M : Type 1} → statement M
 cell-at-spec =
@@ -37,8 +41,6 @@ cell-at-spec =
     (λ c κs. search needs)
     (λ c κs. search needs)
     (λ c κs. search needs)
-    (λ c. search needs)
-    (λ c. search needs)
-    mul-result-2
-    add-result-2
+    mul-result
+    add-result
     returns)

@@ -13,7 +13,7 @@ use Rattle.simplex.specs.Cell.{noCell}
 use Rattle.records.specs.Layout.{listSize, cellWords}
 use Rattle.file.specs.File.{versionOf, dimensionOf, cellHead, cellBytes, fileCells}
 use Rattle.file.specs.Tests.{fileWords}
-use Rattle.file.specs.Inner.Places.{wordsAt}
+use Rattle.file.specs.Inner.Places.{cellWordsFrom}
 use Rattle.file.proofs.Parts.{cellPlace, size, cell-next, cell-room, cells-length, file-cell, words-at}
 use Rattle.file.proofs.Stores.{one-length, words-count}
 use Rattle.file.proofs.cells.write_cells.Statement.{statement}
@@ -68,10 +68,10 @@ loop-holds : tie.Need-loop-holds Inv-loop μ-loop
 unfolding fileWords
 loop-holds c =
     let s : tie.Start Inv-loop μ-loop = search needs in
-    let n : tie.After-point-count Inv-loop μ-loop = search needs in
+    let k : tie.After-cells-start Inv-loop μ-loop = search needs in
     let b = s .args .b .now in (
       omega arith,
-      omega (arith, n .point-count .ensures .0),
+      omega (arith, k .cells-start .ensures .0),
       left-starts 0 _ _ (omega (arith, words-count b (s .pre .0), s .pre .1)),
     )
 
@@ -81,8 +81,8 @@ write-cell-requires c κs =
     let l = t .before in
     (omega (arith, room t .0, ap cellHead (version-is l), dimension-is l), omega (arith, room t .1, dimension-is l))
 
-add-at-2 : tie.Need-add-at-2 Inv-loop μ-loop
-add-at-2 c =
+add-at : tie.Need-add-at Inv-loop μ-loop
+add-at c =
     let t = turn (search needs) in
     let l = t .before in
     record { fits = omega (arith, room t .0, bytes-are l, start l .good) }
@@ -111,7 +111,7 @@ loop-again c =
             place = omega (arith, one-length b (s .pre .0) p (omega arith), words-are l);
             content = call .write-cell .ensures
                 ∙ ap (λ xs. placed (l .loop .to) xs (l .loop .out))
-                (ap (λ k. wordsAt k b (l .loop .at) m) (version-is l)
+                (ap (λ k. cellWordsFrom k b (l .loop .at) m) (version-is l)
                 ∙ words-at b (s .pre .0) p (omega arith) m count (l .loop .at) (l .loop .inv .1)
                 ∙ ap cellWords (sym (file-cell b (s .pre .0) p (omega arith))));
           }),
@@ -135,12 +135,10 @@ write-cells-spec =
     (λ c κs. search needs)
     (λ c κs. omega (arith, c .before .dimension .ensures .1))
     (λ c κs. search needs)
-    (λ c. search needs)
-    (λ c. search needs)
     loop-holds
     (λ c. search needs)
     write-cell-requires
-    add-at-2
+    add-at
     add-to
     (λ c. search needs)
     (λ c. search needs)

@@ -4,13 +4,14 @@ use mathlib.Core.Bool.{false, not}
 use borrow.Author.Needs.{needs}
 use Rattle.words.specs.Records.{allOf}
 use Rattle.points.specs.Step.{inRange}
+use Rattle.list.specs.List.{numbersFit}
 use Rattle.hosting.specs.Floats.{floats64}
-use Rattle.hosting.proofs.ListRows.{numbers, lengths, list-2, list-3, list-4, list-needs, list-right, list-small}
+use Rattle.hosting.proofs.ListRows.{lengths, list-2, list-3, list-4, list-needs, list-right, list-small}
 use Rattle.hosting.proofs.lists.list_bytes.Statement.{statement}
 use Rattle.hosting.proofs.lists.list_bytes.Tie as tie
 
 -- rows 2 to 4 where they do not apply
-two : (c : tie.Else1) → let s : tie.Start = search needs in let a = s .args in not (numbers (a .version) (a .d) (a .n) (a .v) (a .s)) ≡ false
+two : (c : tie.Else1) → let s : tie.Start = search needs in let a = s .args in not (numbersFit (a .version) (a .d) (a .n) (a .v) (a .s)) ≡ false
 two c = ap not (sym (c .before .numbers-fit .ensures)) ∙ c .if1 .left
 
 three : (c : tie.Else2) → let s : tie.Start = search needs in let a = s .args in

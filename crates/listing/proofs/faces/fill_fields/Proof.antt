@@ -41,7 +41,7 @@ returns c =
       omega arith,
       take-more (s .args .d) (filled f) (m .material .result) (omega (arith, s .pre .2, long f))
           ∙ ap₂ {C = List ℕ} (λ x y. x ++ y ∷ []) (f .fill-row .ensures) (m .material .ensures)
-          ∙ sym (fields-two (s .args .version) (face s) (t .if1 .taken)),
+          ∙ sym (fields-two (s .args .version) (face s) (sym (t .before .with-materials .ensures) ∙ t .if1 .taken)),
     )
 
 returns-2 : tie.Need-returns-2
@@ -49,12 +49,13 @@ returns-2 c =
     let s : tie.Start = search needs in
     let f : tie.After-fill-row = search needs in
     let e : tie.Else1 = search needs in
-    (omega arith, f .fill-row .ensures ∙ sym (fields-one (s .args .version) (face s) (e .if1 .left)))
+    (omega arith, f .fill-row .ensures ∙ sym (fields-one (s .args .version) (face s) (sym (e .before .with-materials .ensures) ∙ e .if1 .left)))
 
 pub fill-fields-spec : {M : Type 1} → statement M
 fill-fields-spec =
     tie.close
     (tie.spec
+    (λ c κs. search needs)
     (λ c κs. search needs)
     (λ c κs. search needs)
     (λ c. search needs)
