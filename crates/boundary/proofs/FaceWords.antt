@@ -11,7 +11,7 @@ use native.Mathlib.Nat.{le-of-suc-le-suc, not-suc-le-zero}
 use native.Mathlib.Omega.{arith}
 use lib.ListN.{length, getD, length-append, List·getD-append}
 use Rattle.words.specs.Records.{part}
-use Rattle.simplex.specs.Cell.{Row, times, alternating}
+use Rattle.simplex.specs.Cell.{Row}
 use Rattle.simplex.specs.Faces.{without}
 use Rattle.simplex.specs.SignWords.{signWord, turnedSign}
 use Rattle.records.specs.Layout.{recordSize, faceSize, faceWords, entryIn}

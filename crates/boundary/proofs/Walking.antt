@@ -20,7 +20,7 @@ use Rattle.words.proofs.Records.{tabulate-length}
 use Rattle.words.proofs.Loops.{drop-next}
 use Rattle.words.proofs.Writing.{Left, left-starts, left-ends, left-fits, left-goes}
 use Rattle.simplex.specs.Cell.{Row, Cell, cell, filled, noCell}
-use Rattle.simplex.specs.Faces.{face, faces, keep, without}
+use Rattle.simplex.specs.Faces.{faces, keep, without}
 use Rattle.simplex.proofs.Faces.{faces-length, face-at}
 use Rattle.simplex.proofs.FaceCounts.{without-filled}
 use Rattle.records.specs.Layout.{Entry, empty, recordSize, tableLength, entryIn, entriesOf}

@@ -9,7 +9,7 @@
 --   cells-length, row-at         the cells: the vertices of each are those behind its sign and material
 --   material-at, words-at        the material of a cell, and its words, by its place
 -- Assumes nothing.
-use mathlib.Core.Path.{_≡_, refl, sym, ap, ap₂, _∙_}
+use mathlib.Core.Path.{_≡_, sym, ap, ap₂, _∙_}
 use mathlib.Core.Bool.{Bool, true, false, cond}
 use mathlib.Core.List.{List, _∷_}
 use Prim.Native.Nat.{ℕ, suc, _+_, _*_, _≤_, _<_, zero-le}
@@ -19,7 +19,7 @@ use lib.Dec.{eqb}
 use lib.ListN.{length, drop, getD, length-drop}
 use lib.Seq.{getD-take, getD-drop, length-take-le}
 use lib.Ieee.{nan}
-use Rattle.words.specs.Bytes.{float64, word16, words16, wordsFrom}
+use Rattle.words.specs.Bytes.{float64, words16, wordsFrom}
 use Rattle.words.proofs.Records.{record-fits, tabulate-length, tabulate-at}
 use Rattle.words.proofs.Bytes.{words-of}
 use Rattle.rules.specs.Limits.{withMaterials}

@@ -7,7 +7,7 @@
 use mathlib.Core.Bool.{Bool, not, _&&_, _||_}
 use mathlib.Core.List.{List, map}
 use Prim.Native.Nat.{ℕ, suc, _*_}
-use lib.Dec.{eqb, leb, ltb}
+use lib.Dec.{leb, ltb}
 use lib.ListN.{length, take}
 use Rattle.words.specs.Records.{tabulate, concat, allOf}
 use Rattle.rules.specs.Limits.{maxSource, axesOk, stepsOk, versionOk, within}

@@ -32,7 +32,7 @@ use Rattle.read.proofs.Order.{passed-each}
 use Rattle.file.proofs.Parts.{points-length}
 use Rattle.file.proofs.Stores.{words-count}
 use Rattle.words.specs.Inner.Placed.{placed, Put}
-use Rattle.page.specs.Key.{inputLimit, byteRoom, wordRoom, floatRoom, readIn, keyOutcome, spoken, printed, textOutcome, textBuffer}
+use Rattle.page.specs.Key.{inputLimit, byteRoom, floatRoom, readIn, keyOutcome, spoken, printed, textOutcome, textBuffer}
 use Rattle.page.specs.Inner.Stages.{counted, pageAfter, listKey, movedKey, sweptKey, wingedKey}
 
 pub record FileFacts (b : List ℕ) (x : Header) : Type 0 where

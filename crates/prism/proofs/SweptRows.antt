@@ -11,7 +11,7 @@ use lib.ListN.{length, take, drop, length-append, length-map, length-drop, List�
 use lib.Seq.{length-take-le, drop-cons, drop-length, take-length, getD-append-add}
 use borrow.Author.Tests.{ltb-true, ltb-false}
 use Rattle.words.proofs.Records.{tabulate-at, tabulate-length}
-use Rattle.simplex.specs.Cell.{Cell, Row, cell, noCell}
+use Rattle.simplex.specs.Cell.{Cell, Row, noCell}
 use Rattle.simplex.specs.Faces.{without}
 use Rattle.simplex.proofs.Each.{All}
 use Rattle.simplex.proofs.Rows.{Below, Filled, Long}

@@ -6,7 +6,6 @@ use lib.ListN.{List·getD-append, getD, length}
 use native.Mathlib.Nat.{div-add-mod', div-lt-iff-lt-mul, le-of-suc-le-suc, mod-lt, mul-assoc, mul-le-mul-right, not-suc-le-zero}
 use native.Mathlib.Omega.{arith}
 use lib.Seq.{ext-getD, getD-append-add}
-use mathlib.Core.Bool.{true}
 use Rattle.words.specs.Records.{concat, tabulate}
 use Rattle.words.proofs.Records.{EachLong, concat-length, tabulate-at, tabulate-ext, tabulate-length}
 use Rattle.simplex.specs.Cell.{Cell, cell, noCell}

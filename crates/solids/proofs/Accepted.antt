@@ -6,7 +6,7 @@ use mathlib.Core.Bool.{Bool, false, not, true}
 use mathlib.Core.List.{List, [], map, _∷_}
 use native.Mathlib.Omega.{arith}
 use lib.ListN.{getD, length, length-drop, length-map}
-use lib.Dec.{eqb, leb, ltb}
+use lib.Dec.{leb, ltb}
 use borrow.Author.Tests.{eqb-false, eqb-true, le-ltb, ltb-false}
 use mathlib.Core.Logic.{_≢_}
 use Rattle.words.specs.Records.{anyOf, concat, part, tabulate}

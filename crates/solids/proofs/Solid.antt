@@ -2,7 +2,6 @@
 --   Solid nv cs       on nv vertices: rows ascend, none stands twice, a face belongs to at most two cells, then with opposite signs,
 --                     and materials are within their limit
 --   rowAt cs p        the row of cell p
-use mathlib.Core.Bool.{true}
 use mathlib.Core.List.{List}
 use Prim.Native.Nat.{ℕ, zero, suc, _≤_, _<_}
 use native.Mathlib.Omega.{arith}

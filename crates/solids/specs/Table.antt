@@ -5,7 +5,7 @@
 --   tableOfList l         the table of a list of cells, as words
 --   ownTable d v s ws     the table is that of its own cells, and those are acceptable
 --   sound d v s ws        its numbers are within the limits, its length is what they say, and it is its own table
-use mathlib.Core.Bool.{Bool, true, _&&_}
+use mathlib.Core.Bool.{Bool, _&&_}
 use mathlib.Core.List.{List, [], _∷_}
 use Prim.Native.Nat.{ℕ, suc}
 use lib.Dec.{eqb}

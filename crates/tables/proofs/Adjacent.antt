@@ -1,7 +1,7 @@
 -- Rows 9 to 11 and the wings of the cells that the code holds, from the keys that were seen before.
 use mathlib.Core.Path.{_≡_, refl, sym, ap, ap₂, _∙_, subst}
-use mathlib.Core.Bool.{true, false}
-use mathlib.Core.List.{List, []}
+use mathlib.Core.Bool.{false}
+use mathlib.Core.List.{List}
 use Prim.Native.Nat.{ℕ, zero, suc, _*_, _/_, _%_, _≤_, _<_, _+_}
 use native.Mathlib.Omega.{arith}
 use native.Mathlib.Numerals.{add-one}
@@ -11,7 +11,7 @@ use lib.Dec.{leb}
 use lib.Seq.{length-take-le}
 use Rattle.words.specs.Records.{part, anyBelow}
 use Rattle.words.proofs.Records.{tabulate-at, tabulate-length}
-use Rattle.simplex.specs.Cell.{Cell, Row, Sign, alternating, cell, times, noCell}
+use Rattle.simplex.specs.Cell.{Cell, Row, Sign, alternating, times, noCell}
 use Rattle.simplex.specs.Chain.{total}
 use Rattle.simplex.specs.Faces.{facets}
 use Rattle.simplex.specs.Sort.{Asc}

@@ -1,7 +1,6 @@
 -- The cells of a list and their faces as keys.
 --   Holds d rows cs   record p of rows, eight words each, begins with the d + 1 vertices of cell p
 use mathlib.Core.Path.{_≡_, refl, sym, ap, _∙_, subst}
-use mathlib.Core.Bool.{true}
 use mathlib.Core.List.{List, [], _∷_, _++_}
 use Prim.Native.Nat.{ℕ, zero, suc, _+_, _*_, _/_, _%_, _<_}
 use native.Mathlib.Omega.{arith}
@@ -9,7 +8,7 @@ use native.Mathlib.Nat.{zero-mul, zero-add, suc-mul, div-add-mod', mod-lt, div-l
 use lib.ListN.{length, take, length-append, List·getD-append}
 use lib.Seq.{getD-append-add}
 use Rattle.words.specs.Records.{part}
-use Rattle.simplex.specs.Cell.{Cell, cell, sameRow, noCell}
+use Rattle.simplex.specs.Cell.{Cell, sameRow, noCell}
 use Rattle.simplex.specs.Faces.{allFaces, face, faces, facets, without}
 use Rattle.simplex.proofs.Each.{All}
 use Rattle.simplex.proofs.FaceCounts.{facets-none, facets-same, two-long}

@@ -16,7 +16,6 @@ use Rattle.rules.specs.Limits.{maxMaterial}
 use Rattle.rules.specs.Calls.{firstRefusal}
 use Rattle.simplex.specs.Cell.{Cell, Sign}
 use Rattle.simplex.specs.Order.{ascending, sorted}
-use Rattle.simplex.proofs.Each.{Each}
 use Rattle.solids.specs.Accept.{Listed, badMaterial, badSign, listedCells, repeats, solidOf, solidRules, vertexBeyond, vertexTwice}
 use Rattle.tables.specs.Inner.Held.{aboveAt, beyondAt, cellHeld, cellRead, falls, faults, heldCells, materialAt, recordList}
 use Rattle.records.specs.Layout.{cellIn, cellOf, listSize, materialPlace, vertexPlace}

@@ -1,6 +1,6 @@
 -- The words of the table of what is held.
 use mathlib.Core.Path.{_≡_, sym, ap, ap₂, _∙_}
-use mathlib.Core.Bool.{false, true}
+use mathlib.Core.Bool.{false}
 use mathlib.Core.List.{List, [], _∷_, _++_, map}
 use Prim.Native.Nat.{ℕ, suc, _*_, _≤_, _<_, _+_}
 use native.Mathlib.Omega.{arith}

@@ -3,17 +3,14 @@
 --   taken-table           the table of what was taken
 --   taken-written         what is written of it is what wing writes
 use mathlib.Core.Path.{_≡_, sym, ap, _∙_}
-use mathlib.Core.Bool.{Bool, true, false, cond}
 use mathlib.Core.List.{List, _++_}
 use Prim.Native.Nat.{ℕ, _*_, _≤_}
-use native.Mathlib.Omega.{arith}
 use lib.ListN.{length, drop}
 use Rattle.words.specs.Inner.Placed.{placed}
 use Rattle.words.proofs.Placed.{placed-first}
-use Rattle.rules.specs.Calls.{firstRefusal, written}
+use Rattle.rules.specs.Calls.{written}
 use Rattle.simplex.specs.Cell.{Sign}
-use Rattle.simplex.specs.Faces.{facets}
-use Rattle.solids.specs.Accept.{Listed, badSign, cellTwice, crowdedFace, equalSigns, listedCells, solidOf, solidRules, vertexBeyond, vertexTwice}
+use Rattle.solids.specs.Accept.{Listed}
 use Rattle.tables.specs.Inner.Held.{Taken, heldWords, recordList}
 use Rattle.records.specs.Layout.{listSize, tableWords}
 use Rattle.solids.specs.Table.{tableOf, tableOfList}

@@ -8,11 +8,11 @@ use lib.Dec.{eqb}
 use lib.ListN.{length, getD}
 use Rattle.simplex.specs.Cell.{Row, Cell, filled, noCell}
 use Rattle.simplex.specs.Faces.{faces}
-use Rattle.simplex.proofs.Each.{Each, each-at, each-keep}
+use Rattle.simplex.proofs.Each.{each-at, each-keep}
 use Rattle.simplex.proofs.Materials.{MadeOf, faces-made}
 use Rattle.records.specs.Layout.{Entry, empty, entriesOf}
 use Rattle.solids.specs.Table.{entryAt}
-use Rattle.solids.specs.Wings.{hasFace, neighbour, neighbourFrom}
+use Rattle.solids.specs.Wings.{hasFace, neighbourFrom}
 use Rattle.prism.specs.Swept.{sweptTable}
 use Rattle.prism.specs.Wings.{cellNumber}
 use Rattle.prism.proofs.SweptTable.{swept-at}

@@ -4,7 +4,7 @@ use mathlib.Core.List.{List, [], _∷_, _++_}
 use Prim.Native.Nat.{ℕ, _*_}
 use lib.ListN.{replicate, set}
 use lib.Ieee.{Float, binary64, ofBits}
-use Rattle.rules.specs.Calls.{Outcome, accepted, refused}
+use Rattle.rules.specs.Calls.{accepted, refused}
 use Rattle.wing.specs.Wing.{wingOutcome}
 use Rattle.sweep.specs.Sweep.{SweepInput, sweepOutcome, sweepBuffer}
 use Rattle.boundary.specs.Faces.{FacesInput, facesOutcome}

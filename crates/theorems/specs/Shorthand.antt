@@ -6,7 +6,7 @@
 --   sweptEntries h l      the entries of the swept table
 --   facesOfSwept h l      what faces takes: the swept table
 use mathlib.Core.Bool.{cond}
-use mathlib.Core.List.{List, [], _∷_, map}
+use mathlib.Core.List.{List, map}
 use Prim.Native.Nat.{ℕ, suc, _-_}
 use Prim.Native.String.{String}
 use lib.Dec.{eqb}

@@ -16,8 +16,8 @@
 --   heldWords d s rows signs made wings   the words of the table
 --   Winged d cs W                 the words W are the neighbours of the cells
 --   Blank W                       32,768 empty wings
-use mathlib.Core.Bool.{Bool, true, false, cond}
-use mathlib.Core.List.{List, [], _∷_, _++_}
+use mathlib.Core.Bool.{Bool, false, cond}
+use mathlib.Core.List.{List, _∷_, _++_}
 use mathlib.Core.Path.{_≡_}
 use Prim.Native.Nat.{ℕ, suc, _+_, _*_, _-_, _<_}
 use lib.Dec.{leb, ltb}
