@@ -9,6 +9,7 @@ pub mod FaceBounds
 pub mod FaceKinds
 pub mod Pairs
 pub mod SweptRows
+pub mod SweptEach
 pub mod SweptMaterials
 pub mod Meeting
 pub mod SweptSolid

@@ -13,11 +13,11 @@ use Rattle.simplex.specs.Chain.{sumRows, total}
 use Rattle.simplex.specs.Faces.{allFaces, facets}
 use Rattle.simplex.specs.Sort.{Asc}
 use Rattle.simplex.proofs.Cancel.{Paired}
-use Rattle.simplex.proofs.Each.{All, All-append, All-both}
+use Rattle.simplex.proofs.Each.{All, All-both}
 use Rattle.simplex.proofs.Counts.{one-and, sumChain-le, sumChain-sumRows, sumRows-append, sumRows-cond, sumRows-le}
 use Rattle.simplex.proofs.FaceCounts.{facets-le, facets-same}
 use Rattle.simplex.proofs.Rows.{Below, Filled, Good, Long, hits}
-use Rattle.solids.proofs.Solid.{Solid, all-tabulated}
+use Rattle.solids.proofs.Solid.{Solid}
 use Rattle.prism.specs.Cells.{level, prism, prismCell, sweepOf}
 use Rattle.prism.proofs.Decode.{levelIn}
 use Rattle.prism.proofs.FaceBounds.{baseIn, acrossLevels, countPrism-bound, lowerIn, raisedRow, sideOn, upperIn}
@@ -25,24 +25,15 @@ use Rattle.prism.proofs.FaceKinds.{acrossLevels-le, swept-meet}
 use Rattle.prism.proofs.Level.{dimensionSign, overPrism, raised}
 use Rattle.prism.proofs.Pairs.{swept-paired}
 use Rattle.prism.proofs.PrismCounts.{doubled, sumPrism-countPrism}
+use Rattle.prism.proofs.SweptEach.{each-sweep}
 use Rattle.prism.proofs.SweptMaterials.{each-swept}
 use Rattle.prism.proofs.SweptRows.{below-drop, below-take, drop-non, len-cell, prismRow}
 use Rattle.prism.proofs.SweptSums.{sumChain-level}
 
--- what holds of each prism cell holds of each swept cell
-all-level : (R Q : Row → Type 0) (nv i : ℕ) (cs : List Cell) → All Q cs →
-    ((v : Row) → Q v → (k : ℕ) → k < length v → R (prismRow (i * nv) (suc i * nv) k v)) → All R (level nv i cs)
-all-level R Q nv i [] a h = tt
-all-level R Q nv i (c ∷ cs) a h =
-    All-append R (prism nv i c) (level nv i cs)
-    (all-tabulated R (length (c .row)) (λ k. prismCell nv i k c) (h (c .row) (a .0))) (all-level R Q nv i cs (a .1) h)
-
+-- of the rows
 all-sweep : (R Q : Row → Type 0) (nv h : ℕ) (cs : List Cell) → All Q cs →
     ((i : ℕ) (v : Row) → i < h → Q v → (k : ℕ) → k < length v → R (prismRow (i * nv) (suc i * nv) k v)) → All R (sweepOf nv h cs)
-all-sweep R Q nv zero cs a r = tt
-all-sweep R Q nv (suc h) cs a r =
-    All-append R (sweepOf nv h cs) (level nv h cs) (all-sweep R Q nv h cs a (λ i v l. r i v (omega arith)))
-    (all-level R Q nv h cs a (λ v. r h v (omega arith)))
+all-sweep R Q nv h cs a r = each-sweep (λ c. R (c .row)) (λ c. Q (c .row)) nv h cs a (λ i c. r i (c .row))
 
 -- bounds
 below-append : (n : ℕ) (l r : Row) → Below n l → Below n r → Below n (l ++ r)
