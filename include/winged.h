@@ -18,11 +18,11 @@
  * material word more (0 will do), the header of winged_read has 2 bytes more, and winged_list takes the version first.
  *
  * Each function returns the count of what was written (words, floats or bytes, as it says), or minus the number of a
- * refusal (enum winged_refusal). The first refusal that applies is returned, by number, 18 coming after 8. A refused
- * call writes nothing; an accepted one writes from the start of each output and no further. Lengths are in bytes. An
- * input must have exactly the length that the numbers say; of an output only whole words or floats count, and it may be
- * longer than needed. A buffer of length 0 may come with any pointer, NULL among them: nothing is read or written
- * through it.
+ * refusal (enum winged_refusal). The first refusal that applies is returned, by number, 18 coming after 8 and 17 after
+ * 13. A refused call writes nothing; an accepted one writes from the start of each output and no further. Lengths are in
+ * bytes. An input must have exactly the length that the numbers say; of an output only whole words or floats count, and
+ * it may be longer than needed. A buffer of length 0 may come with any pointer, NULL among them: nothing is read or
+ * written through it.
  *
  * A solid may be without cells (s is 0), in every dimension, and only then without vertices (v is 0). The calls take it
  * like any other: its list and its table have length 0, and a return of 0 is a count, no refusal.
@@ -87,6 +87,7 @@ enum winged_refusal {
     WINGED_MOVED_OUT = 13,       /* move: a moved coordinate leaves the range */
     WINGED_UNSOUND = 14,         /* sweep, faces, list: the table is not that of its own cells, or has a material above 999 */
     WINGED_NO_ROOM = 15,         /* an output is shorter than the answer */
+    WINGED_STAYS_IN_PLANE = 17,  /* move: the step does not leave the plane of the points; tried after 13 and before 15 */
     WINGED_BAD_MATERIAL = 18     /* read, wing: a material is above 999; tried after 8 and before 9 */
 };
 
@@ -116,7 +117,9 @@ int64_t winged_sweep(uint32_t d, uint32_t v, uint32_t s, uint32_t h, const uint8
 
 /* The points of levels 0 to h: v points of n axes (1 to 8), moved h times by a step. a, b and c are floats by their
  * bits: a slide's amount on axis; a slant's amounts on axis and other; a turn's cosine, sine and rise. What a kind
- * leaves unused is to be 0. Returns the count of floats. */
+ * leaves unused is to be 0. The step must leave the plane of the points: on one axis that a slide or slant moves, or on
+ * the last for a turn, all v points must have one value (-0 equals 0), which rises at every step, or falls at every step.
+ * Returns the count of floats. */
 int64_t winged_move(uint32_t n, uint32_t v, uint32_t h, uint32_t kind, uint32_t axis, uint32_t other, uint64_t a,
                     uint64_t b, uint64_t c, const uint8_t *points, size_t points_len, uint8_t *levels,
                     size_t levels_len);

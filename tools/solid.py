@@ -13,7 +13,7 @@ The text, with anything after # a comment:
     steps 2
     slide 2 1.0              # axis and amount; or: slant 0 0.5 2 1.0; or: turn COSINE SINE RISE
     v 0 0 0                  # one line a vertex, numbered from 0: its coordinates
-    v 1 0 0
+    v 1 0 0                  # all have one value on axis 2, and so the slide leaves their plane
     v 0 1 0
     + 0 1 2                  # one line a cell: its sign and its vertices
 
@@ -244,11 +244,11 @@ def random_text(d, v, s, seed, materials=None):
     if materials is not None and not 1 <= materials <= 1000:
         raise Bad("wanted: 1 to 1000 materials")
     rng = random.Random(seed)
-    n = min(8, d + 1)
+    n = max(2, d + 1)  # flat on the last axis, which carries the slide
     named = "" if materials is None else f", {materials} materials"
     lines = [f"# dimension {d}, {v} vertices, up to {s} cells, seed {seed}{named}", "steps 1", f"slide {n - 1} 1.0"]
     lines += [f"dimension {d}"] * (s == 0) + [f"axes {n}"] * (v == 0) + ["version 2"] * (s == 0 and materials is not None)
-    lines += ["v " + " ".join(str(rng.randrange(-999, 1000) / 8) for _ in range(n)) for _ in range(v)]
+    lines += ["v " + " ".join(str(rng.randrange(-999, 1000) / 8) for _ in range(n - 1)) + " 0.0" for _ in range(v)]
     cells = random_cells(d, v, s, rng)
     lines += [cell_line(sign > 0, row, None if materials is None else rng.randrange(materials)) for sign, row in cells]
     return "\n".join(lines) + "\n"

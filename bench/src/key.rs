@@ -101,7 +101,7 @@ pub fn key(data: &[u8]) -> Vec<u8> {
     text
 }
 
-/// A file of about 20 KB, of version 1 or 2: a strip of triangles among many points, slid once.
+/// A file of about 20 KB, of version 1 or 2: a strip of triangles among many points in a plane, slid out of it once.
 pub fn sample(version: u8) -> Vec<u8> {
     let (d, n, v, s) = (2, 3, 770, 200);
     let mut data = [&b"WNG"[..], &[version, 0, d as u8, n as u8]].concat();
@@ -113,7 +113,8 @@ pub fn sample(version: u8) -> Vec<u8> {
         data.extend(x.to_le_bytes());
     }
     for i in 0..v * n {
-        data.extend(((i * 7919 % 20011) as f64 / 3700.0 - 2.5).to_le_bytes());
+        let x = if i % n == 2 { -1.625 } else { (i * 7919 % 20011) as f64 / 3700.0 - 2.5 };
+        data.extend(x.to_le_bytes());
     }
     for p in 0..s {
         data.push(if p % 2 == 0 { b'+' } else { b'-' });

@@ -63,6 +63,7 @@ pub enum Refusal {
     MovedOutOfRange = 13,
     Unsound = 14,
     NoRoom = 15,
+    StaysInPlane = 17,
     BadMaterial = 18,
 }
 
@@ -71,7 +72,7 @@ impl Refusal {
         use Refusal::*;
         [
             NotOurs, OutsideLimits, WrongLength, FloatRange, StepUnfit, BadSign, BadVertex, VertexTwice, CellTwice, CrowdedFace,
-            EqualSigns, SweptTooLarge, MovedOutOfRange, Unsound, NoRoom, BadMaterial,
+            EqualSigns, SweptTooLarge, MovedOutOfRange, Unsound, NoRoom, StaysInPlane, BadMaterial,
         ]
         .into_iter()
         .find(|&r| r as i64 == number)
@@ -97,6 +98,7 @@ impl fmt::Display for Refusal {
             Refusal::MovedOutOfRange => "a moved coordinate leaves the range",
             Refusal::Unsound => "the table is not sound: it is not the table of its own cells, or has a material above 999",
             Refusal::NoRoom => "an output is shorter than the answer",
+            Refusal::StaysInPlane => "the step does not leave the plane of the points",
             Refusal::BadMaterial => "a material is above 999",
         };
         write!(f, "refused {}: {reason}", *self as u8)
@@ -239,7 +241,8 @@ pub fn read(file: &[u8]) -> Result<File, Refusal> {
     Ok(File { version, d, n, v, s, h, step, cells: words(&cells[..2 * count]), points: floats(&points[..8 * (v * n) as usize]) })
 }
 
-/// The points of levels 0 to `h`: `v` points of `n` axes, moved `h` times.
+/// The points of levels 0 to `h`: `v` points of `n` axes, moved `h` times. On one axis that a slide or slant moves, or on
+/// the last for a turn, all points must have one value, which rises at every step, or falls at every step.
 pub fn move_points(n: u32, v: u32, h: u32, step: Step, points: &[f64]) -> Result<Vec<f64>, Refusal> {
     let (kind, axis, other, a, b, c) = match step {
         Step::Slide { axis, amount } => (1, axis, 0, amount, 0.0, 0.0),

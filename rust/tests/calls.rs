@@ -1,4 +1,4 @@
-//! The marked keys, wings in uploaded order, materials and the refusals through the safe functions.
+//! The marked keys, wings in uploaded order, materials, steps that leave the plane and the refusals through the safe functions.
 
 use winged::{faces, key, list as listed, move_points, read, sweep, wing, Refusal, Step, EMPTY};
 
@@ -60,6 +60,28 @@ fn bad_materials() {
     assert_eq!(wing(2, 3, 2, &[0, 1000, 0, 1, 2, 0, 0, 0, 1, 2]), Err(Refusal::BadMaterial));
     assert_eq!(wing(2, 3, 2, &[0, 1, 0, 1, 2, 0, 2, 0, 1, 2]), Err(Refusal::CellTwice));
     assert_eq!(Refusal::BadMaterial.to_string(), "refused 18: a material is above 999");
+}
+
+#[test]
+fn out_of_the_own_plane() {
+    let square = [0.0, 0.0, 0.0, 1.0, 0.0, 0.0, 0.0, 1.0, 0.0, 1.0, 1.0, -0.0];
+    let moved = |step| move_points(3, 4, 2, step, &square).map(|levels| levels.len());
+    let slide = |axis, amount| Step::Slide { axis, amount };
+    let slant = |other| Step::Slant { axis: 0, amount: 1.0, other, other_amount: 0.5 };
+    let turn = |rise| Step::Turn { cosine: 0.6, sine: 0.8, rise };
+    for (step, good) in [
+        (slide(0, 1.0), false), (slide(2, 1.0), true), (slide(2, -1.0), true), (slide(2, -0.0), false), (slant(1), false), (slant(2), true),
+        (turn(0.0), false), (turn(0.25), true),
+    ] {
+        assert_eq!(moved(step), if good { Ok(36) } else { Err(Refusal::StaysInPlane) });
+    }
+    // 1 - 2^-53 becomes 1, and then stays 1
+    let last = 1.0 - f64::EPSILON / 2.0;
+    assert_eq!(move_points(1, 1, 1, slide(0, f64::EPSILON / 2.0), &[last]), Ok(vec![last, 1.0]));
+    assert_eq!(move_points(1, 1, 2, slide(0, f64::EPSILON / 2.0), &[last]), Err(Refusal::StaysInPlane));
+    // after 13
+    assert_eq!(move_points(1, 2, 1, slide(0, 1.0), &[0.0, 1048575.0]), Err(Refusal::MovedOutOfRange));
+    assert_eq!(Refusal::StaysInPlane.to_string(), "refused 17: the step does not leave the plane of the points");
 }
 
 #[test]
@@ -162,7 +184,7 @@ fn a_file_to_its_key() -> Result<(), Refusal> {
         assert_eq!(key(&bytes), text);
     }
     assert_eq!(key(b"WNG"), "refused 1\n");
-    for name in ["refused/18", "refused/15-longer-records"] {
+    for name in ["refused/17", "refused/17-rounding", "steps/slant-second", "refused/18", "refused/15-longer-records"] {
         let (bytes, text) = sample(name);
         assert_eq!(key(&bytes), text);
     }

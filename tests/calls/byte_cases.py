@@ -30,9 +30,9 @@ STEPS = {1: (Slide(1, 1.0), (1, 0), (ONE, 0, 0)), 2: (Slant(2, 1.0, 0, -1.0), (2
 
 
 def move(name, kind, row, axes=None, bits=None, more=b"", room=48 * 3):
-    """Two points of three axes moved twice. Those whose row is not 0 are refused for it alone."""
+    """Two points of three axes, flat on the last two, moved twice. Those whose row is not 0 are refused for it alone."""
     step, its_axes, its_bits = STEPS.get(kind, STEPS[1])
-    points = [0.5, -1.25, 3.0, 0.0, 7.5, -2.0]
+    points = [0.5, -1.25, 3.0, 0.0, -1.25, 3.0]
     data = as_floats(points) + more
     if more.startswith(b"-"):
         data = data[:48 - len(more)]
@@ -56,6 +56,13 @@ def moves():
         yield move(f"slide, second float {bit:x}", 1, 5, bits=(ONE, bit, 0))
         yield move(f"slide, third float {bit:x}", 1, 5, bits=(ONE, 0, bit))
         yield move(f"slant, third float {bit:x}", 2, 5, bits=(ONE, ONE, bit))
+    rise = STEPS[3][2][:2]
+    for bit, room in itertools.product((0, MINUS_ZERO, 1), (143, 144)):
+        yield move(f"slide by {bit:x}, {room} bytes", 1, 17, bits=(bit, 0, 0), room=room)
+        yield move(f"slant by {bit:x} on a flat axis, {room} bytes", 2, 17, bits=(bit, ONE, 0), room=room)
+        yield move(f"turn with rise {bit:x}, {room} bytes", 3, 17, bits=(*rise, bit), room=room)
+    yield move("slide on an axis that is not flat", 1, 17, axes=(0, 0))
+    yield move("slant, its flat axis by 0", 2, 17, axes=(0, 1), bits=(ONE, 0, 0))
     for axis in (1, 2, 255, 2**32 - 1):
         yield move(f"slide, second axis {axis}", 1, 5, axes=(1, axis))
         yield move(f"turn, first axis {axis}", 3, 5, axes=(axis, 0))

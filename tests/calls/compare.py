@@ -20,8 +20,11 @@ import byte_cases  # noqa: E402
 import key_cases  # noqa: E402
 import list_cases  # noqa: E402
 import move_cases  # noqa: E402
+import plane_cases  # noqa: E402
 import read_cases  # noqa: E402
 from tally import Tally, rows  # noqa: E402
+
+LEAST = {("move", 0): 8000, ("move", 17): 5000}  # so that row 17 neither hides the rest nor is rare
 
 
 def answers(program, cases, last):
@@ -47,7 +50,7 @@ def number_of(text):
 
 
 def compare(name, program, cases, last, wanted, tally):
-    """All cases of one call: the program's text, the number meant, and every row."""
+    """All cases of one call: the program's text, the number meant, and every row, so often at least."""
     status, texts, rest = answers(program, cases, last)
     tally.check(f"{name}: exit status {status}, {len(texts)} answers for {len(cases)} cases",
                 status == 0 and len(texts) == len(cases) and not rest)
@@ -58,9 +61,14 @@ def compare(name, program, cases, last, wanted, tally):
         tally.check(f"{name} {case.name}: got {got[:90]!r}, want {case.want[:90]!r}", got == case.want)
         if case.row is not None:
             tally.check(f"{name} {case.name}: made for {case.row}, and the reference says {number}", number == case.row)
-    missing = wanted - set(hit)
-    tally.check(f"{name}: no case for {sorted(missing)}", not missing)
+    missing = {row for row in wanted if hit[row] < LEAST.get((name, row), 1)}
+    tally.check(f"{name}: no case, or too few, for {sorted(missing)}", not missing)
     print(f"{name}: {rows(hit)}")
+
+
+def moves(rng):
+    yield from move_cases.cases(rng)
+    yield from plane_cases.cases(rng)
 
 
 def main():
@@ -69,7 +77,7 @@ def main():
     tally = Tally(shown=10)
     for name, cases, more, last, wanted in (
             ("read", read_cases.cases, byte_cases.reads, "behind", {0, 1, 2, 3, 4, 5, 6, 7, 8, 18, 15}),
-            ("move", move_cases.cases, byte_cases.moves, "buffer", {0, 2, 3, 4, 5, 12, 13, 15}),
+            ("move", moves, byte_cases.moves, "buffer", {0, 2, 3, 4, 5, 12, 13, 17, 15}),
             ("list", list_cases.cases, byte_cases.lists, "buffer", {0, 2, 3, 4, 14, 15}),
             ("key", key_cases.cases, tuple, "buffer", {0, 15})):
         compare(name, program, [*cases(random.Random(seed)), *more()], last, wanted, tally)

@@ -27,6 +27,11 @@ def files(rng):
         cells[0] = cells[0]._replace(material=material)
         data = solids.file_bytes(1, 2, 3, 2, reference.Slide(1, 0.5), [0.0, 0.0, 1.0, 0.0, 2.0, 0.0], cells, version)
         yield f"version {version}, material {material}", data
+    square = [x for corner in ((0, 0), (1, 0), (0, 1), (1, 1)) for x in (*map(float, corner), -2.5)]
+    triangles = [reference.Cell(1, (0, 1, 2), 7), reference.Cell(-1, (1, 2, 3), 42)]
+    for version, (axis, amount) in itertools.product((1, 2), ((0, 1.0), (1, -1.0), (2, 0.0), (2, 2.0**-60), (2, 1.0), (2, -1.0))):
+        data = solids.file_bytes(2, 3, 4, 2, reference.Slide(axis, amount), square, triangles, version)
+        yield f"version {version}, a square slid by {amount} along axis {axis}", data
     for length in (39, 40, LIMIT - 1, LIMIT, LIMIT + 1, 3 * LIMIT):
         yield f"{length} bytes", good[:length] + b"\0" * (length - len(good))
     for row, data in solids.limit_files():

@@ -47,7 +47,7 @@ def check_sections():
 def check_reasons():
     """Each refusal is told in the same words, in the README's table and in the manual page's."""
     reasons = [tuple(line.split("\t")) for line in (ROOT / "docs" / "refusals.txt").read_text().splitlines()]
-    check("refusals.txt: a line for each refusal", [number for number, _ in reasons] == [str(n) for n in (*range(1, 16), 18)])
+    check("refusals.txt: a line for each refusal", [number for number, _ in reasons] == [str(n) for n in (*range(1, 16), 17, 18)])
     table = (ROOT / "README.md").read_text().split("| N | when |\n|---|---|\n")[-1].split("\n\n")[0]
     check("README.md: the reasons", re.findall(r"^\| (\S+) \| (.*) \|$", table, re.M) == reasons)
     page = (ROOT / "docs" / "man" / "key.1").read_text().split(".SH REFUSALS")[-1].split(".SH")[0].replace("\\-", "-")

@@ -12,8 +12,9 @@ static uint8_t table[WINGED_TABLE_BYTES(7, WINGED_MAX_CELLS)];
 static uint8_t uploaded[WINGED_UPLOADED_BYTES(7, WINGED_MAX_CELLS)];
 static uint8_t file[40 + 8 * 8 * 4096 + 5 * 4096], points[WINGED_POINTS_BYTES(8, 4096)], levels[WINGED_POINTS_BYTES(8, 4096)];
 static uint8_t header[WINGED_HEADER_BYTES], text[1 << 21];
-/* a point slid once on its axis */
-static const uint8_t small[51] = {'W', 'N', 'G', 1, 0, 0, 1, 1, 0, 1, 0, 1, 0, 1, [48] = '+'};
+static const uint64_t ONE = 0x3ff0000000000000; /* the bits of 1.0 */
+/* a point slid by 1 on its axis */
+static const uint8_t small[51] = {'W', 'N', 'G', 1, 0, 0, 1, 1, 0, 1, 0, 1, 0, 1, [22] = 0xf0, 0x3f, [48] = '+'};
 static uint8_t out[WINGED_FACES_BYTES(7, WINGED_MAX_CELLS)];
 
 /* A strip of s cells of dimension d: cell p is on p, p + 1, .. , p + d, of material p % 1000. Its bytes. */
@@ -77,7 +78,7 @@ int main(int count, char **names)
     if (refused("wing", n) || refused("faces", winged_faces(7, V, S, table, 2 * (size_t)n, out, sizeof out)))
         return 1;
     if (refused("read", winged_read(file, file_of_points(), header, sizeof header, table, sizeof table, points, sizeof points)) ||
-        refused("move", winged_move(8, 2048, 1, WINGED_SLIDE, 7, 0, 0, 0, 0, points, sizeof points / 2, levels, sizeof levels)))
+        refused("move", winged_move(8, 2048, 1, WINGED_SLIDE, 7, 0, ONE, 0, 0, points, sizeof points / 2, levels, sizeof levels)))
         return 1;
     n = winged_wing(6, 2048, 585, list, strip(6, 585), table, sizeof table, uploaded, sizeof uploaded);
     return refused("wing", n) || refused("sweep", winged_sweep(6, 2048, 585, 1, table, 2 * (size_t)n, out, sizeof out));

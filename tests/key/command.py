@@ -60,7 +60,7 @@ def check_usage():
     answers("key -", run([COMMAND, "-"], K1.read_bytes()), 0, key_of(K1))
     for words in ([], ["a", "b"], ["--no-such-option"], ["no such file"], [ROOT]):
         answers(f"key {words}", run([COMMAND, *words]), 2, b"", b"try key --help")
-    for word, start in (("--help", b"usage: key FILE"), ("--version", b"key 1.4")):
+    for word, start in (("--help", b"usage: key FILE"), ("--version", b"key 1.5")):
         said = run([COMMAND, word])
         check(f"key {word}", said.returncode == 0 and said.stdout.startswith(start) and said.stderr == b"")
 

@@ -16,7 +16,8 @@ from tally import Tally
 
 FILES = 3000
 # row 14 cannot come out of the program: it lists only tables that it made
-OUTCOMES = {"key"} | {f"refused {n}" for n in (*range(1, 16), 18) if n != 14}
+OUTCOMES = {"key"} | {f"refused {n}" for n in (*range(1, 16), 17, 18) if n != 14}
+LEAST = {"key": FILES // 2, "refused 17": FILES // 30}  # so that row 17 neither hides the rest nor is rare
 
 
 def edge_files(rng):
@@ -28,7 +29,7 @@ def edge_files(rng):
     # good files of 8 axes: one of just under 65,536 bytes, with too many points for a key, and one with nearly the longest key
     for v, s in ((1000, 300), (512, 400)):
         cells = [reference.Cell(1, (p,), p) for p in range(s)]
-        points = [rng.uniform(-9, 9) for _ in range(8 * v)]
+        points = solids.flat_on([rng.uniform(-9, 9) for _ in range(8 * v)], 8, 7, -8.125)
         for version in (1, 2):
             yield solids.file_bytes(0, 8, v, 1, reference.Slide(7, 1.0), points, cells, version)
     yield from (data for _, data in solids.limit_files())
@@ -57,6 +58,8 @@ def main():
         tally.check(f"file {number} of {len(data)} bytes: got {got[:60]!r}, want {want[:60]!r}", got == want)
     missing = OUTCOMES - set(seen)
     tally.check(f"no file for: {sorted(missing)}", not missing)
+    for name, least in LEAST.items():
+        tally.check(f"{name}: {seen[name]} files, and {least} are wanted", seen[name] >= least)
     print(", ".join(f"{name} {count}" for name, count in sorted(seen.items())))
     return tally.finish()
 

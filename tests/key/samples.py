@@ -62,7 +62,7 @@ def check_samples():
     check("a sample for each kind of step", kinds == {1, 2, 3})
     check("a sample for each dimension", dimensions == set(range(7)))
     check("a sample for each version", versions == {1, 2})
-    check("a sample for each refusal that reaches the program", refusals == {*range(1, 16), 18} - {14})
+    check("a sample for each refusal that reaches the program", refusals == {*range(1, 16), 17, 18} - {14})
 
 
 def check_halves():
@@ -105,6 +105,26 @@ def check_materials():
     plain = [file for file, f in named.items() if f.s and not any(f.cells[1::reference.list_size(f.d)])]
     lines = [line.split() for file in plain for line in key_of(file).decode().splitlines() if line[0] in "+-"]
     check("material 0 alone, and printed", lines and all(line[-1] == "0" and len(line) == 2 + read[plain[0]].d + 1 for line in lines))
+
+
+def check_own_plane():
+    """Among the samples refused by 17 are a step along the solid and one that rounding swallows, and no other sample would be;
+    of an accepted slant the second axis alone carries the step."""
+    along, swallowed, second = [], [], []
+    for file in FILES:
+        f = reference.read(file.read_bytes(), ROOM, ROOM)
+        if isinstance(f, reference.Refused):
+            continue
+        refused = reference.move(f.n, f.v, f.h, f.step, f.points, ROOM) == reference.Refused(17)
+        check(f"{file}: a step that stays in its own plane is what it is for", refused == (file.stem[:2] == "17"))
+        axes = reference.moved_axes(f.step, f.n)
+        flat = [len(set(f.points[axis::f.n])) == 1 for axis in axes]
+        if refused:
+            along += [file] * (not any(flat))
+            swallowed += [file] * (any(flat) and all(reference.step_floats(f.step)))
+        elif f.v and len(axes) == 2:
+            second += [file] * (flat == [False, True])
+    check(f"along the solid {along}, swallowed {swallowed}, by a second axis {second}", along and swallowed and second)
 
 
 def check_longer_records():
@@ -175,6 +195,7 @@ def main():
     check_halves()
     check_empty()
     check_materials()
+    check_own_plane()
     check_longer_records()
     check_pieces()
     check_endless()

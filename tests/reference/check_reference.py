@@ -1,5 +1,5 @@
-"""Checks the reference: the marked keys, the refusal table, wings in uploaded order, the third term, materials, random
-files."""
+"""Checks the reference: the marked keys, the refusal table, wings in uploaded order, the third term, materials, steps in
+the solid's own plane, random files."""
 
 import itertools
 import math
@@ -14,6 +14,7 @@ from fractions import Fraction
 
 sys.dont_write_bytecode = True
 import material_laws
+import own_plane
 import solids
 import winged_reference as ref
 from winged_reference import EMPTY, Answer, Cell, Refused, Slant, Slide, Turn, WingAnswer
@@ -122,7 +123,7 @@ def check_k9():
     point = [0, 0, 0, EMPTY]
     for v, h, wanted in ((2048, 1, 0), (1366, 2, 12), (1365, 2, 0), (2049, 1, 12)):
         check(f"K9 sweep {v} {h}", number(ref.sweep(0, v, 1, h, point, ROOM)), wanted)
-        check(f"K9 move {v} {h}", number(ref.move(1, v, h, Slide(0, 0.0), [0.0] * v, ROOM)), wanted)
+        check(f"K9 move {v} {h}", number(ref.move(1, v, h, Slide(0, 1.0), [0.0] * v, ROOM)), wanted)
 
 # The refusal table, row by row and call by call.
 def check_read_rows():
@@ -335,7 +336,7 @@ def check_move_rows():
     check("row 13 not", moved(1, 1, 2, slide, [BIG - 3.0]), 0)
     check("row 15 move", [moved(1, 1, 1, slide, [0.0], room) for room in (1, 2)], [15, 0])
     edge = [math.sqrt(1.0 + k * 2.0**-40) + j * 2.0**-52 for k in (-1, 1) for j in (-4, 0, 4)]
-    check("row 5 circle", [moved(3, 1, 1, Turn(c, 0.0, 0.0), [0.0] * 3) for c in edge],
+    check("row 5 circle", [moved(3, 1, 1, Turn(c, 0.0, 0.5), [0.0] * 3) for c in edge],
           [0 if 1 - 2.0**-40 <= c * c <= 1 + 2.0**-40 else 5 for c in edge])
     turned = ref.move(4, 1, 2, Turn(0.0, 1.0, 0.5), [2.0, 3.0, -0.0, 1.0], ROOM).written
     wanted = [2.0, 3.0, -0.0, 1.0, -3.0, 2.0, -0.0, 1.5, -2.0, -3.0, -0.0, 2.0]
@@ -512,19 +513,25 @@ def check_files(rng):
         seen[int(words[1]) if words[0] == b"refused" else 0] += 1
         if words[0] == b"key":
             check(f"file {trial} lines", text.count(b"\n"), 1 + int(words[3]) + int(words[4]))
-    check("all outcomes seen", sorted(seen), [0, 1, 2, 3, 4, 5, 6, 7, 8, 9, 10, 11, 12, 13, 15, 18])
+    check("all outcomes seen", sorted(seen), [0, 1, 2, 3, 4, 5, 6, 7, 8, 9, 10, 11, 12, 13, 15, 17, 18])
 
 def check_materials(rng):
     """The laws of materials, on random solids and by hand."""
     for name, got, wanted in material_laws.laws(rng):
         check(name, got, wanted)
 
+def check_own_plane(rng):
+    """Row 17, by hand and on random moves."""
+    for name, got, wanted in own_plane.checks(rng):
+        check(f"row 17, {name}", got, wanted)
+
 def main():
     """All checks, with a fixed seed; a check that breaks off is a failure too."""
     groups = (check_keys, check_read_rows, check_wing_rows, check_orders, check_table_rows, check_unsound,
               check_move_rows, check_no_cells, check_program_and_c, check_side_pairs,
               lambda: check_printing(random.Random(1)), lambda: check_solids(random.Random(2)),
-              lambda: check_files(random.Random(3)), lambda: check_materials(random.Random(4)))
+              lambda: check_files(random.Random(3)), lambda: check_materials(random.Random(4)),
+              lambda: check_own_plane(random.Random(5)))
     for place, group in enumerate(groups):
         try:
             group()

@@ -8,7 +8,8 @@ import itertools
 import math
 import struct
 
-from winged_reference import EMPTY, VERSIONS, Cell, Slant, Slide, Turn, ascending, file_cell_size, record_size
+from winged_reference import (EMPTY, VERSIONS, Cell, Slant, Slide, Turn, ascending, file_cell_size, moved_axes, moved_point,
+                              record_size)
 
 BIG = 1048576.0
 BELOW_BIG = math.nextafter(BIG, 0.0)
@@ -152,6 +153,37 @@ def random_step(n, rng):
         return Slant(a, random_float(rng), b, random_float(rng))
     return random_turn(rng)
 
+def flat_on(points, n, axis, value):
+    """The points with one value on an axis; where that is 0, every other zero has a minus."""
+    values = (value, -value) if value == 0 else (value,)
+    return [values[k // n % len(values)] if k % n == axis else x for k, x in enumerate(points)]
+
+def with_amount(step, axis, amount):
+    """The step with another amount on an axis that it moves, or another rise."""
+    if isinstance(step, Turn):
+        return step._replace(rise=amount)
+    return step._replace(**{"amount" if step.axis == axis else "other_amount": amount})
+
+def random_move(v, n, rng, points=None):
+    """A step and v points, random ones or those given. Most are made flat on an axis that the step moves, by an amount that
+    rounding does not swallow; some only nearly so, and some are left to chance: row 17 refuses nearly all of these."""
+    step, points = random_step(n, rng), random_points(v, n, rng) if points is None else points
+    chance = rng.random()
+    if v == 0 or chance < 0.03:
+        return step, points
+    axis = rng.choice(moved_axes(step, n))
+    amount = moved_point(step, [0.0] * n)[axis]
+    value = rng.choice(points[axis::n]) if rng.random() < 0.95 else rng.choice((BELOW_BIG, -BELOW_BIG, BIG - 2.0, 2.0 - BIG))
+    if chance > 0.09:
+        amount = amount or rng.choice((1.0, -1.0, 0.125, 5e-324))
+        if value + amount == value:
+            value = 0.0
+    points = flat_on(points, n, axis, value)
+    if chance < 0.06:
+        place = axis + n * rng.randrange(v)
+        points[place] = math.nextafter(points[place], rng.choice((BIG, -BIG)))
+    return with_amount(step, axis, amount), points
+
 # Solids without cells.
 def empty_sizes():
     """Vertex counts and steps for a solid without cells: those that a sweep may have, and those that are too many."""
@@ -163,11 +195,11 @@ def steps_of_each_kind(n):
     return steps[:min(n, 3)]
 
 def empty_files():
-    """Files without cells, of every dimension, kind of step and version, with many vertices only slid and in one version;
-    (d, n, v, h, file)."""
+    """Files without cells, flat on the last axis, of every dimension, kind of step and version, with many vertices only slid
+    and in one version; (d, n, v, h, file)."""
     for d, (v, h) in itertools.product(range(7), empty_sizes()):
         for n in {d + 1, max(d + 1, 3), 8} if v < 1000 else {d + 1}:
-            points = [(k * 37 % 101 - 50) / 16 for k in range(v * n)]
+            points = flat_on([(k * 37 % 101 - 50) / 16 for k in range(v * n)], n, n - 1, -2.5)
             few = v < 1000
             for version, step in itertools.product(VERSIONS if few else (1 + d % 2,), steps_of_each_kind(n)[:3 if few else 1]):
                 yield d, n, v, h, file_bytes(d, n, v, h, step, points, [], version)
@@ -206,7 +238,8 @@ def random_file(rng, d=None):
         v, cells = rng.choice((0, 1, v)), []
     cells = shuffled(cells, rng, adjust=rng.random() < 0.9)
     version = rng.choice((1, 2, 2))
-    return file_bytes(d, n, v, h, random_step(n, rng), random_points(v, n, rng), cells, version)
+    step, points = random_move(v, n, rng)
+    return file_bytes(d, n, v, h, step, points, cells, version)
 
 # Files about as long as the program has room for, on the way to their keys.
 def apart(d, v, s):

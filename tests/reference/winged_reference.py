@@ -299,6 +299,23 @@ def moved_point(step, point):
         moved[-1] = point[-1] + step.rise
     return moved
 
+def moved_axes(step, n):
+    """The axes that may carry a step: those that a slide or slant moves, or the last one for a turn."""
+    if isinstance(step, Slide):
+        return [step.axis]
+    if isinstance(step, Slant):
+        return [step.axis, step.other_axis]
+    return [n - 1]
+
+def carries(axis, levels):
+    """Whether an axis carries the step: on it all vertices of a level have equal values, by value, so that -0 is 0; and at
+    every level they are strictly above those of the level before, or at every level strictly below."""
+    values = [[point[axis] for point in level] for level in levels]
+    flat = all(x == level[0] for level in values for x in level)
+    rises = all(x < y for below, level in zip(values, values[1:]) for x, y in zip(below, level))
+    falls = all(x > y for below, level in zip(values, values[1:]) for x, y in zip(below, level))
+    return flat and (rises or falls)
+
 def move(n, v, h, step, points, room):
     """The points of levels 0 to h."""
     if not (1 <= n <= 8 and v <= MOST and 1 <= h <= 64):
@@ -317,6 +334,8 @@ def move(n, v, h, step, points, room):
     written = [x for level in levels for point in level for x in point]
     if not all(float_fits(x) for x in written):
         return Refused(13)
+    if v > 0 and not any(carries(axis, levels) for axis in moved_axes(step, n)):
+        return Refused(17)
     if room < len(written):
         return Refused(15)
     return Answer(len(written), written)

@@ -10,14 +10,16 @@ import pathlib
 import subprocess
 import sys
 
+sys.dont_write_bytecode = True
 ROOT = pathlib.Path(__file__).resolve().parents[2]
-sys.path.insert(0, str(ROOT / "tests"))
+sys.path[:0] = [str(ROOT / "tests"), str(ROOT / "tools")]
+import solid  # noqa: E402
 from tally import Tally  # noqa: E402
 
 TOOL = [sys.executable, "-B", str(ROOT / "tools" / "solid.py")]
 STEP = "steps 1\nslide 2 1.0\n"
 EMPTY = STEP + "dimension 2\naxes 3\n"
-GOOD = "steps 1\nslide 0 1.0\nv 0 0\nv 1 0\n+ 0 1\n"
+GOOD = "steps 1\nslide 1 1.0\nv 0 0\nv 1 0\n+ 0 1\n"
 NAMED = GOOD.replace("+ 0 1", "+ 0 1 : 7")
 # a text, and what the tool must say of it
 BAD = [
@@ -30,9 +32,9 @@ BAD = [
     (GOOD + "+ 1 b\n", "line 6: 'b' is no whole number"),
     (GOOD + "+ 1 65536\n", "line 6: '65536' is no whole number"),
     (GOOD + "steps 2\n", "line 6: one line 'steps COUNT'"),
-    (GOOD + "slide 1 1\n", "line 6: a second step"),
-    (GOOD.replace("slide 0 1.0", "slide 0"), "line 2: slide takes an axis and an amount"),
-    (GOOD.replace("slide 0 1.0", "turn 1 0"), "line 2: turn takes cosine, sine and rise"),
+    (GOOD + "slide 0 1\n", "line 6: a second step"),
+    (GOOD.replace("slide 1 1.0", "slide 1"), "line 2: slide takes an axis and an amount"),
+    (GOOD.replace("slide 1 1.0", "turn 1 0"), "line 2: turn takes cosine, sine and rise"),
     (GOOD.replace("v 1 0", "v 1 east"), "line 4: 'east' is no number"),
     (GOOD.replace("+ 0 1\n", ""), "no cell in the text, and no line 'dimension D' in its place"),
     (GOOD.replace("v 0 0\nv 1 0\n", ""), "no vertex in the text, and no line 'axes N' in its place"),
@@ -61,12 +63,12 @@ SAID = [
     (EMPTY, "steps 1|slide 2 1.0|dimension 2|axes 3"),
     ("axes 3\ndimension 2\nv 0 1 2\n" + STEP, "steps 1|slide 2 1.0|dimension 2|v 0.0 1.0 2.0"),
     (EMPTY + "+ 0 1 2\n", "steps 1|slide 2 1.0|axes 3|+ 0 1 2"),
-    (GOOD + "dimension 1\naxes 2\n", "steps 1|slide 0 1.0|v 0.0 0.0|v 1.0 0.0|+ 0 1"),
-    (GOOD + "version 1\n", "steps 1|slide 0 1.0|v 0.0 0.0|v 1.0 0.0|+ 0 1"),
-    (NAMED, "steps 1|slide 0 1.0|v 0.0 0.0|v 1.0 0.0|+ 0 1 : 7"),
-    (NAMED + "- 1 0\n+ 0 1 : 999\n", "steps 1|slide 0 1.0|v 0.0 0.0|v 1.0 0.0|+ 0 1 : 7|- 1 0 : 0|+ 0 1 : 999"),
-    (GOOD + "- 1 0 : 65535\n", "steps 1|slide 0 1.0|v 0.0 0.0|v 1.0 0.0|+ 0 1 : 0|- 1 0 : 65535"),
-    (GOOD + "version 2\n", "steps 1|slide 0 1.0|v 0.0 0.0|v 1.0 0.0|+ 0 1 : 0"),
+    (GOOD + "dimension 1\naxes 2\n", "steps 1|slide 1 1.0|v 0.0 0.0|v 1.0 0.0|+ 0 1"),
+    (GOOD + "version 1\n", "steps 1|slide 1 1.0|v 0.0 0.0|v 1.0 0.0|+ 0 1"),
+    (NAMED, "steps 1|slide 1 1.0|v 0.0 0.0|v 1.0 0.0|+ 0 1 : 7"),
+    (NAMED + "- 1 0\n+ 0 1 : 999\n", "steps 1|slide 1 1.0|v 0.0 0.0|v 1.0 0.0|+ 0 1 : 7|- 1 0 : 0|+ 0 1 : 999"),
+    (GOOD + "- 1 0 : 65535\n", "steps 1|slide 1 1.0|v 0.0 0.0|v 1.0 0.0|+ 0 1 : 0|- 1 0 : 65535"),
+    (GOOD + "version 2\n", "steps 1|slide 1 1.0|v 0.0 0.0|v 1.0 0.0|+ 0 1 : 0"),
     (EMPTY + "version 2\n", "steps 1|slide 2 1.0|dimension 2|axes 3|version 2"),
     (EMPTY + "version 1\n", "steps 1|slide 2 1.0|dimension 2|axes 3"),
 ]
@@ -74,6 +76,9 @@ SAID = [
 BYTES = [("+ 0 1", b"+\0\0\1\0"), ("- 1 0 : 0", b"-\0\0\1\0\0\0"), ("+ 0 1 : 7", b"+\7\0\0\0\1\0"), ("+ 0 1 : 999", b"+\xe7\3\0\0\1\0")]
 # a cell's line, and how what the program prints begins
 PRINTED = [("+ 0 1", "key"), ("+ 0 1 : 999", "key"), ("+ 0 1 : 1000", "refused 18\n"), ("+ 0 1 : 65535", "refused 18\n")]
+# a step, and how what the program prints begins: a step along the segment's own line, and one that rounding swallows, are 17
+CARRIED = [("slide 1 1.0", "key"), ("slide 1 -1e-300", "key"), ("slide 0 1.0", "refused 17\n"), ("slide 1 0.0", "refused 17\n"),
+           ("slant 0 1.0 1 0.5", "key"), ("slant 1 0.5 0 1.0", "key"), ("slant 0 1.0 1 -0.0", "refused 17\n")]
 # a file that has no text, and the refusal that says why
 HEAD = b"WNG\1\0\0\1\1\0\1\0\1\0"
 HEAD2 = HEAD.replace(b"\1", b"\2", 1)
@@ -84,6 +89,7 @@ USAGE = ([], ["pack", "a", "b", "c"], ["explain"], ["explain", "0"], ["explain",
          ["random", "a", "2", "3", "4"], ["random", "1", "2", "3", "4", "a"], ["random", "1", "2", "3", "4", "5", "6"])
 RANDOM = [(d, v, s, seed) for d in range(7) for v, s in ((0, 0), (1, 0), (d + 1, 1), (d + 3, 6), (40, 30), (60, 20)) for seed in (1, 2)]
 RANDOM += [(d, v, s, 3, m) for d in range(7) for v, s in ((0, 0), (40, 30)) for m in (3, 1000)]
+MANY = [(d, v, s, seed) for seed in range(100, 106) for d in range(7) for v, s in ((2, 0), (d + 2, 2), (d + 5, 8), (50, 12))]
 UNFIT = [(7, 0, 0, 1), (0, 4097, 0, 1), (0, 1, 4097, 1), (0, 0, 1, 1), (3, 3, 1, 1)]
 UNFIT_MATERIALS = [(2, 9, 5, 1, 0), (2, 9, 5, 1, 1001)]
 
@@ -112,10 +118,22 @@ def check_random(program, numbers):
         check(f"random {numbers}: the same cells", lines == [] or [x.split(" :")[0] for x in lines] == plain[-len(lines):])
 
 
+def check_many(program):
+    """Random solids leave their own plane: each is accepted, and flat on the axis that it is slid along, and on no other."""
+    for numbers in MANY:
+        text = solid.random_text(*numbers)
+        said = run([program], solid.pack(text)).stdout
+        check(f"random {numbers}: its step, {said[:20]}", said.startswith(b"key "))
+        _, _, (_, (axis, _), _), _, n, points, _ = solid.parse(text)
+        flat = [k for k in range(n) if len({point[k] for point in points}) == 1]
+        check(f"random {numbers}: flat on {flat} and slid on {axis}", flat == [axis])
+
+
 def main():
     program = sys.argv[1] if len(sys.argv) > 1 else str(ROOT / "target" / "bin" / "key")
     for numbers in RANDOM:
         check_random(program, numbers)
+    check_many(program)
     for text, message in BAD:
         done = run([*TOOL, "pack"], text.encode())
         check(f"bad text: {message}", done.returncode == 1 and done.stdout == b"" and message in done.stderr.decode())
@@ -129,6 +147,9 @@ def main():
     for line, start in PRINTED:
         file = run([*TOOL, "pack"], GOOD.replace("+ 0 1", line).encode()).stdout
         check(f"printed: {line}", run([program], file).stdout.decode().startswith(start))
+    for step, start in CARRIED:
+        file = run([*TOOL, "pack"], GOOD.replace("slide 1 1.0", step).encode()).stdout
+        check(f"printed: {step}", run([program], file).stdout.decode().startswith(start))
     for numbers, told in [(n, b"wanted: dimension") for n in UNFIT] + [(n, b"wanted: 1 to 1000 materials") for n in UNFIT_MATERIALS]:
         done = run([*TOOL, "random", *map(str, numbers)])
         check(f"random {numbers}: not to be had", done.returncode == 1 and done.stdout == b"" and told in done.stderr)

@@ -29,7 +29,7 @@ use Rattle.rules.proofs.Tests.{and-parts}
 use Rattle.solids.proofs.Tests.{or-false}
 use Rattle.points.specs.Step.{inRange, stepFits, stepFloats}
 use Rattle.points.specs.declared.step.Step.{Step}
-use Rattle.motion.specs.Move.{MoveInput, moveInput, movedLevels, movedLength, moveRules, moveOutcome, moveBuffer}
+use Rattle.motion.specs.Move.{MoveInput, moveInput, movedLevels, stepCarries, movedLength, moveRules, moveOutcome, moveBuffer}
 use Rattle.motion.proofs.Lengths.{moved-front}
 use Rattle.hosting.specs.Floats.{floats64, floatBytes}
 use Rattle.hosting.specs.Moves.{MoveTold, toldStep, unusedSet, toldMove, hostMoveRules, hostMoveOutcome, hostMoveBuffer}
@@ -95,7 +95,7 @@ module _ (i : MoveTold) where
 
     same : hostMoveOutcome i ≡ inRoom (i .room) (moveOutcome roomy)
     unfolding hostMoveOutcome hostMoveRules moveOutcome moveRules movedLevels
-    same = go (not (allOf inRange (movedLevels roomy))) refl (ltb (i .room) (movedLength roomy)) refl
+    same = go (not (allOf inRange (movedLevels roomy))) refl (not (stepCarries roomy)) refl (ltb (i .room) (movedLength roomy)) refl
       where
         right : eqb (length (floats64 (i .points))) (i .v * i .n) ≡ true
         right = eq-eqb (length (floats64 (i .points))) (i .v * i .n) (omega (arith, long, floats-length (i .points)))
@@ -103,11 +103,12 @@ module _ (i : MoveTold) where
         fit : not (stepFits (i .n) (toldStep (i .step))) ≡ false
         fit = or-false _ (unusedSet (i .step)) d .0
 
-        go : (x : Bool) → not (allOf inRange (movedLevels roomy)) ≡ x → (y : Bool) → ltb (i .room) (movedLength roomy) ≡ y →
-            hostMoveOutcome i ≡ inRoom (i .room) (moveOutcome roomy)
-        go true p y q = rw (a, b, c, d, e, p, numbers a, right, fit) refl
-        go false p true q = rw (a, b, c, d, e, p, q, numbers a, right, fit, fits, q) refl
-        go false p false q = rw (a, b, c, d, e, p, q, numbers a, right, fit, fits, q) refl
+        go : (x : Bool) → not (allOf inRange (movedLevels roomy)) ≡ x → (z : Bool) → not (stepCarries roomy) ≡ z →
+            (y : Bool) → ltb (i .room) (movedLength roomy) ≡ y → hostMoveOutcome i ≡ inRoom (i .room) (moveOutcome roomy)
+        go true p z r y q = rw (a, b, c, d, e, p, numbers a, right, fit) refl
+        go false p true r y q = rw (a, b, c, d, e, p, r, numbers a, right, fit) refl
+        go false p false r true q = rw (a, b, c, d, e, p, r, q, numbers a, right, fit, fits, q) refl
+        go false p false r false q = rw (a, b, c, d, e, p, r, q, numbers a, right, fit, fits, q) refl
 
     pub move-right : (out : List ℕ) (step : Step) → step ≡ toldStep (i .step) → (o : Outcome ℕ) (w : List ℕ) →
         let m = moveInput (i .n) (i .v) (i .h) step (floats64 (i .points)) floatRoom in

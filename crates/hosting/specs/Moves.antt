@@ -5,17 +5,17 @@
 --   hostMoveRules, hostMoveOutcome (the count of floats), hostMoveBuffer
 use mathlib.Core.Bool.{Bool, not, cond, _&&_, _||_}
 use mathlib.Core.List.{List, [], _∷_}
-use Prim.Native.Nat.{ℕ, _*_, _/_}
+use Prim.Native.Nat.{ℕ, _*_}
 use lib.Dec.{eqb, ltb}
 use lib.ListN.{length}
-use lib.Ieee.{Float, binary64, ofBits}
+use lib.Ieee.{binary64, ofBits}
 use Rattle.words.specs.Records.{allOf}
 use Rattle.rules.specs.Limits.{axesOk, verticesOk, stepsOk, maxVertices, sweptVertices, within}
 use Rattle.rules.specs.Calls.{Rule, refuse, Outcome, decide, after}
 use Rattle.points.specs.declared.step.Step.{Step}
 use Rattle.points.specs.declared.step.Step.the-variants as S
 use Rattle.points.specs.Step.{inRange, stepFits, stepFloats}
-use Rattle.motion.specs.Move.{MoveInput, moveInput, movedLevels, movedLength}
+use Rattle.motion.specs.Move.{MoveInput, moveInput, movedLevels, stepCarries, movedLength}
 use Rattle.hosting.specs.Floats.{floats64, floatBytes}
 use Rattle.hosting.specs.declared.step_bits.StepBits.{StepBits}
 
@@ -57,6 +57,7 @@ hostMoveRules =
     ∷ refuse 5 (λ i. not (stepFits (i .n) (toldStep (i .step))) || unusedSet (i .step))
     ∷ refuse 12 (λ i. ltb maxVertices (sweptVertices (i .v) (i .h)))
     ∷ refuse 13 (λ i. not (allOf inRange (movedLevels (toldMove i))))
+    ∷ refuse 17 (λ i. not (stepCarries (toldMove i)))
     ∷ refuse 15 (λ i. ltb (i .room) (movedLength (toldMove i)))
     ∷ []
 

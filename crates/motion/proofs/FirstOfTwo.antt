@@ -1,7 +1,6 @@
 -- Two faults at once: the first row that applies is told. A refused call leaves the lent floats as they were.
 use mathlib.Core.Path.{_≡_, refl}
-use mathlib.Core.List.{List, [], _∷_}
-use Prim.Native.Nat.{ℕ}
+use mathlib.Core.List.{[], _∷_}
 use lib.ListN.{length, replicate}
 use lib.Ieee.{Float, binary64, ofBits}
 use Rattle.rules.specs.Calls.{refused}
@@ -9,7 +8,10 @@ use Rattle.points.specs.declared.step.Step.the-variants as S
 use Rattle.points.proofs.Computing.{computing}
 use Rattle.motion.specs.Move.{moveInput, movedLevels, moveRules, moveOutcome, moveBuffer}
 
--- 1.0, 1,048,575 and 1,048,576 by their bits; the last is out of range
+-- 0.0, 1.0, 1,048,575 and 1,048,576 by their bits; the last is out of range
+abbrev zero : Float
+zero = ofBits binary64 0
+
 abbrev one : Float
 one = ofBits binary64 0x3ff0000000000000
 
@@ -44,11 +46,17 @@ pub size-before-moved : moveOutcome (moveInput 1 64 64 (S.Slide 0 one) (replicat
 unfolding computing movedLevels moveRules moveOutcome
 size-before-moved = refl
 
--- a point that leaves the range, and no room
-pub moved-before-room : moveOutcome (moveInput 1 1 1 (S.Slide 0 one) (large ∷ []) 0) ≡ refused 13
+-- points at two places on their axis, one of which leaves the range when slid along it
+pub moved-before-carried : moveOutcome (moveInput 1 2 1 (S.Slide 0 one) (one ∷ large ∷ []) 4) ≡ refused 13
 unfolding computing movedLevels moveRules moveOutcome
-moved-before-room = refl
+moved-before-carried = refl
 
+-- points at two places on their axis, slid along it, and no room
+pub carried-before-room : moveOutcome (moveInput 1 2 1 (S.Slide 0 one) (one ∷ zero ∷ []) 0) ≡ refused 17
+unfolding computing movedLevels moveRules moveOutcome
+carried-before-room = refl
+
+-- a point that leaves the range, and no room
 pub untouched : length (moveBuffer (moveInput 1 1 1 (S.Slide 0 one) (large ∷ []) 0) []) ≡ 0
 unfolding computing movedLevels moveRules moveOutcome moveBuffer
 untouched = refl

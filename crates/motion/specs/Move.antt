@@ -2,7 +2,7 @@
 --   moveInput                  what the call is told: numbers, step, lent points, room in the lent buffer
 --   moveTests                  its refusals in order, but for row 15
 --   moveRules, moveOutcome (the count of floats), moveBuffer
-use mathlib.Core.Bool.{not, _&&_}
+use mathlib.Core.Bool.{Bool, not, _&&_}
 use mathlib.Core.List.{List, [], _∷_, _++_}
 use Prim.Native.Nat.{ℕ, _*_}
 use lib.Dec.{eqb, ltb}
@@ -14,6 +14,7 @@ use Rattle.rules.specs.Calls.{Rule, refuse, noRoom, Outcome, decide, after}
 use Rattle.points.specs.declared.step.Step.{Step}
 use Rattle.points.specs.Step.{inRange, stepFits, stepFloats}
 use Rattle.points.specs.Levels.{levels}
+use Rattle.points.specs.Carrying.{carries}
 
 pub record MoveInput : Type 0 where
   pub n : ℕ
@@ -29,6 +30,10 @@ moveInput n v h step ps room = record { n = n; v = v; h = h; step = step; points
 unfoldable pub movedLevels : MoveInput → List Float
 movedLevels i = levels (i .step) (i .n) (i .v) (i .h) (i .points)
 
+-- row 17: an axis carries the step through the levels
+abbrev pub stepCarries : MoveInput → Bool
+stepCarries i = carries (i .step) (i .n) (i .v) (i .h) (movedLevels i)
+
 abbrev pub movedLength : MoveInput → ℕ
 movedLength i = sweptVertices (i .v) (i .h) * i .n
 
@@ -40,6 +45,7 @@ moveTests =
     ∷ refuse 5 (λ i. not (stepFits (i .n) (i .step)))
     ∷ refuse 12 (λ i. ltb maxVertices (sweptVertices (i .v) (i .h)))
     ∷ refuse 13 (λ i. not (allOf inRange (movedLevels i)))
+    ∷ refuse 17 (λ i. not (stepCarries i))
     ∷ []
 
 unfoldable pub moveRules : List (Rule MoveInput)

@@ -1,4 +1,5 @@
 // The call move, under a name that is no keyword: levels 0 to h of the lent points, refused or written.
+use points::carrying::carries;
 use points::levels::all_stay;
 use points::levels::write_levels;
 use points::range::floats_in_range;
@@ -14,7 +15,7 @@ use rules::limits::vertices_ok;
 use rules::refusal::Answer;
 use rules::refusal::Refusal;
 ghost use mathlib.Core.Path.{_≡_};
-ghost use mathlib.Core.Bool.{true, false, not, _&&_};
+ghost use mathlib.Core.Bool.{false, not, _&&_};
 ghost use Prim.Native.Nat.{_*_, _≤_};
 ghost use lib.Dec.{eqb};
 ghost use lib.ListN.{length};
@@ -72,6 +73,9 @@ pub fn move_points(
     }
     if !levels_stay(step, n, v, h, points) {
         return Answer::Refused(Refusal::MovedOutOfRange);
+    }
+    if !carries(step, n, v, h, points) {
+        return Answer::Refused(Refusal::StaysInPlane);
     }
     let count = swept * n;
     if less(out.len(), count) {

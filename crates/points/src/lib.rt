@@ -1,4 +1,5 @@
 // Points and steps.
+pub mod carrying;
 pub mod levels;
 pub mod point;
 pub mod range;

@@ -28,7 +28,7 @@ refusals : List Refusal
 refusals =
     R.NotOurs ∷ R.OutsideLimits ∷ R.WrongLength ∷ R.FloatRange ∷ R.StepUnfit ∷ R.BadSign ∷ R.BadVertex ∷ R.VertexTwice
     ∷ R.CellTwice ∷ R.CrowdedFace ∷ R.EqualSigns ∷ R.SweptTooLarge ∷ R.MovedOutOfRange ∷ R.Unsound ∷ R.NoRoom
-    ∷ R.BadMaterial ∷ []
+    ∷ R.StaysInPlane ∷ R.BadMaterial ∷ []
 
 numberedAs : ℕ → List Refusal → Refusal
 numberedAs n [] = R.NotOurs
@@ -54,6 +54,7 @@ numbered R.SweptTooLarge = (refl, refl)
 numbered R.MovedOutOfRange = (refl, refl)
 numbered R.Unsound = (refl, refl)
 numbered R.NoRoom = (refl, refl)
+numbered R.StaysInPlane = (refl, refl)
 numbered R.BadMaterial = (refl, refl)
 
 pub numberOf-range : (r : Refusal) → (1 ≤ numberOf r) × (numberOf r ≤ 18)

@@ -27,6 +27,7 @@ numberOf R.SweptTooLarge = 12
 numberOf R.MovedOutOfRange = 13
 numberOf R.Unsound = 14
 numberOf R.NoRoom = 15
+numberOf R.StaysInPlane = 17
 numberOf R.BadMaterial = 18
 
 abbrev pub verdictOf : Verdict → ℕ

@@ -18,6 +18,7 @@ pub enum Refusal {
     MovedOutOfRange,
     Unsound,
     NoRoom,
+    StaysInPlane,
     BadMaterial,
 }
 
@@ -53,6 +54,7 @@ pub fn number(r: Refusal) -> u8
         Refusal::MovedOutOfRange => 13,
         Refusal::Unsound => 14,
         Refusal::NoRoom => 15,
+        Refusal::StaysInPlane => 17,
         Refusal::BadMaterial => 18,
     }
 }

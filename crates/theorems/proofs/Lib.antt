@@ -10,3 +10,4 @@ pub mod NeverUnsound
 pub mod NoCells
 pub mod UploadedOrder
 pub mod Materials
+pub mod Carrying

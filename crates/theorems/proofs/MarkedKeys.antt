@@ -2,7 +2,7 @@
 use mathlib.Core.Path.{_≡_, refl, ap}
 use mathlib.Core.Bool.{true}
 use lib.Dec.{ltb}
-use lib.Ieee.{add, binary64, ofBits}
+use lib.Ieee.{add, binary64, eq, lt, ofBits}
 use Rattle.rules.specs.Limits.{maxVertices, sweptVertices}
 use Rattle.rules.specs.Calls.{accepted, refused}
 use Rattle.points.specs.Step.{inRange}
@@ -18,6 +18,11 @@ in-range : (inRange (ofBits binary64 0) ≡ true) × (inRange one ≡ true) × (
 unfolding computing
 in-range = (refl, refl, refl)
 
+-- 0.0 equals itself, and the sum is above it
+rising : let x = ofBits binary64 0 in (eq x x ≡ true) × (lt x (add binary64 x one) ≡ true)
+unfolding computing
+rising = (refl, refl)
+
 -- row 12 counts 4,096 vertices, and more than 4,096
 just-fits : sweptVertices (k9Most .v) (k9Most .h) ≡ 4096
 just-fits = refl
@@ -26,7 +31,7 @@ too-many : ltb maxVertices (sweptVertices (k9Over .v) (k9Over .h)) ≡ true
 too-many = refl
 
 accepted-most : moveOutcome k9Most ≡ accepted 4096
-accepted-most = slid-accepted _ _ _ _ refl (ap (ltb maxVertices) just-fits) refl (in-range .0) (in-range .1) (in-range .2)
+accepted-most = slid-accepted _ _ _ _ refl (ap (ltb maxVertices) just-fits) refl (in-range .0) (in-range .1) (in-range .2) (rising .0) (rising .1)
 
 refused-over : moveOutcome k9Over ≡ refused 12
 refused-over = slid-refused _ _ _ _ _ refl refl too-many (in-range .0) (in-range .1)

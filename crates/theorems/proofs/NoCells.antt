@@ -30,6 +30,7 @@ use Rattle.boundary.specs.Boundary.{boundaryOf}
 use Rattle.boundary.specs.Faces.{boundaryCells, facesInput, facesRules, facesOutcome, facesBuffer}
 use Rattle.points.specs.declared.step.Step.{Step}
 use Rattle.points.specs.Step.{inRange, stepFits, stepFloats}
+use Rattle.points.specs.Carrying.{carries}
 use Rattle.points.proofs.LevelLaws.{levels-none}
 use Rattle.motion.specs.Move.{moveInput, moveOutcome, moveRules, movedLevels, moveBuffer}
 use Rattle.listing.specs.Lines.{firstLine, vertexLines, keyText}
@@ -85,7 +86,7 @@ faces-accepts d v room hd hv =
 
 move-accepts : (n h room : ℕ) (step : Step) → axesOk n ≡ true → stepsOk h ≡ true → allOf inRange (stepFloats step) ≡ true →
     stepFits n step ≡ true → moveOutcome (moveInput n 0 h step [] room) ≡ accepted 0
-unfolding moveOutcome moveRules movedLevels
+unfolding moveOutcome moveRules movedLevels carries
 move-accepts n h room step hn hh floats fits =
     rw (hn, hh, mul-zero (suc h), zero-mul n, floats, fits, levels-none step n h, any-room room) refl
 

@@ -22,6 +22,7 @@ refusals =
       row13 = refl;
       row14 = (refl, refl);
       row15 = (refl, refl);
+      row17 = (refl, refl);
       row18 = (refl, refl);
       untouched = refl;
       no-further = refl;

@@ -33,6 +33,10 @@ large = ofBits binary64 0x412ffffe00000000
 abbrev pub slid : Float → MoveInput
 slid x = record { n = 1; v = 1; h = 1; step = S.Slide 0 one; points = x ∷ []; room = ample }
 
+-- points of one axis at x and y, slid by -1
+abbrev pub slidBoth : Float → Float → MoveInput
+slidBoth x y = record { n = 1; v = 2; h = 1; step = S.Slide 0 (ofBits binary64 0xbff0000000000000); points = x ∷ y ∷ []; room = ample }
+
 -- a table of one triangle with the given first wing
 abbrev pub triangle : ℕ → FacesInput
 triangle w = record { d = 2; v = 3; s = 1; table = 0 ∷ 0 ∷ 0 ∷ 1 ∷ 2 ∷ w ∷ 65535 ∷ 65535 ∷ []; room = ample }
@@ -62,6 +66,8 @@ pub record Refusals : Type 0 where
   pub row13 : moveOutcome (slid large) ≡ refused 13
   pub row14 : (facesOutcome (triangle 0) ≡ refused 14) × (facesOutcome (triangle 65535) ≡ accepted 3)
   pub row15 : (sweepOutcome (pointInto 5) ≡ refused 15) × (sweepOutcome (pointInto 6) ≡ accepted 6)
+  -- two points slid along the axis on which they differ, and two that have one place
+  pub row17 : (moveOutcome (slidBoth large one) ≡ refused 17) × (moveOutcome (slidBoth one one) ≡ accepted 4)
   pub row18 : (wingOutcome (toWing (listOf 2 3 (made 1000 "+012" ∷ []))) ≡ refused 18)
       × (wingOutcome (toWing (listOf 2 3 (made 999 "+012" ∷ []))) ≡ accepted 8)
   -- a refused call writes nothing; an accepted one from the start, and no further
