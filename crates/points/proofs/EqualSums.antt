@@ -49,11 +49,11 @@ module _ (a b c a' b' c' : ℕ) (C : 0 < c) (C' : 0 < c') (p : a * c' ≡ a' * c
       (rw below (ap₂ (cond (ltb a' b')) (round-same f t (b - a) c (b' - a') c' C C' (taken b a c b' a' c' C C' q p))
       (rw above (round-same f (s && ltb b' a') (a - b) c (a' - b') c' C C' (taken a b c a' b' c' C C' p q)))))
 
--- zeros are equal, whatever their signs
-pub nothing : (m c : ℕ) → 0 < c → m * c ≡ 0 → m ≡ 0
+nothing : (m c : ℕ) → 0 < c → m * c ≡ 0 → m ≡ 0
 nothing zero c C h = refl
 nothing (suc m) c C h = absurd (not-suc-le-zero (rw h at (mul-pos (zero-lt-suc m) C)))
 
+-- zeros are equal, whatever their signs
 pub zeros-equal : (x y : Float) (s t : Bool) (c d : ℕ) → 0 < c → 0 < d → HasValue x s 0 c → HasValue y t 0 d → eq x y ≡ true
 unfolding eq
 zeros-equal nan y s t c d C D hx hy = absurd hx
