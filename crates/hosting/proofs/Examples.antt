@@ -16,6 +16,11 @@ pub unused-float : slid 1 8 ≡ refused 5
 unfolding computing floats64 movedLevels hostMoveRules hostMoveOutcome
 unused-float = refl
 
+-- an axis of amount 0 carries nothing
+pub not-carried : slid 0 8 ≡ refused 17
+unfolding computing floats64 movedLevels hostMoveRules hostMoveOutcome
+not-carried = refl
+
 pub odd-points : slid 0 9 ≡ refused 3
 unfolding computing floats64 movedLevels hostMoveRules hostMoveOutcome
 odd-points = refl

@@ -4,18 +4,18 @@
 --   MoveTold          what the call is told: numbers, step, the points' bytes, the floats that the lent buffer holds
 --   hostMoveRules, hostMoveOutcome (the count of floats), hostMoveBuffer
 use mathlib.Core.Bool.{Bool, not, cond, _&&_, _||_}
-use mathlib.Core.List.{List, [], _∷_}
+use mathlib.Core.List.{List, [], _∷_, _++_, map}
 use Prim.Native.Nat.{ℕ, _*_}
-use lib.Dec.{eqb, ltb}
+use lib.Dec.{eqb}
 use lib.ListN.{length}
 use lib.Ieee.{binary64, ofBits}
 use Rattle.words.specs.Records.{allOf}
-use Rattle.rules.specs.Limits.{axesOk, verticesOk, stepsOk, maxVertices, sweptVertices, within}
-use Rattle.rules.specs.Calls.{Rule, refuse, Outcome, decide, after}
+use Rattle.rules.specs.Limits.{axesOk, verticesOk, stepsOk, within}
+use Rattle.rules.specs.Calls.{Rule, refuse, onPart, noRoom, Outcome, decide, after}
 use Rattle.points.specs.declared.step.Step.{Step}
 use Rattle.points.specs.declared.step.Step.the-variants as S
 use Rattle.points.specs.Step.{inRange, stepFits, stepFloats}
-use Rattle.motion.specs.Move.{MoveInput, moveInput, movedLevels, stepCarries, movedLength}
+use Rattle.motion.specs.Move.{MoveInput, moveInput, movedLevels, movedLength, levelTests}
 use Rattle.hosting.specs.Floats.{floats64, floatBytes}
 use Rattle.hosting.specs.declared.step_bits.StepBits.{StepBits}
 
@@ -55,11 +55,8 @@ hostMoveRules =
     ∷ refuse 3 (λ i. not (eqb (length (i .points)) (i .v * i .n * 8)))
     ∷ refuse 4 (λ i. not (allOf inRange (stepFloats (toldStep (i .step))) && allOf inRange (floats64 (i .points))))
     ∷ refuse 5 (λ i. not (stepFits (i .n) (toldStep (i .step))) || unusedSet (i .step))
-    ∷ refuse 12 (λ i. ltb maxVertices (sweptVertices (i .v) (i .h)))
-    ∷ refuse 13 (λ i. not (allOf inRange (movedLevels (toldMove i))))
-    ∷ refuse 17 (λ i. not (stepCarries (toldMove i)))
-    ∷ refuse 15 (λ i. ltb (i .room) (movedLength (toldMove i)))
-    ∷ []
+    ∷ map (onPart toldMove) levelTests
+    ++ noRoom (λ i. i .room) (λ i. movedLength (toldMove i)) ∷ []
 
 unfoldable pub hostMoveOutcome : MoveTold → Outcome ℕ
 hostMoveOutcome i = decide hostMoveRules (λ i. movedLength (toldMove i)) i

@@ -1,6 +1,6 @@
 -- The call move (move_points in code, since move is a keyword): it takes points and writes levels 0 to h. Paper, sections 6 and 9.
 --   moveInput                  what the call is told: numbers, step, lent points, room in the lent buffer
---   moveTests                  its refusals in order, but for row 15
+--   moveTests                  its refusals in order, but for row 15; levelTests, those of the levels
 --   moveRules, moveOutcome (the count of floats), moveBuffer
 use mathlib.Core.Bool.{Bool, not, _&&_}
 use mathlib.Core.List.{List, [], _∷_, _++_}
@@ -37,16 +37,20 @@ stepCarries i = carries (i .step) (i .n) (i .v) (i .h) (movedLevels i)
 abbrev pub movedLength : MoveInput → ℕ
 movedLength i = sweptVertices (i .v) (i .h) * i .n
 
+abbrev pub levelTests : List (Rule MoveInput)
+levelTests =
+    refuse 12 (λ i. ltb maxVertices (sweptVertices (i .v) (i .h)))
+    ∷ refuse 13 (λ i. not (allOf inRange (movedLevels i)))
+    ∷ refuse 17 (λ i. not (stepCarries i))
+    ∷ []
+
 abbrev pub moveTests : List (Rule MoveInput)
 moveTests =
     refuse 2 (λ i. not (axesOk (i .n) && (verticesOk (i .v) && stepsOk (i .h))))
     ∷ refuse 3 (λ i. not (eqb (length (i .points)) (i .v * i .n)))
     ∷ refuse 4 (λ i. not (allOf inRange (stepFloats (i .step)) && allOf inRange (i .points)))
     ∷ refuse 5 (λ i. not (stepFits (i .n) (i .step)))
-    ∷ refuse 12 (λ i. ltb maxVertices (sweptVertices (i .v) (i .h)))
-    ∷ refuse 13 (λ i. not (allOf inRange (movedLevels i)))
-    ∷ refuse 17 (λ i. not (stepCarries i))
-    ∷ []
+    ∷ levelTests
 
 unfoldable pub moveRules : List (Rule MoveInput)
 moveRules = moveTests ++ noRoom (λ i. i .room) movedLength ∷ []

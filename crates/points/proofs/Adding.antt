@@ -1,7 +1,6 @@
 -- What a step adds on an axis.
 --   Adds step n a m               on axis a the step adds m, and does nothing else
 --   slide-adds, slant-adds-first, slant-adds-second, turn-adds
---   added m i x                   x with m added i times
 --   axis-values                   the values on such an axis, level by level
 --   column-at, column-first       a value of level 0, by its place among the floats
 -- Assumes nothing.
@@ -17,7 +16,7 @@ use Rattle.words.specs.Records.{tabulate, part}
 use Rattle.words.proofs.Records.{tabulate-at, tabulate-ext, tabulate-map, part-tabulated}
 use Rattle.points.specs.Carrying.{first, onAxis}
 use Rattle.points.specs.Inner.Sums.{column}
-use Rattle.points.specs.Levels.{levelOf, levels}
+use Rattle.points.specs.Levels.{levelOf, levels, sumOf}
 use Rattle.points.specs.Step.{addAt, turned, movedPoint}
 use Rattle.points.specs.declared.step.Step.{Step}
 use Rattle.points.specs.declared.step.Step.the-variants as S
@@ -62,31 +61,27 @@ turn-adds n t l p long =
     ∙ ap (λ (z : Float). add binary64 z (t .rise)) (turn-elsewhere t (n - 1) p (omega (arith, l)))
 
 -- the values on an axis to which a step adds m, level by level
-abbrev pub added : Float → ℕ → Float → Float
-added m zero x = x
-added m (suc i) x = add binary64 (added m i x) m
-
 module _ (step : Step) (n a : ℕ) (m : Float) (adds : Adds step n a m) where
   climbed-long : (i : ℕ) (p : List Float) → length p ≡ n → length (climbed step n i p) ≡ n
   climbed-long zero p long = long
   climbed-long (suc i) p long = length-moved step n (climbed step n i p) ∙ climbed-long i p long
 
-  climbed-adds : (i : ℕ) (p : List Float) → length p ≡ n → getD (climbed step n i p) a nan ≡ added m i (getD p a nan)
+  climbed-adds : (i : ℕ) (p : List Float) → length p ≡ n → getD (climbed step n i p) a nan ≡ sumOf m i (getD p a nan)
   climbed-adds zero p long = refl
   climbed-adds (suc i) p long = adds (climbed step n i p) (climbed-long i p long) ∙ ap (λ (z : Float). add binary64 z m) (climbed-adds i p long)
 
   module _ (v h : ℕ) (ps : List Float) (long : length ps ≡ v * n) where
-    value-at : (i k : ℕ) → i < suc h → k < v → getD (part n k (part (v * n) i (levels step n v h ps))) a nan ≡ added m i (getD (part n k ps) a nan)
+    value-at : (i k : ℕ) → i < suc h → k < v → getD (part n k (part (v * n) i (levels step n v h ps))) a nan ≡ sumOf m i (getD (part n k ps) a nan)
     value-at i k l g =
         ap (λ (q : List Float). getD (part n k q) a nan)
         (part-tabulated (v * n) (suc h) i (levelOf step n v ps) (λ j b. length-level step n v ps long j) l)
         ∙ ap (λ (q : List Float). getD q a nan) (part-level step n v ps long i k g)
         ∙ climbed-adds i (part n k ps) (part-length n v k ps g long)
 
-    pub axis-values : onAxis n v h a (levels step n v h ps) ≡ tabulate (suc h) (λ i. map (added m i) (column n v a ps))
+    pub axis-values : onAxis n v h a (levels step n v h ps) ≡ tabulate (suc h) (λ i. map (sumOf m i) (column n v a ps))
     axis-values =
         tabulate-ext (suc h) _ _ (λ i l.
-        tabulate-ext v _ _ (λ k g. value-at i k l g) ∙ sym (tabulate-map (added m i) v (λ k. getD (part n k ps) a nan)))
+        tabulate-ext v _ _ (λ k g. value-at i k l g) ∙ sym (tabulate-map (sumOf m i) v (λ k. getD (part n k ps) a nan)))
 
 pub column-at : (n v a k : ℕ) (ps : List Float) → a < n → k < v → getD (column n v a ps) k nan ≡ getD ps (k * n + a) nan
 column-at n v a k ps l g =

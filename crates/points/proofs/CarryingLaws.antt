@@ -19,52 +19,52 @@ use Rattle.words.proofs.Records.{tabulate-ext, tabulate-map}
 use Rattle.rules.proofs.Tests.{and-parts}
 use Rattle.points.specs.Carrying.{first, flat, stepwiseFrom, gt, rises, falls, carried, onAxis, carries}
 use Rattle.points.specs.Inner.Sums.{sums, climbs, axisCarries}
-use Rattle.points.specs.Levels.{levels}
+use Rattle.points.specs.Levels.{levels, sumOf}
 use Rattle.points.specs.declared.step.Step.{Step}
 use Rattle.points.specs.declared.step.Step.the-variants as S
 use Rattle.points.specs.declared.step.Turn.{Turn}
-use Rattle.points.proofs.Adding.{Adds, added, axis-values, slide-adds, slant-adds-first, slant-adds-second, turn-adds}
+use Rattle.points.proofs.Adding.{Adds, axis-values, slide-adds, slant-adds-first, slant-adds-second, turn-adds}
 use Rattle.points.proofs.AllOf.{same-test, allOf-tabulate, allOf-tabulate-at}
 use Rattle.points.proofs.EqualSums.{equal-sums, above-number, below-number}
 
 -- the values of one vertex rise, or fall, with its sums
-added-next : (m : Float) (i : ℕ) (x : Float) → added m i (add binary64 x m) ≡ added m (suc i) x
-added-next m zero x = refl
-added-next m (suc i) x = ap (λ (z : Float). add binary64 z m) (added-next m i x)
+sum-next : (m : Float) (i : ℕ) (x : Float) → sumOf m i (add binary64 x m) ≡ sumOf m (suc i) x
+sum-next m zero x = refl
+sum-next m (suc i) x = ap (λ (z : Float). add binary64 z m) (sum-next m i x)
 
-sums-added : (m : Float) (h : ℕ) (x : Float) → tabulate h (λ i. added m (suc i) x) ≡ sums m h x
-sums-added m zero x = refl
-sums-added m (suc h) x =
+sums-are : (m : Float) (h : ℕ) (x : Float) → tabulate h (λ i. sumOf m (suc i) x) ≡ sums m h x
+sums-are m zero x = refl
+sums-are m (suc h) x =
     ap {B = List Float} (λ r. add binary64 x m ∷ r)
-    (tabulate-ext h _ _ (λ i l. sym (added-next m (suc i) x)) ∙ sums-added m h (add binary64 x m))
+    (tabulate-ext h _ _ (λ i l. sym (sum-next m (suc i) x)) ∙ sums-are m h (add binary64 x m))
 
 module _ (r : Float → Float → Bool) (m : Float) where
-  pub stepwise-at : (h : ℕ) (x : Float) → stepwiseFrom r x (sums m h x) ≡ true → (i : ℕ) → i < h → r (added m i x) (added m (suc i) x) ≡ true
+  pub stepwise-at : (h : ℕ) (x : Float) → stepwiseFrom r x (sums m h x) ≡ true → (i : ℕ) → i < h → r (sumOf m i x) (sumOf m (suc i) x) ≡ true
   stepwise-at zero x e i l = absurd (not-suc-le-zero l)
   stepwise-at (suc h) x e zero l = and-parts (r x (add binary64 x m)) _ e .0
   stepwise-at (suc h) x e (suc i) l =
-      rw (sym (added-next m i x))
+      rw (sym (sum-next m i x))
       (stepwise-at h (add binary64 x m) (and-parts (r x (add binary64 x m)) _ e .1) i (le-of-suc-le-suc l))
 
-  pub all-stepwise : (h : ℕ) (x : Float) → ((i : ℕ) → i < h → r (added m i x) (added m (suc i) x) ≡ true) → stepwiseFrom r x (sums m h x) ≡ true
+  pub all-stepwise : (h : ℕ) (x : Float) → ((i : ℕ) → i < h → r (sumOf m i x) (sumOf m (suc i) x) ≡ true) → stepwiseFrom r x (sums m h x) ≡ true
   all-stepwise zero x each = refl
   all-stepwise (suc h) x each =
-      rw (each 0 (omega arith)) (all-stepwise h (add binary64 x m) (λ i l. rw (added-next m i x) (each (suc i) (omega (arith, l)))))
+      rw (each 0 (omega arith)) (all-stepwise h (add binary64 x m) (λ i l. rw (sum-next m i x) (each (suc i) (omega (arith, l)))))
 
-climbs-number : (m : Float) (h : ℕ) (x : Float) → climbs m h x ≡ true → (i : ℕ) → i < h → eq (added m (suc i) x) (added m (suc i) x) ≡ true
+climbs-number : (m : Float) (h : ℕ) (x : Float) → climbs m h x ≡ true → (i : ℕ) → i < h → eq (sumOf m (suc i) x) (sumOf m (suc i) x) ≡ true
 climbs-number m h x e = go (stepwiseFrom lt x (sums m h x)) refl e
   where
     go : (b : Bool) → stepwiseFrom lt x (sums m h x) ≡ b → (b || stepwiseFrom gt x (sums m h x)) ≡ true →
-        (i : ℕ) → i < h → eq (added m (suc i) x) (added m (suc i) x) ≡ true
-    go true r e i l = above-number (added m i x) (added m (suc i) x) (stepwise-at lt m h x r i l)
-    go false r e i l = below-number (added m (suc i) x) (added m i x) (stepwise-at gt m h x e i l)
+        (i : ℕ) → i < h → eq (sumOf m (suc i) x) (sumOf m (suc i) x) ≡ true
+    go true r e i l = above-number (sumOf m i x) (sumOf m (suc i) x) (stepwise-at lt m h x r i l)
+    go false r e i l = below-number (sumOf m (suc i) x) (sumOf m i x) (stepwise-at gt m h x e i l)
 
 -- equal values stay equal
-equal-added : (m x y : Float) (h : ℕ) → eq x y ≡ true → ((i : ℕ) → i < h → eq (added m (suc i) x) (added m (suc i) x) ≡ true) →
-    (i : ℕ) → i < suc h → eq (added m i x) (added m i y) ≡ true
-equal-added m x y h e number zero l = e
-equal-added m x y h e number (suc i) l =
-    equal-sums (added m i x) (added m i y) m (equal-added m x y h e number i (omega (arith, l))) (number i (le-of-suc-le-suc l))
+equal-sumOf : (m x y : Float) (h : ℕ) → eq x y ≡ true → ((i : ℕ) → i < h → eq (sumOf m (suc i) x) (sumOf m (suc i) x) ≡ true) →
+    (i : ℕ) → i < suc h → eq (sumOf m i x) (sumOf m i y) ≡ true
+equal-sumOf m x y h e number zero l = e
+equal-sumOf m x y h e number (suc i) l =
+    equal-sums (sumOf m i x) (sumOf m i y) m (equal-sumOf m x y h e number i (omega (arith, l))) (number i (le-of-suc-le-suc l))
 
 all-mapped : (q r : Float → Bool) (f : Float → Float) (ys : List Float) → ((y : Float) → q y ≡ true → r (f y) ≡ true) →
     allOf q ys ≡ true → allOf r (map f ys) ≡ true
@@ -73,18 +73,18 @@ all-mapped q r f (y ∷ ys) go e = let parts = and-parts (q y) (allOf q ys) e in
 
 module _ (m : Float) (h : ℕ) (x : Float) (ys : List Float) where
   abbrev axis : List (List Float)
-  axis = tabulate (suc h) (λ i. map (added m i) (x ∷ ys))
+  axis = tabulate (suc h) (λ i. map (sumOf m i) (x ∷ ys))
 
   axis-firsts : map first axis ≡ x ∷ sums m h x
-  axis-firsts = tabulate-map first (suc h) (λ i. map (added m i) (x ∷ ys)) ∙ ap {B = List Float} (λ r. x ∷ r) (sums-added m h x)
+  axis-firsts = tabulate-map first (suc h) (λ i. map (sumOf m i) (x ∷ ys)) ∙ ap {B = List Float} (λ r. x ∷ r) (sums-are m h x)
 
   axis-flat : climbs m h x ≡ true → flat (x ∷ ys) ≡ true → allOf flat axis ≡ true
   axis-flat c e =
-      allOf-tabulate flat (suc h) (λ i. map (added m i) (x ∷ ys)) (λ i l.
-      all-mapped (eq x) (eq (added m i x)) (added m i) (x ∷ ys) (λ y g. equal-added m x y h g (climbs-number m h x c) i l) e)
+      allOf-tabulate flat (suc h) (λ i. map (sumOf m i) (x ∷ ys)) (λ i l.
+      all-mapped (eq x) (eq (sumOf m i x)) (sumOf m i) (x ∷ ys) (λ y g. equal-sumOf m x y h g (climbs-number m h x c) i l) e)
 
   first-flat : allOf flat axis ≡ true → flat (x ∷ ys) ≡ true
-  first-flat e = ap flat (sym (map-id (x ∷ ys))) ∙ allOf-tabulate-at flat (suc h) (λ i. map (added m i) (x ∷ ys)) e 0 (omega arith)
+  first-flat e = ap flat (sym (map-id (x ∷ ys))) ∙ allOf-tabulate-at flat (suc h) (λ i. map (sumOf m i) (x ∷ ys)) e 0 (omega arith)
 
   pub axis-carried : carried axis ≡ (flat (x ∷ ys) && climbs m h x)
   unfolding carried

@@ -8,28 +8,25 @@ use native.Mathlib.Omega.{arith}
 use lib.Dec.{T}
 use lib.IntN.{ℤ}
 use lib.ListN.{length, getD}
-use lib.Ieee.{Float, nan, fin, binary64, add, eq, lt, fits}
+use lib.Ieee.{Float, nan, fin, binary64, eq, lt, fits}
 use Rattle.words.specs.Records.{part}
 use Rattle.words.proofs.Records.{tabulate-at}
 use Rattle.points.specs.declared.step.Step.the-variants as S
 use Rattle.points.specs.declared.step.Turn.{Turn}
+use Rattle.points.specs.Levels.{sumOf}
 use Rattle.points.specs.Carrying.{first, flat, stepwiseFrom, gt}
 use Rattle.points.specs.Inner.Sums.{column, sums, climbs}
 use Rattle.points.proofs.AllOf.{allOf-tabulate, allOf-tabulate-at}
 use Rattle.points.proofs.EqualSums.{zeros-equal, equal-unordered}
 use Rattle.points.proofs.ZeroAdded.{zero-added}
-use Rattle.points.proofs.Adding.{added, column-first}
+use Rattle.points.proofs.Adding.{column-first}
 use Rattle.points.proofs.CarryingLaws.{stepwise-at, all-stepwise, slide-carries, slant-carries, turn-carries, none-carries}
-use Rattle.theorems.specs.Carrying.{Carrying, CarryingExamples, carriesAll, sumOf}
+use Rattle.theorems.specs.Carrying.{Carrying, CarryingExamples, carriesAll}
 use Rattle.theorems.proofs.Computing.{computing}
 
 false-unless : (b : Bool) → (b ≡ true → ⊥) → b ≡ false
 false-unless true h = absurd (h refl)
 false-unless false h = refl
-
-same-sum : (m : Float) (i : ℕ) (x : Float) → sumOf m i x ≡ added m i x
-same-sum m zero x = refl
-same-sum m (suc i) x = ap (λ (y : Float). add binary64 y m) (same-sum m i x)
 
 -- a slide of some vertices, told by the lent points
 module _ (n v h a : ℕ) (m : Float) (ps : List Float) (l : a < n) (long : length ps ≡ v * n) where
@@ -64,17 +61,17 @@ module _ (n h a : ℕ) (m : Float) (ps : List Float) (l : a < n) where
 
   pub upwards : (v : ℕ) → length ps ≡ v * n → Flat v → ((i : ℕ) → i < h → lt (sumOf m i x) (sumOf m (suc i) x) ≡ true) →
       carriesAll (S.Slide a m) n v h ps ≡ true
-  upwards v long even each = climbing v long even (rw (all-stepwise lt m h x (λ i g. rw (sym (same-sum m i x)) (each i g))) refl)
+  upwards v long even each = climbing v long even (rw (all-stepwise lt m h x each) refl)
 
   downwards : (v : ℕ) → length ps ≡ v * n → Flat v → ((i : ℕ) → i < h → lt (sumOf m (suc i) x) (sumOf m i x) ≡ true) →
       carriesAll (S.Slide a m) n v h ps ≡ true
   downwards v long even each =
-      climbing v long even (rw (all-stepwise gt m h x (λ i g. rw (sym (same-sum m i x)) (each i g))) (or-true (stepwiseFrom lt x (sums m h x))))
+      climbing v long even (rw (all-stepwise gt m h x each) (or-true (stepwiseFrom lt x (sums m h x))))
 
   lost : (v : ℕ) → 0 < v → length ps ≡ v * n → (i : ℕ) → i < h → eq (sumOf m i x) (sumOf m (suc i) x) ≡ true →
       carriesAll (S.Slide a m) n v h ps ≡ false
   lost v some long i g e =
-      let none = equal-unordered (added m i x) (added m (suc i) x) (rw (sym (same-sum m i x)) e) in
+      let none = equal-unordered (sumOf m i x) (sumOf m (suc i) x) e in
       let up = false-unless (stepwiseFrom lt x (sums m h x)) (λ r. true≢false (sym (stepwise-at lt m h x r i g) ∙ none .0)) in
       let down = false-unless (stepwiseFrom gt x (sums m h x)) (λ r. true≢false (sym (stepwise-at gt m h x r i g) ∙ none .1)) in
       told n v h a m ps l long some ∙ rw (up, down) (and-false (flat (column n v a ps)))

@@ -20,13 +20,13 @@ use Rattle.words.proofs.Records.{tabulate-ext}
 use Rattle.rules.specs.Limits.{maxVertices, stepsOk, sweptVertices, verticesOk}
 use Rattle.rules.specs.Calls.{accepted, refused}
 use Rattle.points.specs.declared.step.Step.the-variants as S
-use Rattle.points.specs.Levels.{movedAll}
+use Rattle.points.specs.Levels.{movedAll, sumOf}
 use Rattle.points.specs.Step.{addAt, inRange, movedPoint, stepFits}
 use Rattle.points.proofs.AllOf.{allOf-append}
 use Rattle.points.proofs.CarryingLaws.{none-carries}
 use Rattle.motion.specs.Move.{MoveInput, moveInput, movedLength, movedLevels, stepCarries, moveRules, moveOutcome}
 use Rattle.motion.proofs.Order.{accepts, refuses}
-use Rattle.theorems.specs.Carrying.{carriesAll, sumOf}
+use Rattle.theorems.specs.Carrying.{carriesAll}
 use Rattle.theorems.proofs.Carrying.{upwards}
 
 same-range : (q : Float → Bool) (n : ℕ) (x : Float) → q x ≡ true → allOf q (replicate n x) ≡ true

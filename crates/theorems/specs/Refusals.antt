@@ -3,7 +3,7 @@ use mathlib.Core.Path.{_≡_}
 use mathlib.Core.List.{List, [], _∷_, _++_}
 use Prim.Native.Nat.{ℕ, _*_}
 use lib.ListN.{replicate, set}
-use lib.Ieee.{Float, binary64, ofBits}
+use lib.Ieee.{Float}
 use Rattle.rules.specs.Calls.{accepted, refused}
 use Rattle.wing.specs.Wing.{wingOutcome}
 use Rattle.sweep.specs.Sweep.{SweepInput, sweepOutcome, sweepBuffer}
@@ -12,7 +12,7 @@ use Rattle.points.specs.declared.step.Step.{Step}
 use Rattle.points.specs.declared.step.Step.the-variants as S
 use Rattle.motion.specs.Move.{MoveInput, moveOutcome}
 use Rattle.read.specs.Read.{ReadInput, readOutcome, headerOf}
-use Rattle.theorems.specs.Shorthand.{made, spelled, listOf, toWing, one, ample}
+use Rattle.theorems.specs.Shorthand.{made, spelled, listOf, toWing, origin, one, minusOne, large, ample}
 use Rattle.theorems.specs.MarkedKeys.{k1File}
 
 abbrev pub read : List ℕ → ReadInput
@@ -20,14 +20,7 @@ read b = record { bytes = b; cellRoom = ample; pointRoom = ample }
 
 -- one point of three axes at the origin, moved by a step
 abbrev pub moved : Step → MoveInput
-moved step = record { n = 3; v = 1; h = 1; step = step; points = zero ∷ zero ∷ zero ∷ []; room = ample }
-  where
-    zero : Float
-    zero = ofBits binary64 0
-
--- 1,048,575 by its bits
-abbrev pub large : Float
-large = ofBits binary64 0x412ffffe00000000
+moved step = record { n = 3; v = 1; h = 1; step = step; points = origin ∷ origin ∷ origin ∷ []; room = ample }
 
 -- a point of one axis at x, slid by 1
 abbrev pub slid : Float → MoveInput
@@ -35,7 +28,7 @@ slid x = record { n = 1; v = 1; h = 1; step = S.Slide 0 one; points = x ∷ []; 
 
 -- points of one axis at x and y, slid by -1
 abbrev pub slidBoth : Float → Float → MoveInput
-slidBoth x y = record { n = 1; v = 2; h = 1; step = S.Slide 0 (ofBits binary64 0xbff0000000000000); points = x ∷ y ∷ []; room = ample }
+slidBoth x y = record { n = 1; v = 2; h = 1; step = S.Slide 0 minusOne; points = x ∷ y ∷ []; room = ample }
 
 -- a table of one triangle with the given first wing
 abbrev pub triangle : ℕ → FacesInput

@@ -40,9 +40,18 @@ entry t ws = record { cell = spelled t; wings = map shown (ascii ws) }
 abbrev pub listOf : ℕ → ℕ → List Cell → Listed
 listOf d v cs = record { d = d; v = v; s = length cs; words = concat (map cellWords cs) }
 
--- 1.0 by its bits
+-- 0.0, 1.0, -1.0 and 1,048,575 by their bits
+abbrev pub origin : Float
+origin = ofBits binary64 0
+
 abbrev pub one : Float
 one = ofBits binary64 0x3ff0000000000000
+
+abbrev pub minusOne : Float
+minusOne = ofBits binary64 0xbff0000000000000
+
+abbrev pub large : Float
+large = ofBits binary64 0x412ffffe00000000
 
 -- rooms are ample unless an example says otherwise
 abbrev pub ample : ℕ
