@@ -1,6 +1,8 @@
-//! Solids made to be slow. The library looks a face up in one of 32,749 buckets: the sum of weights of its vertices,
-//! modulo that. Among cells whose vertices have one sum, all faces without vertex x are in one bucket. So cells of one
-//! sum on few vertices have as few buckets, and a face is compared with thousands.
+//! Solids made to be slow, with full knowledge of the library's hashes. First it puts faces into buckets by one hash
+//! (crates/soundness), and gives up after sixteen in a bucket: the last cells of a solid have a face each in one bucket,
+//! so that all was for nothing. Then it looks a face up in one of 32,749 buckets (crates/matching): the sum of weights of
+//! its vertices, modulo that. Among cells whose vertices have one sum, all faces without vertex x are in one bucket. So
+//! cells of one sum on few vertices have as few buckets, and a face would be compared with thousands.
 
 use crate::both::{Both, Lent};
 use crate::calls::{Call, Job};
@@ -79,14 +81,39 @@ fn crafted(d: usize, n: usize) -> Vec<Cell> {
     found
 }
 
+/// The bucket of a face by the first hash, of 32,768.
+fn first_bucket(face: &[u16]) -> u64 {
+    let term = |&x: &u16| x as u64 * (x as u64 * (x as u64 + 123456789) + 362436069);
+    let weight: u64 = face.iter().map(term).sum();
+    ((weight & 0xffff_ffff) * 2654435769 >> 32) * 32768 >> 32
+}
+
+/// Puts cells in place of the last ones, each with a face in one bucket.
+fn crowd_the_end(cells: &mut [Cell], d: usize, random: &mut Random) {
+    const CROWD: usize = 20;
+    let at = cells.len() - CROWD;
+    for cell in &mut cells[at..] {
+        *cell = loop {
+            let mut row: Vec<u16> = (0..=d).map(|_| random.below(CELLS) as u16).collect();
+            row.sort_unstable();
+            row.dedup();
+            if row.len() == d + 1 && first_bucket(&row[1..]) == 12345 {
+                break [&[0, 7], &row[..]].concat();
+            }
+        };
+    }
+}
+
 /// Compares and times wing and faces on crafted solids and on typical ones of the same size.
 pub fn run(both: &mut Both, rounds: usize) {
-    println!("\nmicroseconds on {CELLS} cells: typical, and crafted to fill few of the library's buckets");
+    println!("\nmicroseconds on {CELLS} cells: typical, and crafted to fill few of the library's buckets, by both its hashes");
     println!("call   d      library reference      library reference   crafted / typical  on vertices");
     for (d, n) in [(3, 90), (5, 28), (7, 20)] {
         let (typical, v) = grid(d, CELLS);
         let random = &mut Random(362436069);
-        let solids = [(shuffled(&typical, v, random), v), (reordered(&crafted(d, n), random), CELLS)];
+        let mut slow = reordered(&crafted(d, n), random);
+        crowd_the_end(&mut slow, d, random);
+        let solids = [(shuffled(&typical, v, random), v), (slow, CELLS)];
         let vertices = solids[1].0.iter().flat_map(|cell| &cell[2..]).collect::<HashSet<_>>().len();
         for call in [Call::Wing, Call::Faces] {
             let [a, b] = solids.each_ref().map(|(cells, v)| {

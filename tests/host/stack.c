@@ -1,7 +1,9 @@
-/* Calls the library at its largest: read, wing, sweep, move and faces, to be run with a stack of 512 KB, and with an
- * argument list and key, with 1 MB. */
+/* Calls the library at its largest: read, wing, sweep, move and faces, also of a table with a fault, to be run with a stack
+ * of 512 KB; with the argument fault, wing of a list with a fault, with 16 KB more for the process itself; with the argument
+ * long, list and key, with 1 MB. */
 #include <stdint.h>
 #include <stdio.h>
+#include <string.h>
 
 #include "winged.h"
 
@@ -69,14 +71,30 @@ static int long_calls(void)
     return refused("key", winged_key(file, n, text, sizeof text)) || refused("key", winged_key(small, sizeof small, text, sizeof text));
 }
 
+/* A sign that is wrong, so that all faces are matched. */
+static int faulty_list(void)
+{
+    size_t n = strip(7, S);
+
+    list[n - 2 * WINGED_LIST_CELL(7)] ^= 1;
+    if (winged_wing(7, V, S, list, n, table, sizeof table, uploaded, sizeof uploaded) == -11)
+        return 0;
+    puts("wing: a wrong sign was not refused");
+    return 1;
+}
+
 int main(int count, char **names)
 {
-    (void)names;
     if (count > 1)
-        return long_calls();
+        return strcmp(names[1], "fault") == 0 ? faulty_list() : long_calls();
     int64_t n = winged_wing(7, V, S, list, strip(7, S), table, sizeof table, uploaded, sizeof uploaded);
     if (refused("wing", n) || refused("faces", winged_faces(7, V, S, table, 2 * (size_t)n, out, sizeof out)))
         return 1;
+    table[2 * (size_t)n - 1] ^= 1; /* a wing that is wrong, so that all faces are matched */
+    if (winged_faces(7, V, S, table, 2 * (size_t)n, out, sizeof out) != -14) {
+        puts("faces: a wrong wing was not refused");
+        return 1;
+    }
     if (refused("read", winged_read(file, file_of_points(), header, sizeof header, table, sizeof table, points, sizeof points)) ||
         refused("move", winged_move(8, 2048, 1, WINGED_SLIDE, 7, 0, ONE, 0, 0, points, sizeof points / 2, levels, sizeof levels)))
         return 1;

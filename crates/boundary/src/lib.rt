@@ -12,7 +12,7 @@ use rules::compare::less;
 use rules::limits::Shape;
 use rules::refusal::Answer;
 use rules::refusal::Refusal;
-use tables::sound::is_sound;
+use soundness::is_sound;
 
 pub mod counting;
 pub mod face;

@@ -11,7 +11,7 @@ use rules::limits::axes_ok;
 use rules::limits::version_ok;
 use rules::refusal::Answer;
 use rules::refusal::Refusal;
-use tables::sound::is_sound;
+use soundness::is_sound;
 ghost use mathlib.Core.Path.{_≡_};
 ghost use mathlib.Core.Bool.{_&&_};
 ghost use Prim.Native.Nat.{_*_, _≤_};

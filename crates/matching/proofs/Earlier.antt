@@ -1,8 +1,8 @@
--- The last earlier key with the same row, found along the links of a bucket. key f is the row of key f.
+-- The last earlier key, found along links. of f is the number by which key f is linked, key f its row.
 --   from q x          `lastBelow q`, told from the last index x at which a weaker test passes
---   Walk key g f      the links from key g have been followed to f, and the answer lies at f or before
 --   rank f            falls along the links
-use mathlib.Core.Path.{_≡_, refl, sym, ap, subst, subst⁻¹, _∙_}
+--   Walk key g f      the links from key g have been followed to f, and the answer lies at f or before
+use mathlib.Core.Path.{_≡_, refl, sym, ap, subst⁻¹, _∙_}
 use mathlib.Core.Logic.{⊎-elim, _⊎_, inl, inr}
 use mathlib.Core.Bool.{Bool, true, false, cond}
 use Prim.Native.Nat.{ℕ, zero, suc, _≤_, _<_}
@@ -13,7 +13,8 @@ use borrow.Author.Tests.{eqb-true, eqb-false, eq-eqb, ne-eqb}
 use Rattle.simplex.specs.Cell.{Row, sameRow}
 use Rattle.simplex.proofs.Rows.{sameRow-true}
 use Rattle.matching.specs.Inner.Matching.{lastBelow}
-use Rattle.matching.specs.Inner.Buckets.{bucketOf, lastIn}
+use Rattle.matching.specs.Inner.Buckets.{bucketOf, bucketAt}
+use Rattle.matching.specs.Inner.Links.{lastOf}
 
 abbrev pub from : (ℕ → Bool) → ℕ → ℕ
 from q x = cond (eqb x 65535) 65535 (lastBelow q (suc x))
@@ -60,20 +61,34 @@ from-at q f n = ap (λ (t : Bool). cond t 65535 (lastBelow q (suc f))) (ne-eqb f
 abbrev pub rank : ℕ → ℕ
 rank f = cond (eqb f 65535) 0 (suc f)
 
-rank-is : (f : ℕ) → f < 65535 → rank f ≡ suc f
+pub rank-is : (f : ℕ) → f < 65535 → rank f ≡ suc f
 rank-is f l = ap (λ (t : Bool). cond t 0 (suc f)) (ne-eqb f 65535 (ne-of-lt l))
 
-pub rank-less : (key : ℕ → Row) (b f x : ℕ) → f < 65535 → x ≡ lastIn key b f → rank x < rank f
-unfolding lastIn
-rank-less key b f x l e =
-    subst⁻¹ (λ (y : ℕ). rank y < rank f) e
-    (⊎-elim
-    (λ h. omega (arith, ap (λ (t : Bool). cond t 0 (suc (lastBelow q f))) (eq-eqb _ 65535 h), rank-is f l))
-    (λ h. omega (arith, rank-is (lastBelow q f) (lt-trans (h .0) l), rank-is f l, h .0))
-    (last-passes q f))
-  where
-    q : ℕ → Bool
-    q i = eqb (bucketOf (key i)) b
+pub rank-none : (f : ℕ) → f ≡ 65535 → rank f ≡ 0
+rank-none f e = ap (λ (t : Bool). cond t 0 (suc f)) (eq-eqb f 65535 e)
+
+-- x is the last key before m of number b
+module _ (of : ℕ → ℕ) (b m x : ℕ) (few : m ≤ 65535) (e : x ≡ lastOf of b m) where
+  abbrev like : ℕ → Bool
+  like f = eqb (of f) b
+
+  -- it has that number, if there is one
+  pub last-of : (x ≡ 65535) ⊎ ((x < m) × (of x ≡ b))
+  unfolding lastOf
+  last-of =
+      subst⁻¹ (λ (y : ℕ). (y ≡ 65535) ⊎ ((y < m) × (of y ≡ b))) e
+      (⊎-elim (λ h. inl h) (λ h. inr (h .0, eqb-true _ _ (h .1))) (last-passes like m))
+
+  pub rank-under : rank x ≤ m
+  rank-under = ⊎-elim (λ h. omega (arith, rank-none x h)) (λ h. omega (arith, rank-is x (omega (arith, h .0)), h .0)) last-of
+
+  -- no key of that number is above it
+  pub none-above : (g : ℕ) → g < m → of g ≡ b → rank x ≤ g → ⊥
+  unfolding lastOf
+  none-above g l h r =
+      let n = last-bounds like m g l (eq-eqb _ _ h) in
+      let y : x ≡ lastBelow like m = e in
+      omega (arith, n .0, n .1, rank-is x (omega (arith, n .0)))
 
 module _ (key : ℕ → Row) (g : ℕ) where
   abbrev same : ℕ → Bool
@@ -93,8 +108,8 @@ module _ (key : ℕ → Row) (g : ℕ) where
   abbrev pub Walk : ℕ → Type 0
   Walk f = (lastBelow same g ≡ from same f) × ((f ≡ 65535) ⊎ ((f < g) × (bucketOf (key f) ≡ bucketOf (key g))))
 
-  pub walk-start : (x : ℕ) → g < 65535 → x ≡ lastIn key (bucketOf (key g)) g → Walk x
-  unfolding lastIn
+  pub walk-start : (x : ℕ) → g < 65535 → x ≡ lastOf (bucketAt key) (bucketOf (key g)) g → Walk x
+  unfolding lastOf
   walk-start x l e =
       subst⁻¹ Walk e (skip same near far g (omega arith), ⊎-elim (λ h. inl h) (λ h. inr (h .0, eqb-true _ _ (h .1))) (last-passes near g))
 
@@ -108,11 +123,11 @@ module _ (key : ℕ → Row) (g : ℕ) where
   walk-end f h e = h .0 ∙ ap (λ (t : Bool). cond t 65535 (lastBelow same (suc f))) (eq-eqb f 65535 e)
 
   pub walk-next : (f x : ℕ) → g < 65535 → Walk f → (f ≡ 65535 → ⊥) → same f ≡ false →
-      x ≡ lastIn key (bucketOf (key f)) f → Walk x
-  unfolding lastIn
+      x ≡ lastOf (bucketAt key) (bucketOf (key f)) f → Walk x
+  unfolding lastOf
   walk-next f x l h n s e =
       let b = walk-below f h n in
-      subst⁻¹ Walk (e ∙ ap (λ (c : ℕ). lastIn key c f) (b .1)) (
+      subst⁻¹ Walk (e ∙ ap (λ (c : ℕ). lastOf (bucketAt key) c f) (b .1)) (
         h .0 ∙ from-at same f n ∙ ap (λ (t : Bool). cond t f (lastBelow same f)) s ∙ skip same near far f (omega (arith, b .0)),
         ⊎-elim (λ i. inl i) (λ i. inr (lt-trans (i .0) (b .0), eqb-true _ _ (i .1))) (last-passes near f),
       )

@@ -8,19 +8,20 @@ use native.Mathlib.Nat.{div-one, eq-or-lt-of-le, le-of-suc-le-suc, not-suc-le-ze
 use native.Mathlib.Numerals.{add-one}
 use native.Mathlib.Omega.{arith}
 use lib.Dec.{eqb}
-use lib.ListN.{length, getD, set, replicate, length-set, length-replicate, getD-replicate}
+use lib.ListN.{length, getD, set, length-set}
 use lib.Seq.{getD-set-same, getD-set-other}
 use borrow.Author.Tests.{eqb-true, eqb-false}
 use Rattle.words.specs.Records.{part}
-use Rattle.simplex.specs.Cell.{Row, sameRow}
+use Rattle.simplex.specs.Cell.{sameRow}
 use Rattle.simplex.specs.Faces.{without}
 use Rattle.matching.specs.Inner.Matching.{cellRow, keyRow, Behind}
-use Rattle.matching.specs.Inner.Buckets.{bucketOf, lastIn, Heads, Linked, Linking}
+use Rattle.matching.specs.Inner.Buckets.{bucketOf}
+use Rattle.matching.specs.Inner.Links.{lastOf, Heads, Linked, Linking}
 use Rattle.matching.proofs.KeptRows.{take-past}
 use Rattle.matching.proofs.Quotients.{cell-of-key, place-of-key}
 
 -- what is stored at m, and what stood below it
-one-more : (P : ℕ → ℕ) (l : List ℕ) (m x : ℕ) → m < length l → x ≡ P m →
+pub one-more : (P : ℕ → ℕ) (l : List ℕ) (m x : ℕ) → m < length l → x ≡ P m →
     ((f : ℕ) → f < m → getD l f 0 ≡ P f) → (f : ℕ) → f < m + 1 → getD (set l m x) f 0 ≡ P f
 one-more P l m x h e all f b =
     ⊎-elim
@@ -28,36 +29,37 @@ one-more P l m x h e all f b =
     (λ less. getD-set-other l m f x 0 (ne-of-lt less) ∙ all f less)
     (eq-or-lt-of-le (le-of-suc-le-suc (subst (λ (i : ℕ). f < i) (add-one m) b)))
 
-module _ (key : ℕ → Row) (head prev : List ℕ) (m b : ℕ) (h : m < 32768)
-    (e : b ≡ bucketOf (key m)) (hb : b < 32768) (k : Linking key head prev m) where
-  heads-more : Heads key (set head b m) (m + 1)
-  unfolding lastIn
+module _ (of : ℕ → ℕ) (head prev : List ℕ) (n m b : ℕ) (h : m < 32768) (few : n ≤ 32768)
+    (e : b ≡ of m) (hb : b < n) (k : Linking of head prev n m) where
+  heads-more : Heads of (set head b m) n (m + 1)
+  unfolding lastOf
   heads-more c l =
-      subst⁻¹ (λ (i : ℕ). getD (set head b m) c 0 ≡ lastIn key c i) (add-one m) (go (eqb (bucketOf (key m)) c) refl)
+      subst⁻¹ (λ (i : ℕ). getD (set head b m) c 0 ≡ lastOf of c i) (add-one m) (go (eqb (of m) c) refl)
     where
-      go : (t : Bool) → eqb (bucketOf (key m)) c ≡ t → getD (set head b m) c 0 ≡ cond t m (lastIn key c m)
+      go : (t : Bool) → eqb (of m) c ≡ t → getD (set head b m) c 0 ≡ cond t m (lastOf of c m)
       go true q = subst (λ (i : ℕ). getD (set head b m) i 0 ≡ m) (e ∙ eqb-true _ _ q) (getD-set-same head b m 0 (omega (arith, k .headLong)))
       go false q = getD-set-other head b c m 0 (λ r. eqb-false _ _ q (sym (r ∙ e))) ∙ k .heads c l
 
-  pub linking-more : Linking key (set head b m) (set prev m (getD head b 0)) (m + 1)
+  pub linking-more : Linking of (set head b m) (set prev m (getD head b 0)) n (m + 1)
   linking-more = record {
     heads = heads-more;
     links =
-        one-more (λ f. lastIn key (bucketOf (key f)) f) prev m (getD head b 0) (omega (arith, k .prevLong))
-        (k .heads b hb ∙ ap (λ (c : ℕ). lastIn key c m) e)
+        one-more (λ f. lastOf of (of f) f) prev m (getD head b 0) (omega (arith, k .prevLong))
+        (k .heads b hb ∙ ap (λ (c : ℕ). lastOf of c m) e)
         (k .links);
     headLong = length-set head b m ∙ k .headLong;
     prevLong = length-set prev m (getD head b 0) ∙ k .prevLong;
   }
 
--- before the first key every bucket is empty
-pub linking-start : (key : ℕ → Row) (prev : List ℕ) → length prev ≡ 32768 → Linking key (replicate 32768 65535) prev 0
-unfolding lastIn
-linking-start key prev e = record {
-  heads = λ b l. getD-replicate 32768 b 65535 0 l;
+-- before the first key there are no heads
+pub linking-start : (of : ℕ → ℕ) (head prev : List ℕ) (n : ℕ) → ((b : ℕ) → b < n → getD head b 0 ≡ 65535) →
+    length head ≡ 32768 → length prev ≡ 32768 → Linking of head prev n 0
+unfolding lastOf
+linking-start of head prev n none lh lp = record {
+  heads = none;
   links = λ f l. absurd (not-suc-le-zero l);
-  headLong = length-replicate {A = ℕ} 32768 65535;
-  prevLong = e;
+  headLong = lh;
+  prevLong = lp;
 }
 
 -- a store before place n
@@ -73,8 +75,8 @@ answered-more P l n g x h e all f b t =
     (λ more. getD-set-other l g f x 0 (ne-of-gt more) ∙ all f (omega arith) t)
     (eq-or-lt-of-le b)
 
-pub linked-below : (key : ℕ → Row) (l : List ℕ) (g x : ℕ) → Linked key l (g + 1) → Linked key (set l g x) g
-linked-below key l g x k f b = getD-set-other l g f x 0 (ne-of-lt b) ∙ k f (omega arith)
+pub linked-below : (of : ℕ → ℕ) (l : List ℕ) (g x : ℕ) → Linked of l (g + 1) → Linked of (set l g x) g
+linked-below of l g x k f b = getD-set-other l g f x 0 (ne-of-lt b) ∙ k f (omega arith)
 
 -- key i of cell p
 module _ (p i w : ℕ) (h : i < w) where

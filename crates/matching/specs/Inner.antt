@@ -1,3 +1,5 @@
 -- Definitions that serve contracts inside the library and proofs alone: nothing that a call or a theorem promises rests on them.
 pub mod Buckets
+pub mod Classes
+pub mod Links
 pub mod Matching

@@ -1,2 +1,2 @@
--- Keys that are equal, and the buckets that find them.
+-- Keys that are equal, and the buckets and classes that find them.
 pub mod Inner

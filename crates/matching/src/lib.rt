@@ -1,15 +1,19 @@
 // Keys that are equal: for each key, the last earlier one with the same row.
 // Each key is linked to the last earlier key of its bucket; from the last key down, each link is then
-// followed back to a key with the same row.
+// followed back to a key with the same row. Where that takes more than a few steps a key, the keys are classed instead.
+pub mod classes;
+
+use crate::classes::by_classes;
 ghost use mathlib.Core.Path.{_≡_};
-ghost use mathlib.Core.Bool.{cond};
+ghost use mathlib.Core.Bool.{true, cond};
 ghost use Prim.Native.Nat.{ℕ, _+_, _*_, _-_, _/_, _%_, _^_, _<_, _≤_};
 ghost use lib.Dec.{ltb};
-ghost use lib.ListN.{length, getD};
+ghost use lib.ListN.{length, getD, replicate};
 ghost use Rattle.simplex.specs.Cell.{sameRow};
 ghost use Rattle.simplex.specs.Faces.{without};
+ghost use Rattle.matching.specs.Inner.Links.{Linked, Linking};
 ghost use Rattle.matching.specs.Inner.Matching.{Keyed, cellRow, keyRow, earlier, Behind};
-ghost use Rattle.matching.specs.Inner.Buckets.{term, weight, Linked, Linking};
+ghost use Rattle.matching.specs.Inner.Buckets.{term, weight, bucketAt};
 
 fn wide(x: u16) -> u64
     ensures { λ r. ⌜ (r ≡ x) × (r < 65536) ⌝ }
@@ -131,8 +135,8 @@ fn link_cell(
     prev: &mut [u16; 32768],
 )
     requires { ⌜ Keyed (now rows) k w first × (p < 4096) ⌝ }
-    requires { ⌜ Linking (keyRow (now rows) k w first) (now head) (now prev) (p * w) ⌝ }
-    ensures { λ _. ⌜ Linking (keyRow (now (rows .entry)) k w first) (now (head .exit)) (now (prev .exit)) (p * w + w) ⌝ }
+    requires { ⌜ Linking (bucketAt (keyRow (now rows) k w first)) (now head) (now prev) 32768 (p * w) ⌝ }
+    ensures { λ _. ⌜ Linking (bucketAt (keyRow (now (rows .entry)) k w first)) (now (head .exit)) (now (prev .exit)) 32768 (p * w + w) ⌝ }
     ensures { λ _. ⌜ Behind (p * w + w) (now (prev .exit)) (now (prev .entry)) ⌝ }
 {
     let weighed = weigh(k, p, rows);
@@ -148,22 +152,35 @@ fn link_cell(
     }
 }
 
-// Links each key of s cells to the last earlier key of its bucket.
-fn link(s: usize, k: usize, w: usize, first: usize, rows: &[u16; 32768], prev: &mut [u16; 32768])
-    requires { ⌜ Keyed (now rows) k w first × (s ≤ 4096) × (length (now prev) ≡ 32768) ⌝ }
-    ensures { λ _. ⌜ Linked (keyRow (now (rows .entry)) k w first) (now (prev .exit)) (s * w) ⌝ }
-    ensures { λ _. ⌜ length (now (prev .exit)) ≡ 32768 ⌝ }
+// Links each key of s cells to the last earlier key of its bucket; head is lent without heads.
+fn link(
+    s: usize,
+    k: usize,
+    w: usize,
+    first: usize,
+    rows: &[u16; 32768],
+    head: &mut [u16; 32768],
+    prev: &mut [u16; 32768],
+)
+    requires { ⌜ Keyed (now rows) k w first × (s ≤ 4096) × (length (now prev) ≡ 32768) × (now head ≡ replicate 32768 65535) ⌝ }
+    ensures { λ _. ⌜ Linked (bucketAt (keyRow (now (rows .entry)) k w first)) (now (prev .exit)) (s * w) ⌝ }
+    ensures { λ _. ⌜ (length (now (prev .exit)) ≡ 32768) × (length (now (head .exit)) ≡ 32768) ⌝ }
     ensures { λ _. ⌜ Behind (s * w) (now (prev .exit)) (now (prev .entry)) ⌝ }
 {
-    let mut head = [65535u16; 32768];
     let mut p: usize = 0;
     while p < s {
-        link_cell(k, w, first, p, rows, &mut head, prev);
+        link_cell(k, w, first, p, rows, head, prev);
         p += 1;
     }
 }
 
-// The last key before g with the row of g, or 65535: the links are followed back from g.
+// What following links back finds, and how many steps are left; where none are, nothing is found.
+struct Found {
+    key: u16,
+    left: usize,
+}
+
+// The last key before g with the row of g, or 65535: the links are followed back from g, in fewer steps than left.
 fn back(
     k: usize,
     w: usize,
@@ -172,46 +189,61 @@ fn back(
     rows: &[u16; 32768],
     prev: &[u16; 32768],
     g: usize,
-) -> u16
+    left: usize,
+) -> Found
     requires { ⌜ Keyed (now rows) k w first × (part ≡ 1048576 / w + 1) × (g < 4096 * w) ⌝ }
-    requires { ⌜ Linked (keyRow (now rows) k w first) (now prev) (g + 1) ⌝ }
-    ensures { λ r. ⌜ r ≡ earlier (now (rows .entry)) k w first g ⌝ }
+    requires { ⌜ Linked (bucketAt (keyRow (now rows) k w first)) (now prev) (g + 1) ⌝ }
+    ensures { λ r. ⌜ (0 < r .left → r .key ≡ earlier (now (rows .entry)) k w first g) ⌝ }
 {
     let here = place_of(g, w, part);
+    let mut left = left;
     let mut f = prev[g];
     while f != 65535 {
+        if left == 0 {
+            return Found { key: f, left };
+        }
+        left -= 1;
         let x = f as usize;
         let there = place_of(x, w, part);
-        if same_key(
-            k,
-            rows,
-            there.cell,
-            first + there.at,
-            here.cell,
-            first + here.at,
-        ) {
-            return f;
+        let a = first + there.at;
+        let b = first + here.at;
+        if same_key(k, rows, there.cell, a, here.cell, b) {
+            return Found { key: f, left };
         }
         f = prev[x];
     }
-    65535
+    Found { key: 65535, left }
 }
 
-// Replaces the links of n keys by the last earlier keys with the same rows, from the last key down.
-fn settle(n: usize, k: usize, w: usize, first: usize, rows: &[u16; 32768], prev: &mut [u16; 32768])
-    requires { ⌜ Keyed (now rows) k w first × (n ≤ 4096 * w) × (length (now prev) ≡ 32768) ⌝ }
-    requires { ⌜ Linked (keyRow (now rows) k w first) (now prev) n ⌝ }
+// Replaces the links of n keys by the last earlier keys with the same rows, from the last key down. Whether that was done
+// in fewer than two steps a key.
+fn settle(
+    n: usize,
+    k: usize,
+    w: usize,
+    first: usize,
+    part: usize,
+    rows: &[u16; 32768],
+    prev: &mut [u16; 32768],
+) -> bool
+    requires { ⌜ Keyed (now rows) k w first × (part ≡ 1048576 / w + 1) × (n ≤ 4096 * w) × (length (now prev) ≡ 32768) ⌝ }
+    requires { ⌜ Linked (bucketAt (keyRow (now rows) k w first)) (now prev) n ⌝ }
     ensures { λ _. ⌜ length (now (prev .exit)) ≡ 32768 ⌝ }
-    ensures { λ _. ⌜ ((g : ℕ) → g < n → getD (now (prev .exit)) g 0 ≡ earlier (now (rows .entry)) k w first g) ⌝ }
+    ensures { λ r. ⌜ (r ≡ true → (g : ℕ) → g < n → getD (now (prev .exit)) g 0 ≡ earlier (now (rows .entry)) k w first g) ⌝ }
     ensures { λ _. ⌜ Behind n (now (prev .exit)) (now (prev .entry)) ⌝ }
 {
-    let part = 1048576 / w + 1;
+    let mut left = n * 2;
     let mut g = n;
     while 0 < g {
         g -= 1;
-        let f = back(k, w, first, part, rows, prev, g);
-        prev[g] = f;
+        let found = back(k, w, first, part, rows, prev, g, left);
+        left = found.left;
+        if left == 0 {
+            return false;
+        }
+        prev[g] = found.key;
     }
+    true
 }
 
 // For each key of s cells the last earlier key with the same row, or 65535; what stands behind the keys stays. A cell
@@ -229,6 +261,11 @@ pub fn earlier_equal(
     ensures { λ _. ⌜ ((g : ℕ) → g < s * w → getD (now (prev .exit)) g 0 ≡ earlier (now (rows .entry)) k w first g) ⌝ }
     ensures { λ _. ⌜ Behind (s * w) (now (prev .exit)) (now (prev .entry)) ⌝ }
 {
-    link(s, k, w, first, rows, prev);
-    settle(s * w, k, w, first, rows, prev);
+    let part = 1048576 / w + 1;
+    let mut spare = [65535u16; 32768];
+    link(s, k, w, first, rows, &mut spare, prev);
+    if settle(s * w, k, w, first, part, rows, prev) {
+        return;
+    }
+    by_classes(s * w, k, w, first, part, rows, &mut spare, prev);
 }

@@ -11,8 +11,8 @@ use rules::compare::differ;
 use rules::compare::less;
 use rules::refusal::Answer;
 use rules::refusal::Refusal;
+use soundness::is_sound;
 use sweeping::writing::write_swept;
-use tables::sound::is_sound;
 
 pub mod limits;
 

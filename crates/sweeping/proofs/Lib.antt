@@ -1,6 +1,14 @@
 -- Laws of the words of a swept table.
-pub mod AcrossLaws
 pub mod Bounds
+pub mod DoubleRow
+pub mod Filling
+pub mod Joining
+pub mod LevelSteps
+pub mod LevelWords
+pub mod Onward
+pub mod PrismFilled
+pub mod PrismWords
+pub mod RaisedLevel
 pub mod RecordLaws
 pub mod Searching
 pub mod SoundTable

@@ -1,14 +1,12 @@
 -- The record of a swept cell, word by word.
 --   record-long                           it has the words of a table record of dimension d + 1:
 --   word-sign, word-material, word-vertex, word-wing      the sign word, the material of the cell below, d + 2 vertices, d + 2 wings
---   word-lower, word-upper                its vertices at this level, at the next
 -- Assumes nothing.
-use mathlib.Core.Path.{_≡_, refl, sym, ap, ap₂, _∙_}
+use mathlib.Core.Path.{_≡_, refl, ap, _∙_}
 use mathlib.Core.List.{List, [], _∷_, _++_, map}
 use Prim.Native.Nat.{ℕ, zero, suc, _+_, _-_, _*_, _≤_, _<_}
 use native.Mathlib.Nat.{le-of-suc-le-suc, not-suc-le-zero}
 use native.Mathlib.Decide.{decLe}
-use native.Mathlib.Numerals.{add-one}
 use native.Mathlib.Omega.{arith}
 use lib.ListN.{length, getD, take, drop, length-append, length-drop, length-map, List·getD-append}
 use lib.Seq.{length-take-le, getD-append-add, getD-drop, getD-take}
@@ -22,9 +20,9 @@ use Rattle.records.specs.Layout.{Entry, recordSize, listSize, materialPlace, ve
 use Rattle.solids.specs.Table.{entryAt}
 use Rattle.prism.specs.Cells.{atLevel, lifted, dimension, prismCell}
 use Rattle.prism.specs.Wings.{sweptWing}
-use Rattle.sweeping.specs.Inner.SweptWords.{solidEntries, solidWing, solidVertex, recordWords}
+use Rattle.sweeping.specs.Inner.SweptWords.{solidEntries, solidWing, recordWords}
 use Rattle.simplex.specs.SignWords.{turnedSign}
-use Rattle.sweeping.specs.Inner.RecordWords.{sweptVertex, liftedFrom}
+use Rattle.sweeping.specs.Inner.RecordWords.{sweptVertex}
 use Rattle.sweeping.proofs.TableWords.{solid-entry, solid-row-long}
 
 map-at : (f : ℕ → ℕ) (xs : List ℕ) (i : ℕ) → i < length xs → getD (map f xs) i 0 ≡ f (getD xs i 0)
@@ -111,16 +109,3 @@ module _ (d v s h : ℕ) (ws : List ℕ) (i p k : ℕ) (long : length ws ≡ tab
       let split : wingPlace (suc d) j ≡ length first + j = omega (arith, both-long) in
       ap (λ n. getD (first ++ wings) n 0) split ∙ getD-append-add first wings j 0
       ∙ tabulate-at (suc (suc d)) (sweptWing d s h (solidWing d s ws) i p k) j 0 (omega arith)
-
-  -- places m by j: the lower vertices first, the upper ones behind them
-  pub word-lower : (m j : ℕ) → m ≡ vertexPlace j → k + j ≤ d → getD (recordWords d v s h ws i p k) m 0 ≡ liftedFrom d v s ws i p k j
-  word-lower m j e low =
-      ap (λ n. getD (recordWords d v s h ws i p k) n 0) e ∙ word-vertex j (omega arith) ∙ rw (le-leb (k + j) d low) refl
-
-  pub word-upper : (m j : ℕ) → m ≡ vertexPlace (d + 1 - k + j) → j ≤ k →
-      getD (recordWords d v s h ws i p k) m 0 ≡ liftedFrom d v s ws (i + 1) p 0 j
-  word-upper m j e low =
-      let n = d + 1 - k + j in
-      let vertex : k + n - suc d ≡ 0 + j = omega arith in
-      ap (λ n. getD (recordWords d v s h ws i p k) n 0) e ∙ word-vertex n (omega arith)
-      ∙ rw (lt-leb (k + n) d (omega arith)) (ap₂ (λ l x. atLevel v l (solidVertex d s ws p x)) (sym (add-one i)) vertex)

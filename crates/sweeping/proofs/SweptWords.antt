@@ -54,13 +54,13 @@ module _ (d v s h : ℕ) (ws : List ℕ) where
           ∙ ap concat (tabulate-ext h _ (levelWords d v s h ws) (λ i l. level-words i)) ∙ sym all-is
 
   module _ (long : length ws ≡ tableLength d s) where
-    prism-long : (i p : ℕ) → p < s → length (prismWords d v s h ws i p) ≡ (d + 1) * recordSize (suc d)
+    pub prism-long : (i p : ℕ) → p < s → length (prismWords d v s h ws i p) ≡ (d + 1) * recordSize (suc d)
     prism-long i p hp =
         ap length (prism-is i p)
         ∙ length-tabulated (recordSize (suc d)) (d + 1) (recordWords d v s h ws i p)
         (λ k l. record-long d v s h ws i p k long hp (omega arith))
 
-    level-long : (i : ℕ) → length (levelWords d v s h ws i) ≡ s * ((d + 1) * recordSize (suc d))
+    pub level-long : (i : ℕ) → length (levelWords d v s h ws i) ≡ s * ((d + 1) * recordSize (suc d))
     level-long i =
         ap length (level-is i) ∙ length-tabulated ((d + 1) * recordSize (suc d)) s (prismWords d v s h ws i) (λ p l. prism-long i p l)
 

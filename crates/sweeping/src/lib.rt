@@ -1,6 +1,10 @@
 // The words of a swept table, written.
+mod faces;
+mod heads;
+mod places;
+mod raising;
 mod reading;
-mod record;
 pub mod sides;
+mod vertices;
 mod wings;
 pub mod writing;

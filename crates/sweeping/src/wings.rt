@@ -1,18 +1,17 @@
 // The wings of swept cells: cell k over cell p at level i, in a sweep of h steps of s cells; and what is across the faces of p.
 ghost use mathlib.Core.Path.{_≡_};
-ghost use Prim.Native.Nat.{suc, _<_, _≤_};
-ghost use lib.ListN.{length};
+ghost use Prim.Native.Nat.{_<_, _≤_};
 ghost use Rattle.records.specs.Inner.Inside.{Inside};
 ghost use Rattle.rules.specs.Limits.{maxCells};
 ghost use Rattle.prism.specs.Swept.{sweptCells};
-ghost use Rattle.sweeping.specs.Inner.Across.{Holds, faceFirst, faceBack};
+ghost use Rattle.sweeping.specs.Inner.Across.{faceFirst, faceBack};
 ghost use Rattle.prism.specs.Wings.{cellNumber, backTo, wingAbove, wingBelow};
 ghost use Rattle.sweeping.specs.Inner.SweptWords.{solidWing, Ready};
 use crate::reading::wide;
 use crate::reading::wing;
 use records::sizes::EMPTY;
 
-fn cell_number(d: usize, s: usize, h: usize, i: usize, p: usize, k: usize) -> u16
+pub fn cell_number(d: usize, s: usize, h: usize, i: usize, p: usize, k: usize) -> u16
     requires { ⌜ (sweptCells d s h ≤ maxCells) × (i < h) × (p < s) × (k ≤ d) ⌝ }
     ensures { λ r. ⌜ r ≡ cellNumber d s i p k ⌝ }
 {
@@ -65,13 +64,13 @@ fn back(d: usize, s: usize, table: &[u16], p: usize, q: usize) -> usize
 }
 
 // The cell across a face: its first swept cell at some level, and its own position at the face. EMPTY and 0 where none is across.
-struct Beyond {
-    first: u16,
-    back: usize,
+pub struct Beyond {
+    pub first: u16,
+    pub back: usize,
 }
 
 // The cell across face a of p, at level i.
-fn across_face(
+pub fn across_face(
     d: usize,
     v: usize,
     s: usize,
@@ -97,31 +96,4 @@ fn across_face(
     let first = cell_number(d, s, h, i, q, 0);
     let back = back(d, s, table, p, q);
     Beyond { first, back }
-}
-
-// The same of each face of cell p.
-pub fn face_sides(
-    d: usize,
-    v: usize,
-    s: usize,
-    h: usize,
-    table: &[u16],
-    i: usize,
-    p: usize,
-    firsts: &mut [u16; 8],
-    backs: &mut [usize; 8],
-)
-    requires ready { ⌜ Ready d v s h (now table) ⌝ }
-    requires at { ⌜ (i < h) × (p < s) ⌝ }
-    requires long { ⌜ (length (now firsts) ≡ 8) × (length (now backs) ≡ 8) ⌝ }
-    ensures firsts { λ _. ⌜ Holds (suc d) (faceFirst d s (solidWing d s (now (table .entry))) i p) (now (firsts .exit)) ⌝ }
-    ensures backs { λ _. ⌜ Holds (suc d) (faceBack d (solidWing d s (now (table .entry))) p) (now (backs .exit)) ⌝ }
-{
-    let mut a: usize = 0;
-    while a <= d {
-        let x = across_face(d, v, s, h, table, i, p, a);
-        firsts[a] = x.first;
-        backs[a] = x.back;
-        a += 1;
-    }
 }

@@ -72,7 +72,7 @@ module _ (rows row : List ℕ) (p : ℕ) (hp : p < 4096) (wide : length rows ≡
 
 -- the row sorted by its first d + 1 vertices
 module _ (d : ℕ) (row : List ℕ) (hd : d ≤ 7) (eight : length row ≡ 8) where
-  sorted-front : take (suc d) (rowSorted (suc d) row) ≡ sorted (take (suc d) row)
+  pub sorted-front : take (suc d) (rowSorted (suc d) row) ≡ sorted (take (suc d) row)
   unfolding rowSorted
   sorted-front =
       take-at (sorted (take (suc d) row)) (drop (suc d) row) (suc d) (sorted-length (take (suc d) row) ∙ length-take-le (suc d) row (omega arith))
@@ -92,7 +92,7 @@ module _ (d : ℕ) (row : List ℕ) (hd : d ≤ 7) (eight : length row ≡ 8) wh
         length-drop (suc d) row,
       )
 
-  sorted-sign : (t : Bool) → times (not (rowOdd (suc d) row)) t ≡ times (orientation (take (suc d) row)) t
+  pub sorted-sign : (t : Bool) → times (not (rowOdd (suc d) row)) t ≡ times (orientation (take (suc d) row)) t
   unfolding rowOdd
   sorted-sign t = ap (λ s. times s t) (not-not (orientation (take (suc d) row)))
 

@@ -18,7 +18,7 @@ ghost use Rattle.tables.specs.Inner.Held.{rowOfEight, Gathered, cellHeld
 
 // The first n words from at, as a row of eight: the places behind them are 0. There are always eight turns, which
 // the compiler writes out.
-fn read_row(n: usize, at: usize, words: &[u16]) -> [u16; 8]
+pub fn read_row(n: usize, at: usize, words: &[u16]) -> [u16; 8]
     requires { ⌜ (n ≤ 8) × (at + n ≤ length (now words)) ⌝ }
     ensures { λ r. ⌜ (length r ≡ 8) × (r ≡ rowOfEight (take n (drop at (now (words .entry))))) ⌝ }
 {

@@ -1,42 +1,13 @@
--- Words written as bytes.
---   bytes-concat              the bytes of lists one after the other are those of each
---   bytes-faces               so of faces
---   bytes-fit, left-bytes     the two bytes of one word more of a list
+-- The bytes of faces are those of their words.
 -- Assumes nothing.
-use mathlib.Core.Path.{_≡_, refl, ap, _∙_}
-use mathlib.Core.List.{List, [], _∷_, _++_}
-use Prim.Native.Nat.{ℕ, zero, suc, _+_, _/_, _%_, _≤_, _<_}
-use native.Mathlib.Omega.{arith}
-use lib.ListN.{length, drop, getD, set}
+use mathlib.Core.Path.{_≡_, refl, _∙_}
+use mathlib.Core.List.{List, [], _∷_}
 use Rattle.words.specs.Bytes.{bytesOf}
-use Rattle.words.specs.Records.{concat, tabulate}
-use Rattle.words.proofs.Loops.{drop-next}
-use Rattle.words.proofs.Writing.{Left, left-word}
 use Rattle.simplex.specs.Cell.{Cell}
 use Rattle.records.specs.Layout.{faceWords, facesWords}
+use Rattle.direct.proofs.WordBytes.{bytes-append}
 use Rattle.winged.specs.Inner.Sent.{facesBytes}
-
-bytes-append : (xs ys : List ℕ) → bytesOf (xs ++ ys) ≡ bytesOf xs ++ bytesOf ys
-bytes-append [] ys = refl
-bytes-append (x ∷ xs) ys = rw (bytes-append xs ys) refl
-
-pub bytes-concat : (n : ℕ) (f : ℕ → List ℕ) → bytesOf (concat (tabulate n f)) ≡ concat (tabulate n (λ p. bytesOf (f p)))
-bytes-concat zero f = refl
-bytes-concat (suc n) f =
-    bytes-append (f 0) (concat (tabulate n (λ p. f (suc p)))) ∙ ap (λ r. bytesOf (f 0) ++ r) (bytes-concat n (λ p. f (suc p)))
 
 pub bytes-faces : (fs : List Cell) → bytesOf (facesWords fs) ≡ facesBytes fs
 bytes-faces [] = refl
 bytes-faces (f ∷ fs) = bytes-append (faceWords f) (facesWords fs) ∙ rw (bytes-faces fs)
-
-module _ {at : ℕ} {all old : List ℕ} {cur : ℕ} {buf : List ℕ} (xs : List ℕ) (k : ℕ) (h : k < length xs)
-    (l : Left at all old cur (bytesOf (drop k xs)) buf) where
-  next : Left at all old cur (bytesOf (getD xs k 0 ∷ drop (k + 1) xs)) buf
-  next = rw (drop-next 0 xs k h) at l
-
-  pub bytes-fit : cur + 2 ≤ length buf
-  bytes-fit = omega (arith, next .room)
-
-  pub left-bytes : (x : ℕ) → x ≡ getD xs k 0 →
-      Left at all old (cur + 2) (bytesOf (drop (k + 1) xs)) (set (set buf cur (x % 256)) (cur + 1) (x / 256 % 256))
-  left-bytes x e = left-word (x / 256 % 256) _ (cur + 2) (omega arith) (left-word (x % 256) _ (cur + 1) refl (rw (← e) at next))

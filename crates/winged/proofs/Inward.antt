@@ -1,5 +1,4 @@
 -- Wing and sweep on bytes.
---   decoded-front         the decoded words stand at the front of the array
 --   wing-outside, wing-wrong, wing-right      the outcome, as the code finds it
 --   wing-after, uploaded-after    the buffers, as its outcome says
 --   wing-host             the answer and the lent bytes, as the host's definitions say: room beyond the largest table changes nothing
@@ -9,13 +8,12 @@
 -- Assumes nothing.
 use mathlib.Core.Path.{_≡_, refl, sym, ap, _∙_}
 use mathlib.Core.Bool.{Bool, true, false, not, _&&_, _||_}
-use mathlib.Core.List.{List, [], _++_}
+use mathlib.Core.List.{List, []}
 use Prim.Native.Nat.{ℕ, suc, _+_, _*_, _≤_, _<_}
-use native.Mathlib.Nat.{mul-add, mul-le-mul, mul-le-mul-right, mul-suc, one-mul}
+use native.Mathlib.Nat.{mul-add, mul-le-mul-right, mul-suc, one-mul}
 use native.Mathlib.Omega.{arith}
 use lib.Dec.{leb, ltb}
-use lib.ListN.{length, take, length-append}
-use lib.Seq.{take-at}
+use lib.ListN.{length}
 use borrow.Author.Tests.{eq-eqb, leb-true, le-leb, le-ltb, lt-ltb, ltb-false, ne-eqb}
 use Rattle.words.specs.Bytes.{words16, bytesOf}
 use Rattle.words.specs.Inner.Placed.{placed}
@@ -26,7 +24,7 @@ use Rattle.rules.specs.Shapes.{shapeOk}
 use Rattle.rules.specs.Calls.{Outcome, accepted, refused, after, written}
 use Rattle.rules.proofs.Tests.{and-parts}
 use Rattle.solids.specs.Accept.{Listed, solidRules}
-use Rattle.records.specs.Layout.{listSize, recordSize, listLength, tableLength}
+use Rattle.records.specs.Layout.{listLength, tableLength}
 use Rattle.solids.specs.Table.{tableOfList}
 use Rattle.solids.specs.Uploaded.{uploadedOfList}
 use Rattle.wing.specs.Wing.{WingInput, wingInput, wingOutcome, wingBuffer, wingRules}
@@ -38,19 +36,14 @@ use Rattle.wing.proofs.UploadedRows.{rows-are}
 use Rattle.prism.specs.Swept.{sweptCells}
 use Rattle.sweep.specs.Sweep.{SweepInput, sweepOutcome, sweepBuffer, sweepRules, sweptWords, sweepInput}
 use Rattle.sweep.proofs.Order as sweep
+use Rattle.direct.proofs.Room.{table-fits}
 use Rattle.winged.specs.Host.{hostAnswer, wordsIn, hostList, hostWing, hostWingOutcome, hostWingBuffer, hostUploadedBuffer}
 use Rattle.winged.specs.Host.{hostSweepInput, hostSweep, hostSweepOutcome, hostSweepBuffer}
-use Rattle.winged.specs.Inner.Sent.{lesser, smallTable, tableRoom, wingRead, sweepRead}
+use Rattle.winged.specs.Inner.Sent.{lesser, smallSweep, smallTable, tableRoom, wingRead, sweepRead}
 use Rattle.winged.proofs.Hosting.{hosted-accepted, hosted-right, hosted-wrong}
 use Rattle.wing.proofs.Lengths.{accepted-long}
 use Rattle.sweep.proofs.CallWords.{swept-long}
 use Rattle.winged.proofs.Outward.{room-cut}
-
-pub decoded-front : (cells w rest : List ℕ) (n : ℕ) → w ≡ words16 cells ++ rest → length cells ≡ n * 2 →
-    (n ≤ length w) × (take n w ≡ words16 cells)
-decoded-front cells w rest n e h =
-    let count : length (words16 cells) ≡ n = omega (arith, words-count cells) in
-    (omega (arith, ap length e, length-append (words16 cells) rest), ap (take n) e ∙ take-at (words16 cells) rest n count)
 
 pub wing-after : (o : Outcome ℕ) (i : WingInput) (out : List ℕ) → o ≡ wingOutcome i →
     wingBuffer i out ≡ after o (tableOfList (i .list)) out
@@ -88,13 +81,6 @@ module _ (d v s : ℕ) (cells : List ℕ) (x y : ℕ) where
   pub wing-right : length cells ≡ listLength d s * 2 → wingOutcome wingTold ≡ wingRead d v s cells x y
   unfolding wingRead
   wing-right e = sym (hosted-right (shapeOk maxDimension d v s) cells (listLength d s) (wingOutcome wingTold) e)
-
--- the largest list and the largest table
-pub list-fits : (d s : ℕ) → d ≤ maxDimension → s ≤ maxCells → listLength d s ≤ listLength maxDimension maxCells
-list-fits d s hd hs = mul-le-mul {m₁ = listSize d} {m₂ = listSize maxDimension} hs (omega arith)
-
-pub table-fits : (d s : ℕ) → d ≤ maxDimension → s ≤ maxCells → tableLength d s ≤ tableRoom
-table-fits d s hd hs = mul-le-mul {m₁ = recordSize d} {m₂ = recordSize maxDimension} hs (omega arith)
 
 -- an array that is long enough for the table of so many cells, if there is such a table
 pub small-fits : (d s most : ℕ) → smallTable d s most ≡ true → d ≤ maxDimension → s ≤ maxCells → tableLength d s ≤ most
@@ -193,26 +179,47 @@ module _ (d v s h : ℕ) (table : List ℕ) (x : ℕ) where
       let large = or-right (ltb maxVertices (sweptVertices v h)) (lt-ltb maxCells (sweptCells d s h) (many-cells d s h (steps-some d v s h ok) n)) in
       sweep.refuses (sweepInput d v s h (words16 table) x) [] 12 (rw (ok, right, large)) .0 ∙ sweep-right e
 
-sweep-same : (d v s h : ℕ) (ws : List ℕ) (x : ℕ) → sweepOutcome (sweepInput d v s h ws (lesser x tableRoom))
-    ≡ sweepOutcome (sweepInput d v s h ws x)
+-- a small sweep fits
+sweep-fits : (d s h most : ℕ) → smallSweep d s h most ≡ true → d ≤ maxSource → s ≤ maxCells → h ≤ maxSteps → sweptCells d s h ≤ maxCells →
+    tableLength (suc d) (sweptCells d s h) ≤ most
+sweep-fits d s h most e hd hs hh hc =
+    leb-true (tableLength (suc d) (sweptCells d s h)) most
+    (rw (le-ltb maxSource d hd, le-ltb maxCells s hs, le-ltb maxSteps h hh, le-ltb maxCells (sweptCells d s h) hc) at e)
+
+-- every sweep fits the largest table
+pub all-small-sweep : (d s h : ℕ) → smallSweep d s h tableRoom ≡ true
+all-small-sweep d s h = go (ltb maxSource d) (ltb maxCells s) (ltb maxSteps h) (ltb maxCells (sweptCells d s h)) refl refl
+  where
+    go : (a b c e : Bool) → ltb maxSource d ≡ a → ltb maxCells (sweptCells d s h) ≡ e →
+        (a || (b || (c || (e || leb (tableLength (suc d) (sweptCells d s h)) tableRoom)))) ≡ true
+    go true b c e x y = refl
+    go false true c e x y = refl
+    go false false true e x y = refl
+    go false false false true x y = refl
+    go false false false false x y =
+        le-leb (tableLength (suc d) (sweptCells d s h)) tableRoom
+        (table-fits (suc d) (sweptCells d s h) (omega (arith, ltb-false maxSource d x)) (ltb-false maxCells (sweptCells d s h) y))
+
+sweep-same : (d v s h most : ℕ) → smallSweep d s h most ≡ true → (ws : List ℕ) (x : ℕ) →
+    sweepOutcome (sweepInput d v s h ws (lesser x most)) ≡ sweepOutcome (sweepInput d v s h ws x)
 unfolding sweepOutcome sweepRules
-sweep-same d v s h ws x =
+sweep-same d v s h most small ws x =
     go (shapeOk maxSource d v s && stepsOk h) refl ((ltb maxVertices (sweptVertices v h) || ltb maxCells (sweptCells d s h))) refl
   where
     go : (a : Bool) → (shapeOk maxSource d v s && stepsOk h) ≡ a → (b : Bool) →
         (ltb maxVertices (sweptVertices v h) || ltb maxCells (sweptCells d s h)) ≡ b →
-        sweepOutcome (sweepInput d v s h ws (lesser x tableRoom)) ≡ sweepOutcome (sweepInput d v s h ws x)
+        sweepOutcome (sweepInput d v s h ws (lesser x most)) ≡ sweepOutcome (sweepInput d v s h ws x)
     go false e b f = rw e refl
     go true e true f = rw f refl
     go true e false f =
         let l = sweep-limits-are d v s h (ap not e) in
         let n = sweep.small d v s h f .1 in
-        rw (room-cut x tableRoom (tableLength (suc d) (sweptCells d s h)) (table-fits (suc d) (sweptCells d s h) (omega (arith, l .dimension)) n))
-        refl
+        rw (room-cut x most (tableLength (suc d) (sweptCells d s h)) (sweep-fits d s h most small (l .dimension) (l .cells) (l .steps) n)) refl
 
-sweep-room : (d v s h : ℕ) (table : List ℕ) (x : ℕ) → sweepRead d v s h table (lesser x tableRoom) ≡ sweepRead d v s h table x
+sweep-room : (d v s h most : ℕ) → smallSweep d s h most ≡ true → (table : List ℕ) (x : ℕ) →
+    sweepRead d v s h table (lesser x most) ≡ sweepRead d v s h table x
 unfolding sweepRead
-sweep-room d v s h table x = rw (sweep-same d v s h (words16 table) x) refl
+sweep-room d v s h most small table x = rw (sweep-same d v s h most small (words16 table) x) refl
 
 pub sweep-long : (d v s h : ℕ) (table : List ℕ) (x k : ℕ) → sweepRead d v s h table x ≡ accepted k →
     k ≡ length (sweptWords (sweepInput d v s h (words16 table) x))
@@ -221,11 +228,11 @@ sweep-long d v s h table x k e =
     swept-long d v s h (words16 table) x k
     (hosted-accepted (shapeOk maxSource d v s && stepsOk h) table (sweepOutcome (sweepInput d v s h (words16 table) x)) k e)
 
-pub sweep-host : (d v s h : ℕ) (table out : List ℕ) (x : ℕ) (o : Outcome ℕ) → x ≡ lesser (wordsIn out) tableRoom →
-    o ≡ sweepRead d v s h table x →
+pub sweep-host : (d v s h : ℕ) (table out : List ℕ) (x most : ℕ) (o : Outcome ℕ) → smallSweep d s h most ≡ true →
+    x ≡ lesser (wordsIn out) most → o ≡ sweepRead d v s h table x →
     (hostAnswer o ≡ hostSweep d v s h table out)
     × (after o (bytesOf (sweptWords (sweepInput d v s h (words16 table) x))) out ≡ hostSweepBuffer d v s h table out)
 unfolding sweepRead hostSweep hostSweepOutcome hostSweepBuffer sweptWords
-sweep-host d v s h table out x o room e =
-    let q = e ∙ ap (sweepRead d v s h table) room ∙ sweep-room d v s h table (wordsIn out) in
+sweep-host d v s h table out x most o small room e =
+    let q = e ∙ ap (sweepRead d v s h table) room ∙ sweep-room d v s h most small table (wordsIn out) in
     (ap hostAnswer q, ap (λ r. after r (bytesOf (sweptWords (hostSweepInput d v s h table out))) out) q)

@@ -2,6 +2,7 @@
 pub mod Counts
 pub mod Outward
 pub mod Hosting
+pub mod Directly
 pub mod Inward
 pub mod FaceBytes
 pub mod FaceOutcomes

@@ -10,7 +10,7 @@ ghost use Rattle.records.specs.Layout.{tableLength};
 ghost use Rattle.records.specs.Inner.Inside.{Table, Inside};
 ghost use Rattle.boundary.specs.Inner.Walk.{faceAt, tableFaces};
 ghost use Rattle.winged.specs.Host.{hostFaces, hostFacesBuffer};
-ghost use Rattle.winged.specs.Inner.Sent.{tableRoom, faceBytes, facesBytes, facesAnswer, facesAfter};
+ghost use Rattle.winged.specs.Inner.Sent.{smallTable, faceBytes, facesBytes, facesAnswer, facesAfter};
 use crate::sending::minus;
 use boundary::counting::count_faces;
 use boundary::face::face_word;
@@ -18,7 +18,7 @@ use boundary::walk::next_face;
 use records::sizes::face_size;
 use records::sizes::table_words;
 use rules::limits::Shape;
-use tables::sound::is_sound;
+use soundness::is_sound;
 use words::copy::decode;
 
 // The record of face a of cell p as bytes from `at` on; the place behind them.
@@ -85,7 +85,7 @@ pub(crate) fn faces_bytes(
     words: &mut [u16],
     faces: &mut [u8],
 ) -> i64
-    requires { ⌜ length (now words) ≡ tableRoom ⌝ }
+    requires { ⌜ smallTable d s (length (now words)) ≡ true ⌝ }
     ensures answer { λ r. ⌜ r ≡ hostFaces d v s (now (table .entry)) (now (faces .entry)) ⌝ }
     ensures buffer { λ _. ⌜ now (faces .exit) ≡ hostFacesBuffer d v s (now (table .entry)) (now (faces .entry)) ⌝ }
 {

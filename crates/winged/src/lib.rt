@@ -10,9 +10,11 @@ ghost use Rattle.hosting.specs.Reads.{hostReadOutcome, hostReadHeader, hostRead
 ghost use Rattle.page.specs.Key.{textOutcome, textBuffer};
 use crate::faces::faces_bytes;
 use crate::host::sweep_bytes;
-use crate::host::wing_bytes;
+use crate::host::wing_told;
 use crate::sending::answered;
 use crate::sending::is_small;
+use crate::sending::is_small_sweep;
+use direct::lent::in_room;
 use hosting::lists::list_bytes;
 use hosting::moving::move_bytes;
 use hosting::reading::read_bytes;
@@ -20,12 +22,12 @@ use hosting::step_bits::StepBits;
 use page::key::key_text;
 use records::sizes::SMALL_ROOM;
 use records::sizes::TABLE_ROOM;
+use records::sizes::table_words;
 
 mod faces;
 mod host;
 mod reading;
 mod sending;
-mod uploaded;
 
 #[no_mangle]
 pub extern "C" fn winged_wing(
@@ -44,12 +46,14 @@ pub extern "C" fn winged_wing(
     let d = d as usize;
     let v = v as usize;
     let s = s as usize;
-    if is_small(d, s, SMALL_ROOM) {
-        let mut words = [0u16; SMALL_ROOM];
-        return wing_bytes(d, v, s, cells, &mut words, table, uploaded);
+    // Points have no faces to pair.
+    if d == 0 {
+        return wing_told(d, v, s, cells, table, uploaded);
     }
-    let mut words = [0u16; TABLE_ROOM];
-    wing_bytes(d, v, s, cells, &mut words, table, uploaded)
+    if in_room(d, v, s, cells, table, uploaded) {
+        return table_words(d, s) as i64;
+    }
+    wing_told(d, v, s, cells, table, uploaded)
 }
 
 #[no_mangle]
@@ -64,16 +68,20 @@ pub extern "C" fn winged_sweep(
     ensures answer { λ r. ⌜ r ≡ hostSweep d v s h (now (table .entry)) (now (swept .entry)) ⌝ }
     ensures buffer { λ _. ⌜ now (swept .exit) ≡ hostSweepBuffer d v s h (now (table .entry)) (now (swept .entry)) ⌝ }
 {
+    let d = d as usize;
+    let v = v as usize;
+    let s = s as usize;
+    let h = h as usize;
+    if is_small_sweep(d, s, h, 5120) {
+        let mut words = [0u16; 5120];
+        return sweep_bytes(d, v, s, h, table, &mut words, swept);
+    }
+    if is_small_sweep(d, s, h, 20480) {
+        let mut words = [0u16; 20480];
+        return sweep_bytes(d, v, s, h, table, &mut words, swept);
+    }
     let mut words = [0u16; TABLE_ROOM];
-    sweep_bytes(
-        d as usize,
-        v as usize,
-        s as usize,
-        h as usize,
-        table,
-        &mut words,
-        swept,
-    )
+    sweep_bytes(d, v, s, h, table, &mut words, swept)
 }
 
 #[no_mangle]
@@ -81,8 +89,19 @@ pub extern "C" fn winged_faces(d: u32, v: u32, s: u32, table: &[u8], faces: &mut
     ensures answer { λ r. ⌜ r ≡ hostFaces d v s (now (table .entry)) (now (faces .entry)) ⌝ }
     ensures buffer { λ _. ⌜ now (faces .exit) ≡ hostFacesBuffer d v s (now (table .entry)) (now (faces .entry)) ⌝ }
 {
+    let d = d as usize;
+    let v = v as usize;
+    let s = s as usize;
+    if is_small(d, s, 2048) {
+        let mut words = [0u16; 2048];
+        return faces_bytes(d, v, s, table, &mut words, faces);
+    }
+    if is_small(d, s, SMALL_ROOM) {
+        let mut words = [0u16; SMALL_ROOM];
+        return faces_bytes(d, v, s, table, &mut words, faces);
+    }
     let mut words = [0u16; TABLE_ROOM];
-    faces_bytes(d as usize, v as usize, s as usize, table, &mut words, faces)
+    faces_bytes(d, v, s, table, &mut words, faces)
 }
 
 #[no_mangle]

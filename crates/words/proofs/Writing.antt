@@ -4,7 +4,6 @@
 --   left-last                         and with the last piece put
 --   left-word                         one element less
 --   left-one, left-next, left-none    of a list: the element at a place less, put or set; no element is left
---   left-some, left-run               and several less, as they stand there or tabulated
 --   left-value, left-values           of tabulated elements: one less; none is left
 --   left-item, left-items             of the lists of a list's elements: one less; none is left
 --   left-record, left-records         of tabulated lists: one less; none is left
@@ -20,8 +19,8 @@ use mathlib.Core.List.{List, [], _∷_, _++_, map, append-assoc, append-nil}
 use Prim.Native.Nat.{ℕ, _+_, _≤_, _<_}
 use native.Mathlib.Nat.{add-zero}
 use native.Mathlib.Omega.{arith}
-use lib.ListN.{length, drop, getD, set, length-append, length-drop, drop-of-length-le, take, take-append-drop}
-use lib.Seq.{drop-drop, ext-getD, getD-drop, getD-take, length-take-le}
+use lib.ListN.{length, drop, getD, set, length-append, drop-of-length-le, take}
+use lib.Seq.{drop-drop}
 use Rattle.words.specs.Records.{tabulate, concat}
 use Rattle.words.specs.Inner.Placed.{placed, Put}
 use Rattle.words.proofs.Loops.{drop-next}
@@ -110,23 +109,6 @@ module _ {A : Type 0} where
 
     pub left-none : (xs : List A) (k : ℕ) → length xs ≤ k → Left at all old cur (drop k xs) buf → Put at all old cur buf
     left-none xs k h l = left-ends (rw (drop-of-length-le xs h) at l)
-
-    -- m elements from k on
-    module _ (xs : List A) (k m : ℕ) (h : k + m ≤ length xs) (l : Left at all old cur (drop k xs) buf) where
-      pub left-some : (next : ℕ) (new : List A) → Put cur (take m (drop k xs)) buf next new → Left at all old next (drop (k + m) xs) new
-      left-some next new p =
-          let split : drop k xs ≡ take m (drop k xs) ++ drop (k + m) xs = sym (take-append-drop m (drop k xs)) ∙ rw (drop-drop m k xs) in
-          left-goes (take m (drop k xs)) (drop (k + m) xs) next new (rw split at l) p
-
-      pub left-run : (z : A) (f : ℕ → A) (next : ℕ) (new : List A) → ((j : ℕ) → j < m → f j ≡ getD xs (k + j) z) →
-          Put cur (tabulate m f) buf next new → Left at all old next (drop (k + m) xs) new
-      left-run z f next new e p =
-          let long : length (take m (drop k xs)) ≡ m = length-take-le m (drop k xs) (omega (arith, length-drop k xs)) in
-          let same : tabulate m f ≡ take m (drop k xs) =
-          ext-getD z (tabulate m f) (take m (drop k xs)) (tabulate-length m f ∙ sym long)
-          (λ j less. let here : j < m = omega (arith, tabulate-length m f) in
-          tabulate-at m f j z here ∙ e j here ∙ sym (getD-take m (drop k xs) j z here ∙ getD-drop k xs j z)) in
-          left-some next new (rw same at p)
 
     -- element k of n tabulated ones of which those from k on are left
     pub left-value : (n k : ℕ) (f : ℕ → A) (next : ℕ) (x : A) → k < n →

@@ -1,34 +1,49 @@
 -- The cells are linked one after the other.
-use mathlib.Core.Path.{_≡_, refl, subst, _∙_}
+use mathlib.Core.Path.{_≡_, refl, ap, subst, _∙_}
+use mathlib.Core.List.{List}
 use Prim.Native.Nat.{ℕ, suc, _-_, _*_, _≤_}
 use native.Mathlib.Nat.{zero-mul, suc-mul, mul-le-mul-right}
 use native.Mathlib.Numerals.{add-one}
 use native.Mathlib.Omega.{arith}
+use lib.ListN.{length, getD, length-replicate, getD-replicate}
 use borrow.Author.Needs.{needs}
 use Rattle.matching.specs.Inner.Matching.{keyRow, Behind}
-use Rattle.matching.specs.Inner.Buckets.{Linked, Linking}
+use Rattle.matching.specs.Inner.Buckets.{bucketAt}
+use Rattle.matching.specs.Inner.Links.{Linked, Linking}
 use Rattle.matching.proofs.Links.{linking-start}
 use Rattle.matching.proofs.link.Statement.{statement}
 use Rattle.matching.proofs.link.Tie as tie
 
 abbrev Inv-loop : tie.InvT-loop
-Inv-loop s k w first rows prev₀ head₀ p₀ prev head p = (p ≤ s) × Linking (keyRow rows k w first) head prev (p * w) × Behind (s * w) prev prev₀
+Inv-loop s k w first rows head₀ prev₀ p₀ head prev p =
+    (p ≤ s) × Linking (bucketAt (keyRow rows k w first)) head prev 32768 (p * w) × Behind (s * w) prev prev₀
 
 abbrev μ-loop : tie.MeasureT-loop
-μ-loop s k w first rows prev₀ head₀ p₀ prev head p = s - p
+μ-loop s k w first rows head₀ prev₀ p₀ head prev p = s - p
 
 loop-holds : tie.Need-loop-holds Inv-loop μ-loop
-loop-holds c = (omega arith, rw (zero-mul _) (linking-start _ _ (c .pre .2)), (λ g h. refl))
+loop-holds c =
+    let s : tie.Start Inv-loop μ-loop = search needs in
+    let e = s .pre .3 in (
+      omega arith,
+      rw (zero-mul _)
+          (linking-start _ _ _ _ (λ b l. ap (λ (h : List ℕ). getD h b 0) e ∙ getD-replicate 32768 b 65535 0 l)
+          (ap length e ∙ length-replicate {A = ℕ} 32768 65535) (s .pre .2)),
+      (λ g h. refl),
+    )
 
 link-cell-requires : tie.Need-link-cell-requires Inv-loop μ-loop
 link-cell-requires c κs =
-    let s = c .before .before .before .before in
-    ((s .pre .0, omega arith), c .before .before .before .loop .inv .1)
+    let s : tie.Start Inv-loop μ-loop = search needs in
+    let t : tie.At-loop Inv-loop μ-loop = search needs in
+    ((s .pre .0, omega arith), t .loop .inv .1)
 
 loop-again : tie.Need-loop-again Inv-loop μ-loop
 loop-again c =
-    let l = c .before .before .before .before .loop in
-    let a = c .before .before .before .before .before .args in
+    let s : tie.Start Inv-loop μ-loop = search needs in
+    let t : tie.At-loop Inv-loop μ-loop = search needs in
+    let l = t .loop in
+    let a = s .args in
     let most = mul-le-mul-right {m = suc (l .p)} {n = a .s} (a .w) (omega arith) in (
       omega arith,
       rw (add-one, suc-mul) (c .link-cell .ensures .0),
@@ -40,8 +55,8 @@ returns c =
     let a = c .before .before .args in
     let l = c .before .loop in
     let e : l .p ≡ a .s = omega arith in (
-      subst (λ (p : ℕ). Linked (keyRow (a .rows .now) (a .k) (a .w) (a .first)) (l .prev) (p * a .w)) e (l .inv .1 .links),
-      (l .inv .1 .prevLong, l .inv .2),
+      subst (λ (p : ℕ). Linked (bucketAt (keyRow (a .rows .now) (a .k) (a .w) (a .first))) (l .prev) (p * a .w)) e (l .inv .1 .links),
+      ((l .inv .1 .prevLong, l .inv .1 .headLong), l .inv .2),
     )
 
 pub link-spec : {M : Type 1} → statement M

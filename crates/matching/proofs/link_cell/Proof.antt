@@ -6,7 +6,8 @@ use native.Mathlib.Omega.{arith}
 use lib.ListN.{getD, set}
 use borrow.Author.Needs.{needs}
 use Rattle.matching.specs.Inner.Matching.{keyRow, Behind}
-use Rattle.matching.specs.Inner.Buckets.{Linking}
+use Rattle.matching.specs.Inner.Buckets.{bucketAt}
+use Rattle.matching.specs.Inner.Links.{Linking}
 use Rattle.matching.proofs.Links.{linking-more, behind-set, bucket-is, key-below}
 use Rattle.matching.proofs.Weights.{bucket-of, term-within}
 use Rattle.matching.proofs.link_cell.Statement.{statement}
@@ -14,7 +15,7 @@ use Rattle.matching.proofs.link_cell.Tie as tie
 
 abbrev Inv-loop : tie.InvT-loop
 Inv-loop k w first p rows head₀ prev₀ terms sum i₀ head prev i =
-    (i ≤ w) × Linking (keyRow rows k w first) head prev (p * w + i) × Behind (p * w + w) prev prev₀
+    (i ≤ w) × Linking (bucketAt (keyRow rows k w first)) head prev 32768 (p * w + i) × Behind (p * w + w) prev prev₀
 
 abbrev μ-loop : tie.MeasureT-loop
 μ-loop k w first p rows head₀ prev₀ terms sum i₀ head prev i = w - i
@@ -69,10 +70,10 @@ loop-again c =
     let w = weighed turn .weigh in
     let b = (let called : tie.After-bucket Inv-loop μ-loop = search needs in called .bucket) in (
       omega arith,
-      subst (λ (m : ℕ). Linking (keyRow (a .rows .now) (a .k) (a .w) (a .first))
-          (set (l .head) (b .result) (a .p * a .w + l .i)) (set (l .prev) (a .p * a .w + l .i) (getD (l .head) (b .result) 0)) m)
-          (add-assoc (a .p * a .w) _ 1) (linking-more (keyRow (a .rows .now) (a .k) (a .w) (a .first)) _ _ (a .p * a .w + l .i) _
-          (in-table turn)
+      subst (λ (m : ℕ). Linking (bucketAt (keyRow (a .rows .now) (a .k) (a .w) (a .first)))
+          (set (l .head) (b .result) (a .p * a .w + l .i)) (set (l .prev) (a .p * a .w + l .i) (getD (l .head) (b .result) 0)) 32768 m)
+          (add-assoc (a .p * a .w) _ 1) (linking-more (bucketAt (keyRow (a .rows .now) (a .k) (a .w) (a .first))) _ _ 32768 (a .p * a .w + l .i) _
+          (in-table turn) (omega arith)
           (bucket-is (a .p) _ _ (turn .loop-test .taken) (a .rows .now) (a .k) (a .first) _
           (b .ensures .0 ∙ bucket-of (a .rows .now) (a .p) (a .k) (a .first + l .i) (w .result .sum) (w .result .each) (s .pre .0 .0 .vertices)
           (w .ensures .1) (w .ensures .0))) (b .ensures .1)
@@ -86,7 +87,8 @@ returns c =
     let a = s .args in
     let l = c .before .loop in
     let e : l .i ≡ a .w = omega arith in
-    (subst (λ (i : ℕ). Linking (keyRow (a .rows .now) (a .k) (a .w) (a .first)) (l .head) (l .prev) (a .p * a .w + i)) e (l .inv .1), l .inv .2)
+    let key = keyRow (a .rows .now) (a .k) (a .w) (a .first) in
+    (subst (λ (i : ℕ). Linking (bucketAt key) (l .head) (l .prev) 32768 (a .p * a .w + i)) e (l .inv .1), l .inv .2)
 
 pub link-cell-spec : {M : Type 1} → statement M
 link-cell-spec =

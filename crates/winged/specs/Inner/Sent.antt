@@ -2,6 +2,7 @@
 --   lesser a b        the lesser of two numbers
 --   tableRoom         words of the largest table
 --   smallTable d s most    a table of s cells of dimension d has at most so many words, or there is none such
+--   smallSweep d s h most  the same of the sweep of s cells of dimension d in h steps
 --   countOf o         the count of an accepted outcome; 0 of a refused one
 --   sent o t out      the lent bytes when the outcome's count of the words t has gone to their start
 --   wingRead, sweepRead    the outcomes in rooms of so many words
@@ -9,18 +10,19 @@
 --   facesAnswer, facesAfter    what faces answers and leaves in the lent bytes, told from the table's words
 use mathlib.Core.Bool.{Bool, cond, _&&_, _||_}
 use mathlib.Core.List.{List, _++_, map}
-use Prim.Native.Nat.{ℕ, _*_}
+use Prim.Native.Nat.{ℕ, suc, _*_}
 use lib.Dec.{leb, ltb}
 use lib.IntN.{ℤ}
 use lib.ListN.{take, drop}
 use Rattle.words.specs.Records.{concat}
 use Rattle.words.specs.Bytes.{words16, bytesOf}
-use Rattle.rules.specs.Limits.{maxDimension, maxSource, maxCells, stepsOk}
+use Rattle.rules.specs.Limits.{maxDimension, maxSource, maxCells, maxSteps, stepsOk}
 use Rattle.rules.specs.Shapes.{shapeOk}
 use Rattle.rules.specs.Calls.{Outcome, accepted, refused, after}
 use Rattle.simplex.specs.Cell.{Cell}
 use Rattle.records.specs.Layout.{tableLength, faceWords, facesWords}
 use Rattle.wing.specs.Wing.{wingInput, wingOutcome}
+use Rattle.prism.specs.Swept.{sweptCells}
 use Rattle.sweep.specs.Sweep.{sweepOutcome, sweepInput}
 use Rattle.boundary.specs.Faces.{facesInput, FacesInput, boundaryCells, facesOutcome}
 use Rattle.winged.specs.Host.{hosted, hostAnswer, wordsIn, inWords}
@@ -33,6 +35,10 @@ tableRoom = tableLength maxDimension maxCells
 
 abbrev pub smallTable : ℕ → ℕ → ℕ → Bool
 smallTable d s most = ltb maxDimension d || (ltb maxCells s || leb (tableLength d s) most)
+
+abbrev pub smallSweep : ℕ → ℕ → ℕ → ℕ → Bool
+smallSweep d s h most =
+    ltb maxSource d || (ltb maxCells s || (ltb maxSteps h || (ltb maxCells (sweptCells d s h) || leb (tableLength (suc d) (sweptCells d s h)) most)))
 
 abbrev pub countOf : Outcome ℕ → ℕ
 countOf (accepted n) = n

@@ -3,6 +3,7 @@
 --   after-pair        what pairing found, in the words of those laws
 use mathlib.Core.Bool.{true, false}
 use mathlib.Core.List.{List, []}
+use mathlib.Core.Logic.{inr}
 use mathlib.Core.Path.{_≡_, refl, sym, ap, _∙_}
 use Prim.Native.Nat.{ℕ, _+_, _*_}
 use native.Mathlib.Nat.{mul-le-mul, mul-le-mul-right, not-suc-le-zero}
@@ -102,7 +103,14 @@ add-k c = omega arith
 
 earlier-equal-requires : tie.Need-earlier-equal-requires
 earlier-equal-requires c κs = (
-  record { long = c .before .before .pre .0 .2; vertices = omega arith; some = omega arith; most = omega arith; start = omega arith },
+  record {
+    long = c .before .before .pre .0 .2;
+    vertices = omega arith;
+    some = omega arith;
+    most = omega arith;
+    start = omega arith;
+    alike = inr (omega arith);
+  },
   omega arith,
   length-replicate {A = ℕ} 32768 65535,
 )

@@ -1,5 +1,6 @@
 -- What the kernel leaves for the cells tells row 9. Assumes nothing.
-use mathlib.Core.Path.{sym, _∙_}
+use mathlib.Core.Logic.{inl}
+use mathlib.Core.Path.{refl, sym, _∙_}
 use native.Mathlib.Omega.{arith}
 use borrow.Author.Needs.{needs}
 use Rattle.tables.proofs.Faults.{twice-is}
@@ -8,7 +9,7 @@ use Rattle.tables.proofs.adjacency.any_repeated.Tie as tie
 
 earlier-equal-requires : tie.Need-earlier-equal-requires
 earlier-equal-requires c κs = (
-  record { long = c .before .pre .2; vertices = omega arith; some = omega arith; most = omega arith; start = omega arith },
+  record { long = c .before .pre .2; vertices = omega arith; some = omega arith; most = omega arith; start = omega arith; alike = inl refl },
   omega arith,
   c .before .pre .3,
 )

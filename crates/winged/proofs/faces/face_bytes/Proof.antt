@@ -11,7 +11,7 @@ use Rattle.records.specs.Layout.{faceSize, faceWords}
 use Rattle.boundary.specs.Inner.Walk.{faceAt}
 use Rattle.boundary.proofs.FaceWords.{face-long}
 use Rattle.winged.specs.Inner.Sent.{faceBytes}
-use Rattle.winged.proofs.FaceBytes.{bytes-fit, left-bytes}
+use Rattle.direct.proofs.WordBytes.{bytes-fit, left-bytes}
 use Rattle.winged.proofs.faces.face_bytes.Statement.{statement}
 use Rattle.winged.proofs.faces.face_bytes.Tie as tie
 

@@ -15,7 +15,9 @@ use Rattle.rules.specs.Shapes.{shapeOk}
 use Rattle.records.specs.Layout.{tableLength}
 use Rattle.rules.proofs.InLimits.{Limits, limits-are}
 use Rattle.winged.specs.Inner.Sent.{tableRoom, facesAnswer, facesAfter}
-use Rattle.winged.proofs.Inward.{decoded-front, table-fits}
+use Rattle.direct.proofs.WordBytes.{decoded-front}
+use Rattle.direct.proofs.Room.{table-fits}
+use Rattle.winged.proofs.Inward.{small-fits}
 use Rattle.winged.proofs.FaceOutcomes.{host-outside, host-wrong, host-right}
 use Rattle.winged.proofs.faces.faces_bytes.Statement.{statement}
 use Rattle.winged.proofs.faces.faces_bytes.Tie as tie
@@ -38,6 +40,13 @@ few c =
     let l = limits (c .before) in
     let a = start (c .before) .args in
     omega (arith, c .table-words .ensures, table-fits (a .d) (a .s) (l .dimension) (l .cells))
+
+-- and they fit the array
+fits : (c : tie.After-table-words) → c .table-words .result ≤ length (start (c .before) .args .words .now)
+fits c =
+    let l = limits (c .before) in
+    let a = start (c .before) .args in
+    omega (arith, c .table-words .ensures, small-fits (a .d) (a .s) (length (a .words .now)) (start (c .before) .pre) (l .dimension) (l .cells))
 
 -- the decoded words
 front : (c : tie.After-decode) → let n : tie.After-table-words = search needs in
@@ -68,9 +77,8 @@ returns-2 c =
 
 decode-requires : tie.Need-decode-requires
 decode-requires c κs =
-    let s : tie.Start = search needs in
     let two : tie.Else2 = search needs in
-    omega (arith, few (search needs), two .if2 .left, s .pre)
+    omega (arith, fits (search needs), two .if2 .left)
 
 slice-aggregate-faces-from : tie.Need-slice-aggregate-faces-from
 slice-aggregate-faces-from c = sym (length-take-le _ _ (front (search needs) .0))

@@ -49,8 +49,8 @@ returns c =
     let r : tie.After-room = search needs in
     let w : tie.After-words = search needs in
     let send = c .before .before .send in
-    let room = length-take-le (r .room .result) (a .words .now) (m r .0) ∙ r .room .ensures ∙ ap (lesser (wordsIn (a .swept .now))) (s .pre) in
-    let host = sweep-host (a .d) (a .v) (a .s) (a .h) (a .table .now) (a .swept .now) _ _ room (w .before .sweep-words .ensures .0) in
+    let room = length-take-le (r .room .result) (a .words .now) (m r .0) ∙ r .room .ensures in
+    let host = sweep-host (a .d) (a .v) (a .s) (a .h) (a .table .now) (a .swept .now) _ _ _ (s .pre) room (w .before .sweep-words .ensures .0) in
     (toZ-ofZ w64 _ (search needs) ∙ send .ensures .0 ∙ host .0, send .ensures .1 ∙ relayed (relay w) ∙ host .1)
 
 pub sweep-bytes-spec : {M : Type 1} → statement M

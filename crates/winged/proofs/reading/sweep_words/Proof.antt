@@ -1,20 +1,18 @@
 -- The call sweep on bytes: each return is the outcome of its row, and the call is lent the decoded words. Assumes nothing.
 use mathlib.Core.Path.{_≡_, refl, sym, ap, _∙_}
 use mathlib.Core.Bool.{true, not, _&&_}
-use Prim.Native.Nat.{_*_, _≤_}
+use Prim.Native.Nat.{ℕ, _*_, _≤_}
 use native.Mathlib.Omega.{arith}
 use borrow.Author.Needs.{needs}
 use borrow.Author.Tests.{not-true, not-false}
-use lib.ListN.{length, take}
-use lib.Seq.{length-take-le}
-use Rattle.words.specs.Bytes.{words16}
+use lib.ListN.{length, length-replicate}
 use Rattle.rules.specs.Limits.{maxSource, stepsOk}
 use Rattle.rules.specs.Shapes.{shapeOk}
 use Rattle.records.specs.Layout.{tableLength}
-use Rattle.sweep.specs.Sweep.{sweepOutcome, sweepBuffer, sweepInput}
 use Rattle.rules.proofs.InLimits.{SweepLimits, sweep-limits-are}
 use Rattle.winged.specs.Inner.Sent.{tableRoom}
-use Rattle.winged.proofs.Inward.{decoded-front, table-fits, sweep-after, sweep-large, sweep-outside, sweep-wrong, sweep-right}
+use Rattle.direct.proofs.Room.{table-fits}
+use Rattle.winged.proofs.Inward.{sweep-large, sweep-outside, sweep-wrong}
 use Rattle.winged.proofs.reading.sweep_words.Statement.{statement}
 use Rattle.winged.proofs.reading.sweep_words.Tie as tie
 
@@ -66,34 +64,31 @@ returns-3 c =
       refl,
     )
 
-decode-requires : tie.Need-decode-requires
-decode-requires c κs = omega (arith, c .before .if3 .left, c .before .before .if2 .left)
-
--- the decoded words
-front : (c : tie.After-decode) → let n : tie.After-table-words = search needs in
-    (n .table-words .result ≤ length (c .decode .last .1 .0))
-    × (take (n .table-words .result) (c .decode .last .1 .0) ≡ words16 (start (n .before) .args .table .now))
-front c =
-    let two : tie.Else2 = search needs in
-    let one : tie.Else1 = search needs in
-    decoded-front (start one .args .table .now) (c .decode .last .1 .0) _ _ (c .decode .ensures) (two .if2 .left)
-
-slice-aggregate-sweep : tie.Need-slice-aggregate-sweep
-slice-aggregate-sweep c = sym (length-take-le _ _ (front (search needs) .0))
-
-returns-4 : tie.Need-returns-4
-returns-4 c =
-    let call : tie.After-sweep = search needs in
-    let two : tie.Else2 = search needs in
+-- the table that is decoded
+whole : (c : tie.Else3) → let n : tie.After-table-words = search needs in let a = start (n .before) .args in
+    (length (a .table .now) ≡ n .table-words .result * 2) × (n .table-words .result ≡ tableLength (a .d) (a .s))
+whole c =
     let n : tie.After-table-words = search needs in
-    let a = start (n .before) .args in
-    let words = front (search needs) .1 in
-    let x = length (a .out .now) in
-    let o = call .sweep .ensures .0 ∙ ap (λ ws. sweepOutcome (sweepInput (a .d) (a .v) (a .s) (a .h) ws x)) words in (
-      o ∙ sweep-right (a .d) (a .v) (a .s) (a .h) (a .table .now) x (two .if2 .left ∙ twice n),
-      call .sweep .ensures .1 ∙ ap (λ ws. sweepBuffer (sweepInput (a .d) (a .v) (a .s) (a .h) ws x) (a .out .now)) words
-          ∙ sweep-after _ (sweepInput (a .d) (a .v) (a .s) (a .h) (words16 (a .table .now)) x) (a .out .now) o,
-    )
+    let two : tie.Else2 = search needs in
+    (two .if2 .left, n .table-words .ensures)
+
+sweep-decoded-requires : tie.Need-sweep-decoded-requires
+sweep-decoded-requires c κs =
+    let t : tie.Then4 = search needs in
+    let w = whole (search needs) in
+    (w .0, omega (arith, t .if4 .taken, length-replicate {A = ℕ} 512 0), w .1)
+
+sweep-decoded-requires-2 : tie.Need-sweep-decoded-requires-2
+sweep-decoded-requires-2 c κs =
+    let t : tie.Then5 = search needs in
+    let w = whole (search needs) in
+    (w .0, omega (arith, t .if5 .taken, length-replicate {A = ℕ} 4096 0), w .1)
+
+sweep-decoded-requires-3 : tie.Need-sweep-decoded-requires-3
+sweep-decoded-requires-3 c κs =
+    let t : tie.Else3 = search needs in
+    let w = whole t in
+    (w .0, omega (arith, t .if3 .left, length-replicate {A = ℕ} 16384 0), w .1)
 
 pub sweep-words-spec : {M : Type 1} → statement M
 sweep-words-spec =
@@ -106,9 +101,14 @@ sweep-words-spec =
     returns-2
     returns-3
     (λ c. search needs)
-    decode-requires
-    (λ c. front (search needs) .0)
-    slice-aggregate-sweep
-    (λ c κs. search needs)
+    sweep-decoded-requires
     (λ c. search needs)
-    returns-4)
+    (λ c. search needs)
+    (λ c. search needs)
+    sweep-decoded-requires-2
+    (λ c. search needs)
+    (λ c. search needs)
+    (λ c. search needs)
+    sweep-decoded-requires-3
+    (λ c. search needs)
+    (λ c. search needs))

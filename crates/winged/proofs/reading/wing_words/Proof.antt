@@ -20,7 +20,9 @@ use Rattle.solids.specs.Uploaded.{uploadedOfList}
 use Rattle.wing.specs.Wing.{wingInput, wingOutcome}
 use Rattle.rules.proofs.InLimits.{Limits, limits-are}
 use Rattle.winged.specs.Host.{wordsIn}
-use Rattle.winged.proofs.Inward.{decoded-front, list-fits, wing-outside, wing-wrong, wing-right}
+use Rattle.direct.proofs.WordBytes.{decoded-front}
+use Rattle.direct.proofs.Room.{list-fits}
+use Rattle.winged.proofs.Inward.{wing-outside, wing-wrong, wing-right}
 use Rattle.winged.proofs.reading.wing_words.Statement.{statement}
 use Rattle.winged.proofs.reading.wing_words.Tie as tie
 

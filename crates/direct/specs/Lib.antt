@@ -1,0 +1,2 @@
+-- The call wing from bytes to bytes where nothing refuses it.
+pub mod Inner

@@ -1,0 +1,2 @@
+-- Wings made by pairing faces in one pass.
+pub mod Inner

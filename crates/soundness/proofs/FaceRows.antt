@@ -1,0 +1,52 @@
+-- A row of d + 1 vertices less one of them: its vertices, and when two are the same; and the rows of a table.
+use mathlib.Core.Path.{_≡_, ap, sym, _∙_}
+use mathlib.Core.List.{List}
+use mathlib.Core.Bool.{true, false, cond}
+use Prim.Native.Nat.{ℕ, suc, _+_, _≤_, _<_}
+use native.Mathlib.Numerals.{add-one}
+use native.Mathlib.Omega.{arith}
+use lib.Dec.{leb, ltb}
+use lib.ListN.{length, getD}
+use Rattle.simplex.specs.Cell.{Row, sameRow}
+use borrow.Author.Tests.{lt-leb}
+use Rattle.words.proofs.Below.{none-below}
+use Rattle.simplex.specs.Faces.{without}
+use Rattle.simplex.specs.Sort.{Asc}
+use Rattle.simplex.proofs.Without.{without-length}
+use Rattle.records.specs.Layout.{tableLength}
+use Rattle.records.specs.Inner.Inside.{Inside}
+use Rattle.records.proofs.Places.{record-long, row-long}
+use Rattle.soundness.specs.Inner.Certified.{Fine, rowIn}
+use Rattle.tables.proofs.SortedTests.{falls-not}
+use Rattle.matching.proofs.KeptRows.{after-at, before-at, by-ltb, same-false, same-true}
+
+-- vertex j of those left stands at j before position a, and one further after it
+pub left-at : (w : Row) (a j x : ℕ) → x ≡ cond (ltb j a) j (j + 1) → getD (without a w) j 0 ≡ getD w x 0
+left-at w a j x e =
+    by-ltb (λ t. getD (without a w) j 0 ≡ getD w (cond t j (j + 1)) 0) j a (λ l. before-at a j w l)
+    (λ l. after-at a j w l ∙ ap (λ (i : ℕ). getD w i 0) (sym (add-one j)))
+    ∙ ap (λ (i : ℕ). getD w i 0) (sym e)
+
+module _ (d a b : ℕ) (v w : Row) (lv : length v ≡ suc d) (lw : length w ≡ suc d) (ha : a ≤ d) (hb : b ≤ d) where
+  pub rows-same : ((i : ℕ) → i < d → getD (without a v) i 0 ≡ getD (without b w) i 0) → sameRow (without a v) (without b w) ≡ true
+  rows-same all =
+      let n = without-length a v (omega (arith, lv)) in
+      let m = without-length b w (omega (arith, lw)) in
+      same-true (without a v) (without b w) (omega arith) (λ i l. all i (omega arith))
+
+  pub rows-differ : (i x y : ℕ) → x ≡ cond (ltb i a) i (i + 1) → y ≡ cond (ltb i b) i (i + 1) →
+      (getD v x 0 ≡ getD w y 0 → ⊥) → sameRow (without a v) (without b w) ≡ false
+  rows-differ i x y ex ey ne =
+      same-false (without a v) (without b w)
+      (λ e. ne (sym (left-at v a i x ex) ∙ ap (λ (r : Row). getD r i 0) e ∙ left-at w b i y ey))
+
+-- cell p of a table has d + 1 vertices
+pub size-in : (d s p : ℕ) (ws : List ℕ) → Inside d s p ws → length (rowIn d ws p) ≡ suc d
+size-in d s p ws h = row-long d _ (record-long d s p ws (h .number) (h .long))
+
+-- a fine record ascends
+pub rising : (d v s p : ℕ) (ws : List ℕ) → length ws ≡ tableLength d s → p < s → Fine d v ws p → Asc (rowIn d ws p)
+rising d v s p ws long h fine =
+    falls-not d (rowIn d ws p) (row-long d _ (record-long d s p ws h long))
+    (none-below (λ j. leb (getD (rowIn d ws p) (suc j) 0) (getD (rowIn d ws p) j 0)) d
+    (λ j l. lt-leb (getD (rowIn d ws p) (suc j) 0) (getD (rowIn d ws p) j 0) (fine .up j l)))

@@ -1,0 +1,47 @@
+-- The four tests of a meeting. Assumes nothing.
+use mathlib.Core.Path.{_≡_, sym, ap, _∙_}
+use mathlib.Core.Bool.{false≢true}
+use native.Mathlib.Omega.{arith}
+use borrow.Author.Needs.{needs}
+use Rattle.simplex.specs.SignWords.{turnedSign}
+use Rattle.simplex.proofs.Rows.{sameRow-true}
+use Rattle.records.specs.Inner.Inside.{signIn}
+use Rattle.soundness.specs.Inner.Certified.{faceIn}
+use Rattle.soundness.proofs.wings.meets.Statement.{statement}
+use Rattle.soundness.proofs.wings.meets.Tie as tie
+
+returns-4 : tie.Need-returns-4
+returns-4 c e =
+    let other : tie.Else3 = c .before in
+    let apexes : tie.Else2 = other .before .before .before .before .before in
+    let wide : tie.Else1 = apexes .before .before .before in
+    let s : tie.Start = search needs in
+    let a = s .args in
+    record {
+      there = s .pre .4;
+      back = sym (wide .before .before .wing .ensures) ∙ sym (wide .before .wide .ensures) ∙ wide .if1 .left;
+      face = sameRow-true (faceIn (a .d) (a .table .now) (a .p) (a .a)) (faceIn (a .d) (a .table .now) (a .q) (a .b))
+          (sym (c .same-face .ensures) ∙ e);
+      apex = λ z. apexes .if2 .left (apexes .before .before .vertex .ensures ∙ z ∙ sym (apexes .before .vertex2 .ensures));
+      opposite = λ z. other .if3 .left
+          (other .before .before .before .turned .ensures ∙ ap (λ n. turnedSign n (a .a)) (other .before .before .before .before .sign .ensures) ∙ z
+          ∙ sym (other .before .turned2 .ensures ∙ ap (λ n. turnedSign n (a .b)) (other .before .before .sign2 .ensures)));
+    }
+
+pub meets-spec : {M : Type 1} → statement M
+meets-spec =
+    tie.close
+    (tie.spec
+    (λ c κs. search needs)
+    (λ c κs. search needs)
+    (λ c e. absurd (false≢true e))
+    (λ c κs. search needs)
+    (λ c κs. search needs)
+    (λ c e. absurd (false≢true e))
+    (λ c κs. search needs)
+    (λ c κs. search needs)
+    (λ c κs. search needs)
+    (λ c κs. search needs)
+    (λ c e. absurd (false≢true e))
+    (λ c κs. search needs)
+    returns-4)

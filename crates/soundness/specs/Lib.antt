@@ -1,0 +1,2 @@
+-- Soundness told from the wings.
+pub mod Inner
