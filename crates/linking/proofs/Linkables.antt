@@ -1,40 +1,33 @@
--- A table before its keys are linked, and one more key put into its bucket, alone or paired.
+-- A table before its keys are linked, and one more key that is in its bucket, alone or paired.
 -- Assumes nothing.
-use mathlib.Core.Path.{_≡_, refl, sym, ap, _∙_, subst⁻¹}
+use mathlib.Core.Path.{_≡_, refl, sym, ap, _∙_}
 use mathlib.Core.List.{List}
 use Prim.Native.Nat.{ℕ, suc, _+_, _*_, _/_, _%_, _≤_, _<_}
 use native.Mathlib.Nat.{div-lt-iff-lt-mul, mod-lt, not-suc-le-zero}
 use native.Mathlib.Omega.{arith}
-use lib.ListN.{length, getD, set, length-set}
+use lib.ListN.{length, getD}
 use Rattle.records.specs.Layout.{empty}
 use Rattle.records.specs.Inner.Inside.{Table, wingIn}
-use Rattle.soundness.specs.Inner.Hashing.{Chained, bucketAt, faceOf, hashOf}
-use Rattle.soundness.proofs.Chaining.{chained-more, chained-none}
-use Rattle.linking.specs.Inner.Linking.{Apt, Hashes, Joined, Linkable, Linking, SameCells}
+use Rattle.soundness.specs.Inner.Hashing.{Chains, Hashes, hashOf}
+use Rattle.soundness.proofs.Chaining.{chains-none}
+use Rattle.linking.specs.Inner.Linking.{Apt, Joined, Linkable, Linking, SameCells}
 use Rattle.linking.proofs.Passing.{alone-more, face-same, pair-more}
 
-module _ (d s : ℕ) (ws hash head next : List ℕ) (g b : ℕ) (old : Linkable d s ws hash head next g) (hg : g < s * suc d)
-    (e : b ≡ bucketAt (length head) hash g) (hb : b < length head) where
-  pub chained : Chained (bucketAt (length head) hash) (length head) (set head b g) (set next g (getD head b 0)) (g + 1)
-  chained =
-      chained-more (bucketAt (length head) hash) (length head) head next g b (omega arith) (omega (arith, old .deep, hg)) e hb (old .chained)
-
-  more : (ws′ : List ℕ) → SameCells d s ws ws′ → Linking d (s * suc d) ws′ (g + 1) →
-      Linkable d s ws′ hash (set head b g) (set next g (getD head b 0)) (g + 1)
+module _ (d s : ℕ) (ws hash head next head′ next′ : List ℕ) (g : ℕ) (old : Linkable d s ws hash head next g) (hg : g < s * suc d)
+    (long : length next′ ≡ length next) (chains : Chains hash head′ next′ (g + 1)) where
+  more : (ws′ : List ℕ) → SameCells d s ws ws′ → Linking d (s * suc d) ws′ (g + 1) → Linkable d s ws′ hash head′ next′ (g + 1)
   more ws′ same linking = record {
     table = record { dimension = old .table .dimension; cells = old .table .cells; long = same .long ∙ old .table .long };
     wide = old .wide;
-    deep = rw (length-set next g (getD head b 0)) (old .deep);
-    some = rw (length-set head b g) (old .some);
-    few = rw (length-set head b g) (old .few);
+    deep = omega (arith, old .deep, long);
     hashed = λ j l. old .hashed j l ∙ ap hashOf (sym (face-same d s (old .table .cells) ws ws′ same j l));
-    chained = subst⁻¹ (λ n. Chained (bucketAt n hash) n (set head b g) (set next g (getD head b 0)) (g + 1)) (length-set head b g) chained;
+    chains = chains;
     linking = linking;
   }
 
   -- where no key before it has its hash
   pub alone : ((j : ℕ) → j < g → getD hash j 0 ≡ getD hash g 0 → ⊥) →
-      SameCells d s ws ws × Linkable d s ws hash (set head b g) (set next g (getD head b 0)) (g + 1)
+      SameCells d s ws ws × Linkable d s ws hash head′ next′ (g + 1)
   alone none =
       let same : SameCells d s ws ws = record { long = refl; sign = λ q h. refl; cell = λ q h. refl } in (
         same,
@@ -45,7 +38,7 @@ module _ (d s : ℕ) (ws hash head next : List ℕ) (g b : ℕ) (old : Linkable 
   -- where it is paired
   pub paired : (ws′ : List ℕ) (f : ℕ) → f < g → Apt d ws (f / suc d) (f % suc d) (g / suc d) (g % suc d) →
       Joined d s ws ws′ (f / suc d) (f % suc d) (g / suc d) (g % suc d) →
-      SameCells d s ws ws′ × Linkable d s ws′ hash (set head b g) (set next g (getD head b 0)) (g + 1)
+      SameCells d s ws ws′ × Linkable d s ws′ hash head′ next′ (g + 1)
   paired ws′ f l apt now =
       (now .same, more ws′ (now .same) (pair-more d s (old .table .cells) ws ws′ f g l hg (old .linking) apt now))
 
@@ -57,10 +50,8 @@ begins d s ws hash head next t wide deep some few hashed fresh bare = record {
   table = t;
   wide = wide;
   deep = deep;
-  some = some;
-  few = few;
   hashed = hashed;
-  chained = chained-none (bucketAt (length head) hash) (length head) head next fresh;
+  chains = chains-none hash head next some few fresh;
   linking = record {
     done = λ g l. absurd (not-suc-le-zero l);
     ahead = λ g l k. bare (g / suc d) (g % suc d) (div-lt-iff-lt-mul {k = suc d} {x = g} {y = s} (omega arith) .1 l)

@@ -19,8 +19,8 @@ use Rattle.soundness.proofs.FaceRows.{rising}
 use Rattle.gathering.specs.Inner.Gathering.{blankTable}
 use Rattle.gathering.proofs.Assembled.{assembled}
 use Rattle.gathering.proofs.BlankTables.{blank-cell, blank-length}
+use Rattle.soundness.proofs.Linked.{apart, linked}
 use Rattle.linking.specs.Inner.Linking.{Linking, SameCells}
-use Rattle.linking.proofs.Linked.{apart, linked}
 
 -- a record with the same cell is as fine
 fine-same : (d v s p : ℕ) (ws ws′ : List ℕ) → SameCells d s ws ws′ → p < s → Fine d v ws p → Fine d v ws′ p
@@ -50,5 +50,6 @@ module _ (d v s : ℕ) (cells ws : List ℕ) (some : 1 ≤ d) (few : d ≤ 7) (m
 
   pub made : (0 ≡ firstRefusal solidRules (listWith d v s cells)) × (tableOfList (listWith d v s cells) ≡ ws)
   made =
-      assembled d v s cells ws some few most listed long signs fine-now (linked d s ws most all size up) (apart d s ws most all size up)
+      assembled d v s cells ws some few most listed long signs fine-now
+      (linked d s ws most (all .done) size up) (apart d s ws most (all .done) size up)
       (λ p h. same .cell p h ∙ blank-cell d s cells listed p h)

@@ -14,7 +14,8 @@ use Rattle.simplex.specs.SignWords.{turnedSign}
 use Rattle.records.specs.Layout.{empty}
 use Rattle.records.specs.Inner.Inside.{signIn, vertexIn}
 use Rattle.soundness.specs.Inner.Hashing.{faceOf}
-use Rattle.linking.specs.Inner.Linking.{Apt, First, Joined, Linking, MeetsAt, New, SameCells, Second, wingOf}
+use Rattle.soundness.specs.Inner.Pairing.{First, MeetsAt, New, Second, wingOf}
+use Rattle.linking.specs.Inner.Linking.{Apt, Joined, Linking, SameCells}
 
 module _ (d s : ℕ) (small : s ≤ 4096) where
   cell-of : (g : ℕ) → g < s * suc d → g / suc d < s

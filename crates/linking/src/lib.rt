@@ -1,12 +1,11 @@
 // The table of a list of cells, with wings made by pairing faces in one pass.
-mod hashing;
 mod pairing;
 mod setting;
 
-use crate::hashing::hashes;
 use crate::pairing::link_all;
 use gathering::gather;
 use records::sizes::wings_words;
+use soundness::hashing::hashes;
 use soundness::rows::all_fine;
 ghost use mathlib.Core.Path.{_≡_};
 ghost use mathlib.Core.Bool.{true};

@@ -1,44 +1,19 @@
 // Keys in their order, each put into its bucket and paired with the last before it that has its hash. Where that is not the only one with its
-// face, or not one with another apex and the opposite sign, the search is given up; and after sixteen in one bucket.
+// face, or not one with another apex and the opposite sign, the search is given up.
 use crate::setting::set_wing;
 use records::reading::sign;
 use records::reading::vertex;
 use records::reading::wing;
 use records::sizes::EMPTY;
 use simplex::sign_words::turned;
-use soundness::distinct::bucket;
+use soundness::buckets::put;
 use soundness::faces::same_face;
-use soundness::keys::wide;
 ghost use mathlib.Core.Path.{_≡_};
 ghost use mathlib.Core.Bool.{true};
 ghost use Prim.Native.Nat.{ℕ, suc, _+_, _*_, _/_, _%_, _≤_, _<_};
-ghost use lib.ListN.{length, getD};
+ghost use lib.ListN.{length};
 ghost use Rattle.records.specs.Inner.Inside.{Table, Inside};
-ghost use Rattle.soundness.specs.Inner.Hashing.{bucketAt, lastIn};
 ghost use Rattle.linking.specs.Inner.Linking.{Apt, Joined, Linkable, Linking, SameCells};
-
-// The last key before g with its hash, 65535 where there is none, or g where there are too many to look at. The last in its bucket is `first`.
-fn find(hash: &[u32], next: &[u16], buckets: usize, g: usize, first: u16) -> usize
-    requires { ⌜ (g < 32768) × (g < length (now hash)) × (g < length (now next)) ⌝ }
-    requires { ⌜ ((f : ℕ) → f < g → getD (now next) f 0 ≡ lastIn (bucketAt buckets (now hash)) (bucketAt buckets (now hash) f) f) ⌝ }
-    requires { ⌜ first ≡ lastIn (bucketAt buckets (now hash)) (bucketAt buckets (now hash) g) g ⌝ }
-    ensures none { λ r. ⌜ (r ≡ 65535 → (j : ℕ) → j < g → getD (now (hash .entry)) j 0 ≡ getD (now (hash .entry)) g 0 → ⊥) ⌝ }
-{
-    let mut left: usize = 16;
-    let mut f = first;
-    while f != EMPTY {
-        if left == 0 {
-            return g;
-        }
-        left -= 1;
-        let j = wide(f);
-        if hash[j] == hash[g] {
-            return j;
-        }
-        f = next[j];
-    }
-    65535
-}
 
 // Whether place b of cell q can be paired with place a of cell p.
 fn is_apt(d: usize, s: usize, table: &[u16], q: usize, b: usize, p: usize, a: usize) -> bool
@@ -105,6 +80,9 @@ fn pair(d: usize, s: usize, table: &mut [u16], f: usize, p: usize, a: usize) -> 
     if d == 6 {
         return meet(6, s, table, f, p, a);
     }
+    if d == 7 {
+        return meet(7, s, table, f, p, a);
+    }
     meet(d, s, table, f, p, a)
 }
 
@@ -124,12 +102,7 @@ fn link(
     ensures { λ r. ⌜ (r ≡ true → SameCells d s (now (table .entry)) (now (table .exit))
         × Linkable d s (now (table .exit)) (now (hash .entry)) (now (head .exit)) (now (next .exit)) (g + 1)) ⌝ }
 {
-    let n = head.len();
-    let b = bucket(hash[g], n);
-    let first = head[b];
-    next[g] = first;
-    head[b] = g as u16;
-    let f = find(hash, next, n, g, first);
+    let f = put(hash, head, next, g, d + 9);
     if f == 65535 {
         return true;
     }

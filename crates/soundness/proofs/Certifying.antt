@@ -41,8 +41,8 @@ use Rattle.tables.proofs.FaceKeys.{facet-cell}
 use Rattle.tables.proofs.SortedTests.{beyond-last}
 use Rattle.tables.proofs.Spots.{onRow, onSigned, spots, sum-counts, three, total-counts}
 use Rattle.soundness.specs.Inner.Certified.{rowIn, faceIn, Meets, Fine, Linked, Apart}
-use Rattle.soundness.proofs.FaceRows.{rising}
-use Rattle.soundness.proofs.Mating.{meeting, one-cell}
+use Rattle.soundness.proofs.FaceRows.{one-cell, rising}
+use Rattle.soundness.proofs.Mating.{meeting}
 
 abbrev pub cellsIn : ℕ → ℕ → List ℕ → List Cell
 cellsIn d s ws = tabulate s (λ p. entryIn d ws p .cell)
@@ -151,7 +151,7 @@ module _ (d v s : ℕ) (ws : List ℕ) (some : 1 ≤ d) (most : s ≤ 4096) (lon
               let eh = sameRow-true (rowAt (facets cs) h) w (r .8) in
               let x : g / suc d ≡ h / suc d = sym (key-across f g hf hg (λ z. omega (arith, r .3, z)) (ef ∙ sym eg))
               ∙ key-across f h hf hh (λ z. omega (arith, r .3, r .4, z)) (ef ∙ sym eh) in
-              let y : g % suc d ≡ h % suc d = one-cell d s ws length-of rises linked apart (g / suc d) (g % suc d) (h % suc d)
+              let y : g % suc d ≡ h % suc d = one-cell d s ws length-of rises (g / suc d) (g % suc d) (h % suc d)
               (key-cell g hg) (key-place g hg) (key-place h hh)
               (sym (key-row g hg) ∙ eg ∙ sym eh ∙ key-row h hh ∙ ap (λ p. faceIn d ws p (h % suc d)) (sym x)) in
               places g h (λ z. omega (arith, r .4, z)) x y

@@ -1,5 +1,6 @@
 -- Numbers chained by buckets, and a chain followed. bk f is the bucket of number f.
 --   chained-none, chained-more    no number chained, and one more
+--   chains-none, chains-more      the same of a list of hashes
 --   Past Q b i f          the numbers below i in bucket b beyond f have been passed, and Q holds of them; f is the next of them, or 65535
 --   past-start, past-next, past-end       the walk
 use mathlib.Core.Path.{_≡_, refl, sym, ap, _∙_, subst, subst⁻¹}
@@ -12,12 +13,12 @@ use native.Mathlib.Nat.{not-suc-le-zero}
 use native.Mathlib.Numerals.{add-one}
 use native.Mathlib.Omega.{arith}
 use lib.Dec.{eqb}
-use lib.ListN.{length, getD, set}
+use lib.ListN.{length, getD, set, length-set}
 use lib.Seq.{getD-set-same, getD-set-other}
 use borrow.Author.Tests.{eq-eqb, eqb-true, eqb-false}
 use Rattle.matching.specs.Inner.Matching.{lastBelow}
 use Rattle.matching.proofs.Earlier.{last-bounds, last-passes}
-use Rattle.soundness.specs.Inner.Hashing.{lastIn, Chained}
+use Rattle.soundness.specs.Inner.Hashing.{lastIn, Chained, Chains, bucketAt}
 
 -- the last of none
 pub chained-none : (bk : ℕ → ℕ) (n : ℕ) (head next : List ℕ) → ((b : ℕ) → b < n → getD head b 0 ≡ 65535) → Chained bk n head next 0
@@ -46,6 +47,23 @@ module _ (bk : ℕ → ℕ) (n : ℕ) (head next : List ℕ) (m b : ℕ) (room :
 
   pub chained-more : Chained bk n (set head b m) (set next m (getD head b 0)) (m + 1)
   chained-more = record { heads = heads-more; links = links-more }
+
+pub chains-none : (hash head next : List ℕ) → 0 < length head → length head ≤ 65536 → ((b : ℕ) → b < length head → getD head b 0 ≡ 65535) →
+    Chains hash head next 0
+chains-none hash head next some few blank = record {
+  some = some;
+  few = few;
+  chained = chained-none (bucketAt (length head) hash) (length head) head next blank;
+}
+
+pub chains-more : (hash head next : List ℕ) (g b : ℕ) → Chains hash head next g → g < length next → b ≡ bucketAt (length head) hash g →
+    b < length head → Chains hash (set head b g) (set next g (getD head b 0)) (g + 1)
+chains-more hash head next g b old more e hb = record {
+  some = rw (length-set head b g) (old .some);
+  few = rw (length-set head b g) (old .few);
+  chained = subst⁻¹ (λ n. Chained (bucketAt n hash) n (set head b g) (set next g (getD head b 0)) (g + 1)) (length-set head b g)
+      (chained-more (bucketAt (length head) hash) (length head) head next g b (omega arith) more e hb (old .chained));
+}
 
 abbrev pub Past : (ℕ → ℕ) → (ℕ → Type 0) → ℕ → ℕ → ℕ → Type 0
 Past bk Q b i f = ((f ≡ 65535) ⊎ ((f < i) × (bk f ≡ b))) × ((j : ℕ) → j < i → bk j ≡ b → (f ≡ 65535) ⊎ (f < j) → Q j)

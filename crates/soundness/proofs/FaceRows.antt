@@ -3,6 +3,7 @@ use mathlib.Core.Path.{_≡_, ap, sym, _∙_}
 use mathlib.Core.List.{List}
 use mathlib.Core.Bool.{true, false, cond}
 use Prim.Native.Nat.{ℕ, suc, _+_, _≤_, _<_}
+use native.Mathlib.Decide.{decLt}
 use native.Mathlib.Numerals.{add-one}
 use native.Mathlib.Omega.{arith}
 use lib.Dec.{leb, ltb}
@@ -12,11 +13,11 @@ use borrow.Author.Tests.{lt-leb}
 use Rattle.words.proofs.Below.{none-below}
 use Rattle.simplex.specs.Faces.{without}
 use Rattle.simplex.specs.Sort.{Asc}
-use Rattle.simplex.proofs.Without.{without-length}
+use Rattle.simplex.proofs.Without.{without-inj, without-length}
 use Rattle.records.specs.Layout.{tableLength}
 use Rattle.records.specs.Inner.Inside.{Inside}
 use Rattle.records.proofs.Places.{record-long, row-long}
-use Rattle.soundness.specs.Inner.Certified.{Fine, rowIn}
+use Rattle.soundness.specs.Inner.Certified.{Fine, faceIn, rowIn}
 use Rattle.tables.proofs.SortedTests.{falls-not}
 use Rattle.matching.proofs.KeptRows.{after-at, before-at, by-ltb, same-false, same-true}
 
@@ -50,3 +51,13 @@ rising d v s p ws long h fine =
     falls-not d (rowIn d ws p) (row-long d _ (record-long d s p ws h long))
     (none-below (λ j. leb (getD (rowIn d ws p) (suc j) 0) (getD (rowIn d ws p) j 0)) d
     (λ j l. lt-leb (getD (rowIn d ws p) (suc j) 0) (getD (rowIn d ws p) j 0) (fine .up j l)))
+
+-- two faces of one cell differ
+pub one-cell : (d s : ℕ) (ws : List ℕ) → ((p : ℕ) → p < s → length (rowIn d ws p) ≡ suc d) → ((p : ℕ) → p < s → Asc (rowIn d ws p)) →
+    (p a b : ℕ) → p < s → a ≤ d → b ≤ d → faceIn d ws p a ≡ faceIn d ws p b → a ≡ b
+one-cell d s ws long asc p a b hp ha hb e = go (decLt a b) (decLt b a)
+  where
+    go : Dec (a < b) → Dec (b < a) → a ≡ b
+    go (yes l) k = absurd (without-inj (rowIn d ws p) a b (asc p hp) l (omega (arith, long p hp)) e)
+    go (no l) (yes k) = absurd (without-inj (rowIn d ws p) b a (asc p hp) k (omega (arith, long p hp)) (sym e))
+    go (no l) (no k) = omega arith

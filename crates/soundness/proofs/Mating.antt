@@ -9,22 +9,13 @@ use native.Mathlib.Decide.{decLt, ℕ-discrete}
 use lib.ListN.{length}
 use Rattle.simplex.specs.Faces.{without}
 use Rattle.simplex.specs.Sort.{Asc}
-use Rattle.simplex.proofs.Without.{without-inj}
 use Rattle.records.specs.Inner.Inside.{wingIn}
 use Rattle.soundness.specs.Inner.Certified.{rowIn, faceIn, Meets, Leads, Linked, Apart}
+use Rattle.soundness.proofs.FaceRows.{one-cell}
 
 module _ (d s : ℕ) (ws : List ℕ)
     (long : (p : ℕ) → p < s → length (rowIn d ws p) ≡ suc d) (asc : (p : ℕ) → p < s → Asc (rowIn d ws p))
     (linked : (p a : ℕ) → p < s → a ≤ d → Linked d s ws p a) (apart : Apart d s ws) where
-  -- two faces of one cell differ
-  pub one-cell : (p a b : ℕ) → p < s → a ≤ d → b ≤ d → faceIn d ws p a ≡ faceIn d ws p b → a ≡ b
-  one-cell p a b hp ha hb e = go (decLt a b) (decLt b a)
-    where
-      go : Dec (a < b) → Dec (b < a) → a ≡ b
-      go (yes l) k = absurd (without-inj (rowIn d ws p) a b (asc p hp) l (omega (arith, long p hp)) e)
-      go (no l) (yes k) = absurd (without-inj (rowIn d ws p) b a (asc p hp) k (omega (arith, long p hp)) (sym e))
-      go (no l) (no k) = omega arith
-
   -- the leading place that a place goes by
   abbrev Leader : ℕ → ℕ → Type 0
   Leader p a = (q : ℕ) × (b : ℕ) × (q < s) × (b ≤ d) × Leads d ws q b × Meets d ws q b p a
@@ -55,7 +46,7 @@ module _ (d s : ℕ) (ws : List ℕ)
         let z = apart (r .0) (r .1) (t .0) (t .1) (r .2) (r .3) (t .2) (t .3) (r .4) (t .4) (r .5 .face ∙ e ∙ sym (t .5 .face)) in
         let m : Meets d ws (t .0) (t .1) p a = subst (λ x. Meets d ws x (t .1) p a) (z .0) (subst (λ x. Meets d ws (r .0) x p a) (z .1) (r .5)) in
         let y : p ≡ q = sym (m .there) ∙ t .5 .there in
-        two y (one-cell p a b hp ha hb (e ∙ ap (λ x. faceIn d ws x b) (sym y)))
+        two y (one-cell d s ws long asc p a b hp ha hb (e ∙ ap (λ x. faceIn d ws x b) (sym y)))
 
     pub meeting : Meets d ws p a q b ⊎ Meets d ws q b p a
     meeting = go (decLt p (wingIn d ws p a)) (decLt q (wingIn d ws q b))

@@ -1,8 +1,7 @@
-// Whether a table is sound. Its wings tell, if each is looked at from the earlier of two cells and no face stands twice; where they do not tell,
-// all faces are matched.
-pub mod distinct;
+// Whether a table is sound. Its faces are gone through once, and its wings must be what they say; where that is given up, all faces are matched.
+pub mod buckets;
 pub mod faces;
-pub mod hashes;
+pub mod hashing;
 pub mod keys;
 mod rooms;
 pub mod rows;

@@ -1,9 +1,8 @@
 // The test in rooms for so many places, since memory is cleared before it is used. Each of the larger ones is asked for at two
 // places, behind all tests, so that the compiler keeps it apart: a call takes the stack of its own room alone.
-use crate::distinct::all_clear;
-use crate::hashes::hashes;
+use crate::hashing::hashes;
 use crate::rows::all_fine;
-use crate::wings::all_linked;
+use crate::wings::all_right;
 use records::sizes::EMPTY;
 use records::sizes::table_words;
 use records::sizes::wings_words;
@@ -19,26 +18,22 @@ ghost use Rattle.solids.specs.Table.{sound};
 ghost use Rattle.soundness.specs.Inner.Certified.{Fine};
 ghost use Rattle.soundness.specs.Inner.Hashing.{Arrays};
 
-// Whether a table of fine records is sound, told in lent arrays: nothing is marked, and the buckets are empty. False says nothing.
+// Whether a table of fine records is sound, told in lent arrays whose buckets are empty. False says nothing.
 fn in_arrays(
     d: usize,
     v: usize,
     s: usize,
     table: &[u16],
-    links: &mut [u16],
     hash: &mut [u32],
-    keys: &mut [u16],
     head: &mut [u16],
+    next: &mut [u16],
 ) -> bool
     requires { ⌜ Table d s (now table) × (1 ≤ d) × (shapeOk maxDimension d v s ≡ true) × ((p : ℕ) → p < s → Fine d v (now table) p)
-        × Arrays d s (now table) (now links) (now hash) (now keys) (now head) ⌝ }
+        × Arrays (s * suc d) (now hash) (now head) (now next) ⌝ }
     ensures { λ r. ⌜ (r ≡ true → sound d v s (now (table .entry)) ≡ true) ⌝ }
 {
-    if !all_linked(d, s, table, links) {
-        return false;
-    }
-    let n = hashes(d, s, table, hash, keys);
-    all_clear(d, s, table, n, hash, keys, head, links)
+    hashes(d, s, table, hash);
+    all_right(d, s, table, hash, head, next)
 }
 
 // For at most 256 places.
@@ -49,11 +44,10 @@ fn in_256(d: usize, v: usize, s: usize, table: &[u16]) -> bool
     if !all_fine(d, v, s, table) {
         return false;
     }
-    let mut links = [0u16; 256];
     let mut hash = [0u32; 256];
-    let mut keys = [0u16; 256];
     let mut head = [EMPTY; 512];
-    in_arrays(d, v, s, table, &mut links, &mut hash, &mut keys, &mut head)
+    let mut next = [0u16; 256];
+    in_arrays(d, v, s, table, &mut hash, &mut head, &mut next)
 }
 
 // For at most 1,024 places.
@@ -64,11 +58,10 @@ fn in_1024(d: usize, v: usize, s: usize, table: &[u16]) -> bool
     if !all_fine(d, v, s, table) {
         return false;
     }
-    let mut links = [0u16; 1024];
     let mut hash = [0u32; 1024];
-    let mut keys = [0u16; 1024];
     let mut head = [EMPTY; 2048];
-    in_arrays(d, v, s, table, &mut links, &mut hash, &mut keys, &mut head)
+    let mut next = [0u16; 1024];
+    in_arrays(d, v, s, table, &mut hash, &mut head, &mut next)
 }
 
 // For at most 4,096 places.
@@ -79,11 +72,10 @@ fn in_4096(d: usize, v: usize, s: usize, table: &[u16]) -> bool
     if !all_fine(d, v, s, table) {
         return false;
     }
-    let mut links = [0u16; 4096];
     let mut hash = [0u32; 4096];
-    let mut keys = [0u16; 4096];
     let mut head = [EMPTY; 8192];
-    in_arrays(d, v, s, table, &mut links, &mut hash, &mut keys, &mut head)
+    let mut next = [0u16; 4096];
+    in_arrays(d, v, s, table, &mut hash, &mut head, &mut next)
 }
 
 // For at most 8,192 places.
@@ -94,11 +86,10 @@ fn in_8192(d: usize, v: usize, s: usize, table: &[u16]) -> bool
     if !all_fine(d, v, s, table) {
         return false;
     }
-    let mut links = [0u16; 8192];
     let mut hash = [0u32; 8192];
-    let mut keys = [0u16; 8192];
     let mut head = [EMPTY; 16384];
-    in_arrays(d, v, s, table, &mut links, &mut hash, &mut keys, &mut head)
+    let mut next = [0u16; 8192];
+    in_arrays(d, v, s, table, &mut hash, &mut head, &mut next)
 }
 
 // For at most 32,768 places.
@@ -109,11 +100,10 @@ fn in_32768(d: usize, v: usize, s: usize, table: &[u16]) -> bool
     if !all_fine(d, v, s, table) {
         return false;
     }
-    let mut links = [0u16; 32768];
     let mut hash = [0u32; 32768];
-    let mut keys = [0u16; 32768];
-    let mut head = [EMPTY; 32768];
-    in_arrays(d, v, s, table, &mut links, &mut hash, &mut keys, &mut head)
+    let mut head = [EMPTY; 65536];
+    let mut next = [0u16; 32768];
+    in_arrays(d, v, s, table, &mut hash, &mut head, &mut next)
 }
 
 // Whether a table is sound, told from its wings in the room for so many places; false says nothing of one that is.

@@ -1,7 +1,7 @@
-// The wings of a table, looked at from the earlier of two cells: it must meet the later one, whose place is then marked.
-// A wing to an earlier cell must have its mark.
+// The wings of a table, compared with what its faces say: each key in its order is new, or meets the one earlier key that has its face. A new
+// key with a wing waits for its pair; at the end none may wait.
+use crate::buckets::put;
 use crate::faces::same_face;
-use crate::keys::key;
 use crate::keys::wide;
 use records::reading::sign;
 use records::reading::vertex;
@@ -10,147 +10,128 @@ use records::sizes::EMPTY;
 use records::sizes::wings_words;
 use simplex::sign_words::turned;
 ghost use mathlib.Core.Path.{_≡_};
+ghost use mathlib.Core.Logic.{_⊎_};
 ghost use mathlib.Core.Bool.{true};
-ghost use Prim.Native.Nat.{ℕ, suc, _+_, _*_, _≤_, _<_};
+ghost use Prim.Native.Nat.{ℕ, suc, _+_, _*_, _/_, _%_, _≤_, _<_};
 ghost use lib.ListN.{length};
-ghost use Rattle.records.specs.Inner.Inside.{Table, Inside, wingIn};
-ghost use Rattle.soundness.specs.Inner.Certified.{Linked, Meets};
-ghost use Rattle.soundness.specs.Inner.Hashing.{Marked};
+ghost use Rattle.records.specs.Inner.Inside.{Table, Inside};
+ghost use Rattle.soundness.specs.Inner.Certified.{Meets};
+ghost use Rattle.soundness.specs.Inner.Pairing.{First, Second, Passing};
 
-// A position at which the wing of q is p, if there is one. All are looked at, so that no branch depends on the table.
-fn back(d: usize, s: usize, table: &[u16], p: usize, q: usize) -> usize
-    requires { ⌜ Inside d s q (now table) ⌝ }
-    ensures { λ r. ⌜ r ≤ d ⌝ }
-{
-    let mut found: usize = 0;
-    let mut b: usize = 0;
-    while b <= d {
-        if wide(wing(d, s, table, q, b)) == p {
-            found = b;
-        }
-        b += 1;
-    }
-    found
-}
-
-// Whether face a of p, whose wing is q, meets face b of q.
-fn meets(d: usize, s: usize, table: &[u16], p: usize, a: usize, q: usize, b: usize) -> bool
-    requires { ⌜ Inside d s p (now table) × Inside d s q (now table) × (a ≤ d) × (b ≤ d) × (wingIn d (now table) p a ≡ q) ⌝ }
-    ensures { λ r. ⌜ (r ≡ true → Meets d (now (table .entry)) p a q b) ⌝ }
+// Whether face b of q and face a of p meet.
+fn meets(d: usize, s: usize, table: &[u16], q: usize, b: usize, p: usize, a: usize) -> bool
+    requires { ⌜ Inside d s q (now table) × Inside d s p (now table) × (b ≤ d) × (a ≤ d) ⌝ }
+    ensures { λ r. ⌜ (r ≡ true → Meets d (now (table .entry)) q b p a) ⌝ }
 {
     if wide(wing(d, s, table, q, b)) != p {
         return false;
     }
-    if vertex(d, s, table, p, a) == vertex(d, s, table, q, b) {
+    if wide(wing(d, s, table, p, a)) != q {
         return false;
     }
-    if turned(sign(d, s, table, p), a) == turned(sign(d, s, table, q), b) {
+    if vertex(d, s, table, q, b) == vertex(d, s, table, p, a) {
         return false;
     }
-    same_face(d, s, table, p, a, q, b)
+    if turned(sign(d, s, table, q), b) == turned(sign(d, s, table, p), a) {
+        return false;
+    }
+    same_face(d, s, table, q, b, p, a)
 }
 
-// Whether face a of p, whose wing is the later cell q, meets a face there. The place that it meets is marked.
-fn meets_there(
-    d: usize,
-    s: usize,
-    table: &[u16],
-    p: usize,
-    a: usize,
-    q: usize,
-    mark: &mut [u16],
-) -> bool
-    requires { ⌜ Inside d s p (now table) × Inside d s q (now table) × (a ≤ d) × (wingIn d (now table) p a ≡ q) × (p < q) ⌝ }
-    requires { ⌜ (s ≤ 4096) × (s * suc d ≤ length (now mark)) × Marked d (now table) (now mark) ⌝ }
-    ensures linked { λ r. ⌜ (r ≡ true → Linked d s (now (table .entry)) p a) ⌝ }
-    ensures marked { λ _. ⌜ (length (now (mark .exit)) ≡ length (now (mark .entry))) × Marked d (now (table .entry)) (now (mark .exit)) ⌝ }
+// Whether key f meets place a of p.
+fn meets_key(d: usize, s: usize, table: &[u16], f: usize, p: usize, a: usize) -> bool
+    requires { ⌜ Table d s (now table) × (f < s * suc d) × (p < s) × (a ≤ d) ⌝ }
+    ensures { λ r. ⌜ (r ≡ true → Meets d (now (table .entry)) (f / suc d) (f % suc d) p a) ⌝ }
 {
-    let b = back(d, s, table, p, q);
-    if meets(d, s, table, p, a, q, b) {
-        let g = key(d, s, q, b);
-        mark[g] = 1;
-        return true;
-    }
-    false
+    let k = d + 1;
+    meets(d, s, table, f / k, f % k, p, a)
 }
 
 // The same; where the compiler knows the dimension it writes the loops out.
-fn meets_later(
-    d: usize,
-    s: usize,
-    table: &[u16],
-    p: usize,
-    a: usize,
-    q: usize,
-    mark: &mut [u16],
-) -> bool
-    requires { ⌜ Inside d s p (now table) × Inside d s q (now table) × (a ≤ d) × (wingIn d (now table) p a ≡ q) × (p < q) ⌝ }
-    requires { ⌜ (s ≤ 4096) × (s * suc d ≤ length (now mark)) × Marked d (now table) (now mark) ⌝ }
-    ensures linked { λ r. ⌜ (r ≡ true → Linked d s (now (table .entry)) p a) ⌝ }
-    ensures marked { λ _. ⌜ (length (now (mark .exit)) ≡ length (now (mark .entry))) × Marked d (now (table .entry)) (now (mark .exit)) ⌝ }
+fn is_met(d: usize, s: usize, table: &[u16], f: usize, p: usize, a: usize) -> bool
+    requires { ⌜ Table d s (now table) × (f < s * suc d) × (p < s) × (a ≤ d) ⌝ }
+    ensures { λ r. ⌜ (r ≡ true → Meets d (now (table .entry)) (f / suc d) (f % suc d) p a) ⌝ }
 {
     if d == 1 {
-        return meets_there(1, s, table, p, a, q, mark);
+        return meets_key(1, s, table, f, p, a);
     }
     if d == 2 {
-        return meets_there(2, s, table, p, a, q, mark);
+        return meets_key(2, s, table, f, p, a);
     }
     if d == 3 {
-        return meets_there(3, s, table, p, a, q, mark);
+        return meets_key(3, s, table, f, p, a);
     }
     if d == 4 {
-        return meets_there(4, s, table, p, a, q, mark);
+        return meets_key(4, s, table, f, p, a);
     }
     if d == 5 {
-        return meets_there(5, s, table, p, a, q, mark);
+        return meets_key(5, s, table, f, p, a);
     }
     if d == 6 {
-        return meets_there(6, s, table, p, a, q, mark);
+        return meets_key(6, s, table, f, p, a);
     }
-    meets_there(d, s, table, p, a, q, mark)
+    if d == 7 {
+        return meets_key(7, s, table, f, p, a);
+    }
+    meets_key(d, s, table, f, p, a)
 }
 
-// Whether place a of cell p, whose key is g, is linked. The place that it meets is marked.
-fn is_linked(
+// In place of a count: the table is given up.
+const GIVEN_UP: usize = 65535;
+
+// Key g, which is place a of cell p, where n wait; how many wait then.
+fn pass(
     d: usize,
     s: usize,
     table: &[u16],
+    hash: &[u32],
+    head: &mut [u16],
+    next: &mut [u16],
+    g: usize,
     p: usize,
     a: usize,
-    g: usize,
-    mark: &mut [u16],
-) -> bool
-    requires { ⌜ Inside d s p (now table) × (a ≤ d) × (g ≡ p * suc d + a) × (s ≤ 4096) × (s * suc d ≤ length (now mark))
-        × Marked d (now table) (now mark) ⌝ }
-    ensures linked { λ r. ⌜ (r ≡ true → Linked d s (now (table .entry)) p a) ⌝ }
-    ensures marked { λ _. ⌜ (length (now (mark .exit)) ≡ length (now (mark .entry))) × Marked d (now (table .entry)) (now (mark .exit)) ⌝ }
+    n: usize,
+) -> usize
+    requires { ⌜ Passing d s (now table) (now hash) (now head) (now next) g n × (p < s) × (a ≤ d) × (g ≡ p * suc d + a) ⌝ }
+    ensures { λ r. ⌜ ((r ≡ 65535 → ⊥) → Passing d s (now (table .entry)) (now (hash .entry)) (now (head .exit)) (now (next .exit)) (g + 1) r) ⌝ }
 {
-    let w = wing(d, s, table, p, a);
-    let q = wide(w);
-    if q <= p {
-        return mark[g] != 0;
+    let f = put(hash, head, next, g, d + 9);
+    if f == 65535 {
+        if wing(d, s, table, p, a) == EMPTY {
+            return n;
+        }
+        return n + 1;
     }
-    if w == EMPTY {
-        return true;
+    if g <= f {
+        return GIVEN_UP;
     }
-    if s <= q {
-        return false;
+    if is_met(d, s, table, f, p, a) {
+        return n - 1;
     }
-    meets_later(d, s, table, p, a, q, mark)
+    GIVEN_UP
 }
 
-// Whether all places are, in the order of their keys.
-pub fn all_linked(d: usize, s: usize, table: &[u16], mark: &mut [u16]) -> bool
-    requires { ⌜ Table d s (now table) × (s * suc d ≤ length (now mark)) × Marked d (now table) (now mark) ⌝ }
-    ensures linked { λ r. ⌜ (r ≡ true → (p a : ℕ) → p < s → a ≤ d → Linked d s (now (table .entry)) p a) ⌝ }
-    ensures long { λ _. ⌜ length (now (mark .exit)) ≡ length (now (mark .entry)) ⌝ }
+// All keys, in their order; whether all are right, and none waits.
+pub(crate) fn all_right(
+    d: usize,
+    s: usize,
+    table: &[u16],
+    hash: &[u32],
+    head: &mut [u16],
+    next: &mut [u16],
+) -> bool
+    requires { ⌜ Passing d s (now table) (now hash) (now head) (now next) 0 0 ⌝ }
+    ensures right { λ r. ⌜ (r ≡ true → (g : ℕ) → g < s * suc d → First d (now (table .entry)) (s * suc d) g ⊎ Second d (now (table .entry)) g) ⌝ }
+    ensures long { λ _. ⌜ (length (now (head .exit)) ≡ length (now (head .entry))) × (length (now (next .exit)) ≡ length (now (next .entry))) ⌝ }
 {
-    let n = wings_words(d, s);
+    let keys = wings_words(d, s);
+    let mut n: usize = 0;
     let mut p: usize = 0;
     let mut a: usize = 0;
     let mut g: usize = 0;
-    while g < n {
-        if !is_linked(d, s, table, p, a, g, mark) {
+    while g < keys {
+        n = pass(d, s, table, hash, head, next, g, p, a, n);
+        if n == GIVEN_UP {
             return false;
         }
         g += 1;
@@ -161,5 +142,5 @@ pub fn all_linked(d: usize, s: usize, table: &[u16], mark: &mut [u16]) -> bool
             p += 1;
         }
     }
-    true
+    n == 0
 }

@@ -1,40 +1,20 @@
 -- A table whose wings are being made: its places are gone through by their keys, and each is paired with an earlier one that has its face.
---   wingOf d ws g         the wing at key g
---   MeetsAt d ws f g      the places of keys f and g meet
---   New d ws g            no earlier key has the face of key g
---   First d ws m g        key g is new, and has no wing yet, or meets a later key below m
---   Second d ws g         an earlier key meets key g
 --   Linking d n ws m      of n keys those below m are first or second, and the others have no wing
 --   SameCells d s ws ws′  the cells of two tables are the same
 --   Apt d ws q b p a      place b of cell q, which has no wing, can be paired with place a of cell p
 --   Joined d s ws ws′ q b p a     they are paired; all else is as it was
---   Hashes d ws hash n    the hashes of n keys
---   Linkable .. g         a table whose keys below g are linked and chained, and the room for the others
+--   Linkable .. g         a table whose keys below g are linked and in their buckets, and the room for the others
 use mathlib.Core.Path.{_≡_}
 use mathlib.Core.Logic.{_⊎_}
 use mathlib.Core.List.{List}
-use Prim.Native.Nat.{ℕ, suc, _*_, _/_, _%_, _≤_, _<_}
-use lib.ListN.{length, getD}
+use Prim.Native.Nat.{ℕ, suc, _*_, _≤_, _<_}
+use lib.ListN.{length}
 use Rattle.simplex.specs.SignWords.{turnedSign}
 use Rattle.records.specs.Layout.{empty, entryIn}
 use Rattle.records.specs.Inner.Inside.{Table, signIn, vertexIn, wingIn}
-use Rattle.soundness.specs.Inner.Certified.{Meets, faceIn}
-use Rattle.soundness.specs.Inner.Hashing.{Chained, bucketAt, faceOf, hashOf}
-
-abbrev pub wingOf : ℕ → List ℕ → ℕ → ℕ
-wingOf d ws g = wingIn d ws (g / suc d) (g % suc d)
-
-abbrev pub MeetsAt : ℕ → List ℕ → ℕ → ℕ → Type 0
-MeetsAt d ws f g = Meets d ws (f / suc d) (f % suc d) (g / suc d) (g % suc d)
-
-abbrev pub New : ℕ → List ℕ → ℕ → Type 0
-New d ws g = (j : ℕ) → j < g → faceOf d ws j ≡ faceOf d ws g → ⊥
-
-abbrev pub First : ℕ → List ℕ → ℕ → ℕ → Type 0
-First d ws m g = New d ws g × ((wingOf d ws g ≡ empty) ⊎ ((h : ℕ) × (g < h) × (h < m) × MeetsAt d ws g h))
-
-abbrev pub Second : ℕ → List ℕ → ℕ → Type 0
-Second d ws g = (f : ℕ) × (f < g) × MeetsAt d ws f g
+use Rattle.soundness.specs.Inner.Certified.{faceIn}
+use Rattle.soundness.specs.Inner.Hashing.{Chains, Hashes}
+use Rattle.soundness.specs.Inner.Pairing.{First, Second, wingOf}
 
 pub record Linking (d n : ℕ) (ws : List ℕ) (m : ℕ) : Type 0 where
   pub done : (g : ℕ) → g < m → First d ws m g ⊎ Second d ws g
@@ -57,15 +37,10 @@ pub record Joined (d s : ℕ) (ws ws′ : List ℕ) (q b p a : ℕ) : Type 0 whe
   pub back : wingIn d ws′ p a ≡ q
   pub rest : (x y : ℕ) → x < s → y ≤ d → (x ≡ q → y ≡ b → ⊥) → (x ≡ p → y ≡ a → ⊥) → wingIn d ws′ x y ≡ wingIn d ws x y
 
-abbrev pub Hashes : ℕ → List ℕ → List ℕ → ℕ → Type 0
-Hashes d ws hash n = (g : ℕ) → g < n → getD hash g 0 ≡ hashOf (faceOf d ws g)
-
 pub record Linkable (d s : ℕ) (ws hash head next : List ℕ) (g : ℕ) : Type 0 where
   pub table : Table d s ws
   pub wide : s * suc d ≤ length hash
   pub deep : s * suc d ≤ length next
-  pub some : 0 < length head
-  pub few : length head ≤ 65536
   pub hashed : Hashes d ws hash (s * suc d)
-  pub chained : Chained (bucketAt (length head) hash) (length head) head next g
+  pub chains : Chains hash head next g
   pub linking : Linking d (s * suc d) ws g

@@ -5,14 +5,12 @@
 --   hashOf w              those of its weight
 --   bucketIn n h          the bucket of a hash, of n buckets
 --   faceOf d ws g         the face of key g
---   LeadsAt d ws g        the place of key g stands for its face
---   Hashed .. n m         of the keys below m, those that lead are n in a list, beside it the hashes of their faces
+--   Hashes d ws hash n    the hashes of the faces of n keys
 --   lastIn bk b m         the last number below m in bucket b, or 65535; bk f is the bucket of number f
 --   Chained bk n head next m      head has the last number below m of each of n buckets, next for each number the one before it in its bucket
 --   bucketAt n hash f     the bucket of number f of a list of hashes
---   Clear .. i            no number before i in its bucket has the face of number i
---   Marked d ws mark      a place that is marked is met by a place of an earlier cell
---   Arrays d s ws ..      arrays for the places of s cells: nothing is marked, and all buckets are empty
+--   Chains hash head next m       the numbers below m of a list of hashes are chained, in as many buckets as head has
+--   Arrays n hash head next       arrays for n keys, with all buckets empty
 use mathlib.Core.Path.{_≡_}
 use mathlib.Core.List.{List, [], _∷_}
 use Prim.Native.Nat.{ℕ, suc, _+_, _*_, _/_, _%_, _≤_, _<_}
@@ -20,7 +18,7 @@ use lib.Dec.{eqb}
 use lib.ListN.{length, getD}
 use Rattle.simplex.specs.Cell.{Row}
 use Rattle.matching.specs.Inner.Matching.{lastBelow}
-use Rattle.soundness.specs.Inner.Certified.{faceIn, Leads, Meets}
+use Rattle.soundness.specs.Inner.Certified.{faceIn}
 
 unfoldable pub term : ℕ → ℕ
 term x = x * (x * (x + 123456789) + 362436069)
@@ -41,14 +39,8 @@ bucketIn n h = h * n / 4294967296
 abbrev pub faceOf : ℕ → List ℕ → ℕ → Row
 faceOf d ws g = faceIn d ws (g / suc d) (g % suc d)
 
-abbrev pub LeadsAt : ℕ → List ℕ → ℕ → Type 0
-LeadsAt d ws g = Leads d ws (g / suc d) (g % suc d)
-
-pub record Hashed (d : ℕ) (ws hash keys : List ℕ) (n m : ℕ) : Type 0 where
-  pub few : n ≤ m
-  pub key : (i : ℕ) → i < n → getD keys i 0 < m
-  pub hashed : (i : ℕ) → i < n → getD hash i 0 ≡ hashOf (faceOf d ws (getD keys i 0))
-  pub all : (g : ℕ) → g < m → LeadsAt d ws g → (i : ℕ) × (i < n) × (getD keys i 0 ≡ g)
+abbrev pub Hashes : ℕ → List ℕ → List ℕ → ℕ → Type 0
+Hashes d ws hash n = (g : ℕ) → g < n → getD hash g 0 ≡ hashOf (faceOf d ws g)
 
 unfoldable pub lastIn : (ℕ → ℕ) → ℕ → ℕ → ℕ
 lastIn bk b m = lastBelow (λ f. eqb (bk f) b) m
@@ -60,19 +52,14 @@ pub record Chained (bk : ℕ → ℕ) (n : ℕ) (head next : List ℕ) (m : ℕ)
 abbrev pub bucketAt : ℕ → List ℕ → ℕ → ℕ
 bucketAt n hash f = bucketIn n (getD hash f 0)
 
-abbrev pub Clear : ℕ → List ℕ → ℕ → List ℕ → List ℕ → ℕ → Type 0
-Clear d ws n hash keys i = (j : ℕ) → j < i → bucketAt n hash j ≡ bucketAt n hash i →
-    faceOf d ws (getD keys j 0) ≡ faceOf d ws (getD keys i 0) → ⊥
-
-abbrev pub Marked : ℕ → List ℕ → List ℕ → Type 0
-Marked d ws mark = (g : ℕ) → (getD mark g 0 ≡ 0 → ⊥) →
-    (q : ℕ) × (b : ℕ) × (q < g / suc d) × (b ≤ d) × Meets d ws q b (g / suc d) (g % suc d)
-
-pub record Arrays (d s : ℕ) (ws links hash keys head : List ℕ) : Type 0 where
-  pub links-room : s * suc d ≤ length links
-  pub hash-room : s * suc d ≤ length hash
-  pub keys-room : s * suc d ≤ length keys
+pub record Chains (hash head next : List ℕ) (m : ℕ) : Type 0 where
   pub some : 0 < length head
   pub few : length head ≤ 65536
-  pub unmarked : Marked d ws links
+  pub chained : Chained (bucketAt (length head) hash) (length head) head next m
+
+pub record Arrays (n : ℕ) (hash head next : List ℕ) : Type 0 where
+  pub hash-room : n ≤ length hash
+  pub next-room : n ≤ length next
+  pub some : 0 < length head
+  pub few : length head ≤ 65536
   pub blank : (b : ℕ) → b < length head → getD head b 0 ≡ 65535

@@ -9,7 +9,7 @@ use borrow.Author.Tests.{not-false}
 use Rattle.rules.specs.Limits.{maxDimension}
 use Rattle.rules.specs.Shapes.{shapeOk}
 use Rattle.rules.proofs.InLimits.{Limits, limits-are}
-use Rattle.soundness.proofs.Marking.{few-keys}
+use Rattle.soundness.proofs.Places.{few-keys}
 use Rattle.direct.specs.Inner.Direct.{Direct, Lent}
 use Rattle.direct.proofs.Directly.{direct-keeps}
 use Rattle.direct.proofs.Room.{list-fits}

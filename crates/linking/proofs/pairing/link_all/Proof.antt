@@ -8,7 +8,7 @@ use native.Mathlib.Omega.{arith}
 use lib.ListN.{length}
 use borrow.Author.Needs.{needs}
 use borrow.Author.Tests.{not-false}
-use Rattle.soundness.proofs.Marking.{cell-below}
+use Rattle.soundness.proofs.Places.{cell-below}
 use Rattle.linking.specs.Inner.Linking.{Linkable, Linking, SameCells}
 use Rattle.linking.proofs.WingSet.{cells-still}
 use Rattle.linking.proofs.pairing.link_all.Statement.{statement}

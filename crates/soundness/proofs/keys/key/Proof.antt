@@ -4,7 +4,7 @@ use Prim.Native.Nat.{suc, _+_, _*_, _<_}
 use native.Mathlib.Numerals.{add-one}
 use native.Mathlib.Omega.{arith}
 use borrow.Author.Needs.{needs}
-use Rattle.soundness.proofs.Marking.{few-keys, key-inside}
+use Rattle.soundness.proofs.Places.{few-keys, key-inside}
 use Rattle.soundness.proofs.keys.key.Statement.{statement}
 use Rattle.soundness.proofs.keys.key.Tie as tie
 

@@ -3,7 +3,7 @@ use mathlib.Core.Bool.{false≢true}
 use native.Mathlib.Omega.{arith}
 use borrow.Author.Needs.{needs}
 use borrow.Author.Tests.{not-false}
-use Rattle.soundness.proofs.Marking.{arrays-made}
+use Rattle.soundness.proofs.Places.{arrays-made}
 use Rattle.soundness.proofs.rooms.in_8192.Statement.{statement}
 use Rattle.soundness.proofs.rooms.in_8192.Tie as tie
 
@@ -12,9 +12,8 @@ in-arrays-requires c κs =
     let s : tie.Start = search needs in
     let f : tie.After-all-fine = search needs in
     let o : tie.Else1 = search needs in
-    let a = s .args in
     let fine = f .all-fine .ensures (not-false _ (o .if1 .left)) in
-    (s .pre .0, s .pre .1, s .pre .3, fine, arrays-made (a .d) (a .s) 8192 16384 (a .table .now) (s .pre .2) (omega arith) (omega arith))
+    (s .pre .0, s .pre .1, s .pre .3, fine, arrays-made _ 8192 16384 (s .pre .2) (omega arith) (omega arith))
 
 pub in-8192-spec : {M : Type 1} → statement M
 in-8192-spec =
@@ -22,7 +21,6 @@ in-8192-spec =
     (tie.spec
     (λ c κs. search needs)
     (λ c e. absurd (false≢true e))
-    (λ c. search needs)
     (λ c. search needs)
     (λ c. search needs)
     (λ c. search needs)

@@ -13,7 +13,7 @@ use Rattle.rules.proofs.InLimits.{Limits, limits-are}
 use Rattle.records.specs.Layout.{tableLength}
 use Rattle.records.specs.Inner.Inside.{Table}
 use Rattle.solids.specs.Table.{sound}
-use Rattle.soundness.proofs.Marking.{few-keys}
+use Rattle.soundness.proofs.Places.{few-keys}
 use Rattle.soundness.proofs.rooms.is_certified.Statement.{statement}
 use Rattle.soundness.proofs.rooms.is_certified.Tie as tie
 
