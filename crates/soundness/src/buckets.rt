@@ -1,10 +1,10 @@
-// Keys put into buckets of their hashes, and the last before a key that has its hash.
+// Keys put into buckets of their hashes, where no key before them has the hash.
 use crate::keys::wide;
 use records::sizes::EMPTY;
 ghost use mathlib.Core.Path.{_≡_};
 ghost use Prim.Native.Nat.{ℕ, _+_, _≤_, _<_};
 ghost use lib.ListN.{length, getD};
-ghost use Rattle.soundness.specs.Inner.Hashing.{bucketIn, bucketAt, lastIn, Chains};
+ghost use Rattle.soundness.specs.Inner.Hashing.{bucketIn, Chain, Chains};
 
 fn widest(x: u32) -> u64
     ensures { λ r. ⌜ (r ≡ x) × (r < 4294967296) ⌝ }
@@ -20,13 +20,11 @@ fn bucket(h: u32, n: usize) -> usize
     (widest(h) * n as u64 / 4294967296) as usize
 }
 
-// The last key before g with its hash, 65535 where there is none, or g where more than so many are to be looked at. The last in its bucket is
-// `first`. The bound is no constant, or the compiler would write the loop out, and then not put it into its callers.
+// A key before g with its hash, 65535 where there is none, or g where more than so many are to be looked at. The last in its bucket is `first`. The bound is no constant, or the compiler would write the loop out, and then not put it into its callers.
 fn find(hash: &[u32], next: &[u16], buckets: usize, g: usize, first: u16, most: usize) -> usize
-    requires { ⌜ (g < 32768) × (g < length (now hash)) × (g < length (now next)) ⌝ }
-    requires { ⌜ ((f : ℕ) → f < g → getD (now next) f 0 ≡ lastIn (bucketAt buckets (now hash)) (bucketAt buckets (now hash) f) f) ⌝ }
-    requires { ⌜ first ≡ lastIn (bucketAt buckets (now hash)) (bucketAt buckets (now hash) g) g ⌝ }
+    requires { ⌜ Chain buckets (now hash) (now next) g first × (g < 32768) × (g < length (now hash)) × (g < length (now next)) ⌝ }
     ensures none { λ r. ⌜ (r ≡ 65535 → (j : ℕ) → j < g → getD (now (hash .entry)) j 0 ≡ getD (now (hash .entry)) g 0 → ⊥) ⌝ }
+    ensures found { λ r. ⌜ (r < g → getD (now (hash .entry)) r 0 ≡ getD (now (hash .entry)) g 0) ⌝ }
 {
     let mut left = most;
     let mut f = first;
@@ -44,18 +42,21 @@ fn find(hash: &[u32], next: &[u16], buckets: usize, g: usize, first: u16, most: 
     65535
 }
 
-// Puts key g into its bucket, and answers the last key before it that has its hash: 65535 where there is none, g where more than so many are
-// to be looked at.
+// A key before g with its hash: 65535 where there is none, and then key g is put into its bucket; g where more than so many are to be looked at.
 pub fn put(hash: &[u32], head: &mut [u16], next: &mut [u16], g: usize, most: usize) -> usize
     requires { ⌜ Chains (now hash) (now head) (now next) g × (g < 32768) × (g < length (now hash)) × (g < length (now next)) ⌝ }
-    ensures chains { λ _. ⌜ Chains (now (hash .entry)) (now (head .exit)) (now (next .exit)) (g + 1) ⌝ }
+    ensures chains { λ r. ⌜ ((g ≤ r → r ≡ 65535) → Chains (now (hash .entry)) (now (head .exit)) (now (next .exit)) (g + 1)) ⌝ }
     ensures none { λ r. ⌜ (r ≡ 65535 → (j : ℕ) → j < g → getD (now (hash .entry)) j 0 ≡ getD (now (hash .entry)) g 0 → ⊥) ⌝ }
     ensures long { λ _. ⌜ (length (now (head .exit)) ≡ length (now (head .entry))) × (length (now (next .exit)) ≡ length (now (next .entry))) ⌝ }
 {
     let n = head.len();
     let b = bucket(hash[g], n);
     let first = head[b];
-    next[g] = first;
-    head[b] = g as u16;
-    find(hash, next, n, g, first, most)
+    let f = find(hash, next, n, g, first, most);
+    if f == 65535 {
+        next[g] = first;
+        head[b] = g as u16;
+        return 65535;
+    }
+    f
 }

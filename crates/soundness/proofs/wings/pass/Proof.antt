@@ -42,7 +42,7 @@ returns c z =
     let a = s .args in
     let e : wingOf (a .d) (a .table .now) (a .g) ≡ empty = rw (cell s) (rw (place s) (sym (w .wing .ensures) ∙ two .if2 .taken)) in
     pass-alone (a .d) (a .s) (a .table .now) (a .hash .now) (a .head .now) (a .next .now) _ _ (a .g) (a .n) (s .pre .0) (inside s .0)
-    (r .put .ensures .1 .1 .1) (r .put .ensures .0) (r .put .ensures .1 .0 (one .if1 .taken)) e
+    (r .put .ensures .1 .1 .1) (r .put .ensures .0 (λ l. one .if1 .taken)) (r .put .ensures .1 .0 (one .if1 .taken)) e
 
 returns-2 : tie.Need-returns-2
 returns-2 c z =
@@ -51,7 +51,7 @@ returns-2 c z =
     let one : tie.Then1 = search needs in
     let a = s .args in
     pass-waits (a .d) (a .s) (a .table .now) (a .hash .now) (a .head .now) (a .next .now) _ _ (a .g) (a .n) (s .pre .0) (inside s .0)
-    (r .put .ensures .1 .1 .1) (r .put .ensures .0) (r .put .ensures .1 .0 (one .if1 .taken))
+    (r .put .ensures .1 .1 .1) (r .put .ensures .0 (λ l. one .if1 .taken)) (r .put .ensures .1 .0 (one .if1 .taken))
 
 -- an earlier key meets it
 meeting : (c : tie.Then4) → let s : tie.Start = search needs in let r : tie.After-put = search needs in
@@ -74,7 +74,7 @@ some-wait c =
     let a = s .args in
     let m = meeting c in
     pass-met (a .d) (a .s) (a .table .now) (a .hash .now) (a .head .now) (a .next .now) _ _ (a .g) (a .n) (s .pre .0) (inside s .0)
-    (r .put .ensures .1 .1 .1) (r .put .ensures .0) (r .put .result) (m .0) (m .1) .0
+    (r .put .ensures .1 .1 .1) (r .put .ensures .0 (λ l. absurd (omega (arith, l, m .0)))) (r .put .result) (m .0) (m .1) .0
 
 returns-4 : tie.Need-returns-4
 returns-4 c z =
@@ -84,7 +84,7 @@ returns-4 c z =
     let a = s .args in
     let m = meeting t in
     pass-met (a .d) (a .s) (a .table .now) (a .hash .now) (a .head .now) (a .next .now) _ _ (a .g) (a .n) (s .pre .0) (inside s .0)
-    (r .put .ensures .1 .1 .1) (r .put .ensures .0) (r .put .result) (m .0) (m .1) .1
+    (r .put .ensures .1 .1 .1) (r .put .ensures .0 (λ l. absurd (omega (arith, l, m .0)))) (r .put .result) (m .0) (m .1) .1
 
 pub pass-spec : {M : Type 1} → statement M
 pass-spec =
