@@ -2,14 +2,17 @@
 --   from-start, from-end      from the first place on all are left, behind the last cell none
 --   from-next                 behind its last position a cell is done
 --   from-here, from-skip      at a position on the boundary stands a face, at another none
+--   between-goes, between-ends    a position passed is told, and the whole cell
+--   position-found            a cell that has one has a position on the boundary
 --   face-next, face-less      where the walk stops stands one, and behind it one less is left
 --   Walked f .. at old p a cur buf    of all faces, put from `at` on by f, those from (p, a) on are left
 --   walk-starts, walk-fits, walk-goes, walk-ends      all are left; the next one fits; it is put; none is left
 -- Assumes nothing.
 use mathlib.Core.Path.{_≡_, refl, sym, ap, _∙_, subst}
-use mathlib.Core.Bool.{Bool, true, false, cond, _&&_}
+use mathlib.Core.Bool.{Bool, true, false, cond, _&&_, _||_}
 use mathlib.Core.List.{List, [], _∷_, _++_, map}
 use Prim.Native.Nat.{ℕ, zero, suc, _+_, _≤_, _<_}
+use native.Mathlib.Nat.{lt-of-not-le}
 use native.Mathlib.Omega.{arith}
 use lib.Dec.{eqb, ltb}
 use borrow.Author.Tests.{lt-ltb}
@@ -27,7 +30,7 @@ use Rattle.records.specs.Layout.{Entry, empty, recordSize, tableLength, entryIn
 use Rattle.records.specs.Inner.Inside.{wingIn}
 use Rattle.records.proofs.Places.{record-long, row-long, wings-long, entry-at}
 use Rattle.boundary.specs.Boundary.{atEmpty, boundaryOf}
-use Rattle.boundary.specs.Inner.Walk.{tableFaces, faceAt, onBoundary, entriesFrom, facesFrom, AtFace, NextFace}
+use Rattle.boundary.specs.Inner.Walk.{tableFaces, faceAt, onBoundary, entriesFrom, facesFrom, AtFace, NextPosition, Between, NextFace}
 
 -- a face has a vertex, except in dimension 0
 filled-face : (d a : ℕ) (w : Row) → length w ≡ suc d → a ≤ d → filled (without a w) ≡ ltb 0 d
@@ -88,6 +91,10 @@ module _ (d s : ℕ) (ws : List ℕ) (size : length ws ≡ tableLength d s) (p a
   from-next h =
       rw (entries-next, drop-of-length-le fs {i = a} (omega (arith, many))) (sym (start-all (drop (p + 1) (entriesOf d s ws))))
 
+  pub between-ends : d < a → (t : Bool) → Between d s ws p p a t → Between d s ws p (p + 1) 0 t
+  between-ends h true b = omega (arith, ap length (from-next h))
+  between-ends h false b = b ∙ from-next h
+
   module _ (ha : a ≤ d) where
     faces-next : drop a fs ≡ faceAt d ws p a ∷ drop (a + 1) fs
     faces-next =
@@ -111,6 +118,21 @@ module _ (d s : ℕ) (ws : List ℕ) (size : length ws ≡ tableLength d s) (p a
 
     pub from-skip : onBoundary d ws p a ≡ false → facesFrom d s ws p a ≡ facesFrom d s ws p (a + 1)
     from-skip e = rw e at from-at
+
+    pub between-goes : (t : Bool) → Between d s ws p p a t → Between d s ws p p (a + 1) (t || onBoundary d ws p a)
+    between-goes t b = go t (onBoundary d ws p a) b refl
+      where
+        go : (t o : Bool) → Between d s ws p p a t → onBoundary d ws p a ≡ o → Between d s ws p p (a + 1) (t || o)
+        go true true b e = omega (arith, ap length (from-here e))
+        go true false b e = omega (arith, ap length (from-skip e))
+        go false true b e = omega (arith, ap length b, ap length (from-here e))
+        go false false b e = b ∙ from-skip e
+
+pub position-found : {d s : ℕ} {ws : List ℕ} {p b : ℕ} → length ws ≡ tableLength d s → p < s → Between d s ws p (p + 1) 0 true →
+    NextPosition d s ws p 0 b → b ≤ d
+position-found {d} {s} {ws} {p} {b} size hp some n =
+    let here : b < suc d = lt-of-not-le (λ h. omega (arith, ap length (n .same ∙ from-next d s ws size p b hp h))) in
+    omega arith
 
 module _ {d s : ℕ} {ws : List ℕ} (size : length ws ≡ tableLength d s) {p a : ℕ} (at : AtFace d s ws p a) (hp : p < s) where
   pub face-next : facesFrom d s ws p a ≡ faceAt d ws p a ∷ facesFrom d s ws p (a + 1)

@@ -22,7 +22,8 @@ fn count_cell(d: usize, s: usize, table: &[u16], p: usize) -> usize
     n
 }
 
-pub fn count_faces(d: usize, s: usize, table: &[u16]) -> usize
+// Those of all cells.
+fn count_all(d: usize, s: usize, table: &[u16]) -> usize
     requires { ⌜ Table d s (now table) ⌝ }
     ensures count { λ r. ⌜ r ≡ length (tableFaces d s (now (table .entry))) ⌝ }
     ensures few { λ r. ⌜ r ≤ 32768 ⌝ }
@@ -34,4 +35,34 @@ pub fn count_faces(d: usize, s: usize, table: &[u16]) -> usize
         p += 1;
     }
     n
+}
+
+// The same; where the compiler knows the dimension it writes the loops out.
+pub fn count_faces(d: usize, s: usize, table: &[u16]) -> usize
+    requires { ⌜ Table d s (now table) ⌝ }
+    ensures count { λ r. ⌜ r ≡ length (tableFaces d s (now (table .entry))) ⌝ }
+    ensures few { λ r. ⌜ r ≤ 32768 ⌝ }
+{
+    if d == 1 {
+        return count_all(1, s, table);
+    }
+    if d == 2 {
+        return count_all(2, s, table);
+    }
+    if d == 3 {
+        return count_all(3, s, table);
+    }
+    if d == 4 {
+        return count_all(4, s, table);
+    }
+    if d == 5 {
+        return count_all(5, s, table);
+    }
+    if d == 6 {
+        return count_all(6, s, table);
+    }
+    if d == 7 {
+        return count_all(7, s, table);
+    }
+    count_all(d, s, table)
 }

@@ -48,7 +48,7 @@ fn face_bytes(
 }
 
 // All records, from the start of the bytes.
-fn write_bytes(d: usize, s: usize, table: &[u16], out: &mut [u8])
+fn write_all(d: usize, s: usize, table: &[u16], out: &mut [u8])
     requires { ⌜ Table d s (now table) × (length (facesBytes (tableFaces d s (now table))) ≤ length (now out)) ⌝ }
     ensures { λ _. ⌜ now (out .exit) ≡ placed 0 (facesBytes (tableFaces d s (now (table .entry)))) (now (out .entry)) ⌝ }
 {
@@ -58,6 +58,42 @@ fn write_bytes(d: usize, s: usize, table: &[u16], out: &mut [u8])
         next = face_bytes(d, s, table, at.cell, at.position, next, out);
         at = next_face(d, s, table, at.cell, at.position + 1);
     }
+}
+
+// The same; where the compiler knows the dimension it writes the loop out.
+fn write_bytes(d: usize, s: usize, table: &[u16], out: &mut [u8])
+    requires { ⌜ Table d s (now table) × (length (facesBytes (tableFaces d s (now table))) ≤ length (now out)) ⌝ }
+    ensures { λ _. ⌜ now (out .exit) ≡ placed 0 (facesBytes (tableFaces d s (now (table .entry)))) (now (out .entry)) ⌝ }
+{
+    if d == 1 {
+        write_all(1, s, table, out);
+        return;
+    }
+    if d == 2 {
+        write_all(2, s, table, out);
+        return;
+    }
+    if d == 3 {
+        write_all(3, s, table, out);
+        return;
+    }
+    if d == 4 {
+        write_all(4, s, table, out);
+        return;
+    }
+    if d == 5 {
+        write_all(5, s, table, out);
+        return;
+    }
+    if d == 6 {
+        write_all(6, s, table, out);
+        return;
+    }
+    if d == 7 {
+        write_all(7, s, table, out);
+        return;
+    }
+    write_all(d, s, table, out);
 }
 
 // Faces of a table of the right length.

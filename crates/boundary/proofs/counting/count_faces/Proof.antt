@@ -1,40 +1,31 @@
--- What is counted and what is left make the whole. Assumes nothing.
-use mathlib.Core.Path.{_≡_, ap}
-use Prim.Native.Nat.{_+_, _-_, _≤_}
-use native.Mathlib.Omega.{arith}
-use lib.ListN.{length}
+-- The dimension that the compiler knows is the table's. Assumes nothing.
+use mathlib.Core.Path.{_≡_, subst}
+use Prim.Native.Nat.{ℕ}
 use borrow.Author.Needs.{needs}
-use Rattle.boundary.specs.Inner.Walk.{tableFaces, facesFrom}
-use Rattle.boundary.proofs.Sizes.{faces-few}
-use Rattle.boundary.proofs.Walking.{from-start, from-end}
+use Rattle.records.specs.Inner.Inside.{Table}
 use Rattle.boundary.proofs.counting.count_faces.Statement.{statement}
 use Rattle.boundary.proofs.counting.count_faces.Tie as tie
 
-abbrev Inv-loop : tie.InvT-loop
-Inv-loop d s table n₀ p₀ n p = (p ≤ s) × (n + length (facesFrom d s table p 0) ≡ length (tableFaces d s table))
-
-abbrev μ-loop : tie.MeasureT-loop
-μ-loop d s table n₀ p₀ n p = s - p
-
-few : (c : tie.Start Inv-loop μ-loop) → length (tableFaces (c .args .d) (c .args .s) (c .args .table .now)) ≤ 32768
-few c = faces-few (c .args .d) (c .args .s) (c .args .table .now) (c .pre)
-
-loop-holds : tie.Need-loop-holds Inv-loop μ-loop
-loop-holds c = let a = c .before .args in (omega arith, omega (arith, ap length (from-start (a .d) (a .s) (a .table .now))))
-
-add-n : tie.Need-add-n Inv-loop μ-loop
-add-n c = omega (arith, few (c .before .before .before .before))
-
-loop-again : tie.Need-loop-again Inv-loop μ-loop
-loop-again c = omega arith
-
-returns : tie.Need-returns Inv-loop μ-loop
-returns c =
-    let turn = c .before in
-    let s = turn .before .before in
-    let none = ap length (from-end (s .args .d) (s .args .s) (s .args .table .now) (turn .loop .p) 0 (omega arith)) in
-    (omega arith, omega (arith, few s))
+there : (s : tie.Start) (k : ℕ) → s .args .d ≡ k → Table k (s .args .s) (s .args .table .now)
+there s k e = subst (λ d. Table d (s .args .s) (s .args .table .now)) e (s .pre)
 
 pub count-faces-spec : {M : Type 1} → statement M
 count-faces-spec =
-    tie.close (tie.spec Inv-loop μ-loop loop-holds (λ c κs. search needs) add-n (λ c. search needs) (λ c. search needs) loop-again returns)
+    tie.close
+    (tie.spec
+    (λ c κs. there (search needs) 1 (c .if1 .taken))
+    (λ c. rw (c .before .if1 .taken) (c .count-all .ensures))
+    (λ c κs. there (search needs) 2 (c .if2 .taken))
+    (λ c. rw (c .before .if2 .taken) (c .count-all2 .ensures))
+    (λ c κs. there (search needs) 3 (c .if3 .taken))
+    (λ c. rw (c .before .if3 .taken) (c .count-all3 .ensures))
+    (λ c κs. there (search needs) 4 (c .if4 .taken))
+    (λ c. rw (c .before .if4 .taken) (c .count-all4 .ensures))
+    (λ c κs. there (search needs) 5 (c .if5 .taken))
+    (λ c. rw (c .before .if5 .taken) (c .count-all5 .ensures))
+    (λ c κs. there (search needs) 6 (c .if6 .taken))
+    (λ c. rw (c .before .if6 .taken) (c .count-all6 .ensures))
+    (λ c κs. there (search needs) 7 (c .if7 .taken))
+    (λ c. rw (c .before .if7 .taken) (c .count-all7 .ensures))
+    (λ c κs. search needs)
+    (λ c. search needs))
