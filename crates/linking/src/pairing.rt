@@ -5,8 +5,8 @@ use records::reading::sign;
 use records::reading::vertex;
 use records::reading::wing;
 use records::sizes::EMPTY;
-use simplex::sign_words::turned;
 use soundness::buckets::put;
+use soundness::faces::opposite;
 use soundness::faces::same_face;
 ghost use mathlib.Core.Path.{_≡_};
 ghost use mathlib.Core.Bool.{true};
@@ -26,7 +26,7 @@ fn is_apt(d: usize, s: usize, table: &[u16], q: usize, b: usize, p: usize, a: us
     if vertex(d, s, table, q, b) == vertex(d, s, table, p, a) {
         return false;
     }
-    if turned(sign(d, s, table, q), b) == turned(sign(d, s, table, p), a) {
+    if !opposite(sign(d, s, table, q), b, sign(d, s, table, p), a) {
         return false;
     }
     same_face(d, s, table, q, b, p, a)

@@ -1,15 +1,15 @@
 -- A row of d + 1 vertices less one of them: its vertices, and when two are the same; and the rows of a table.
 use mathlib.Core.Path.{_≡_, ap, sym, _∙_}
 use mathlib.Core.List.{List}
-use mathlib.Core.Bool.{true, false, cond}
+use mathlib.Core.Bool.{Bool, true, false, cond, not}
 use Prim.Native.Nat.{ℕ, suc, _+_, _≤_, _<_}
 use native.Mathlib.Decide.{decLt}
 use native.Mathlib.Numerals.{add-one}
 use native.Mathlib.Omega.{arith}
-use lib.Dec.{leb, ltb}
+use lib.Dec.{eqb, leb, ltb}
 use lib.ListN.{length, getD}
 use Rattle.simplex.specs.Cell.{Row, sameRow}
-use borrow.Author.Tests.{lt-leb}
+use borrow.Author.Tests.{eqb-false, lt-leb, not-true}
 use Rattle.words.proofs.Below.{none-below}
 use Rattle.simplex.specs.Faces.{without}
 use Rattle.simplex.specs.Sort.{Asc}
@@ -61,3 +61,7 @@ one-cell d s ws long asc p a b hp ha hb e = go (decLt a b) (decLt b a)
     go (yes l) k = absurd (without-inj (rowIn d ws p) a b (asc p hp) l (omega (arith, long p hp)) e)
     go (no l) (yes k) = absurd (without-inj (rowIn d ws p) b a (asc p hp) k (omega (arith, long p hp)) (sym e))
     go (no l) (no k) = omega arith
+
+-- what a test of two numbers for a difference tells
+pub told-apart : (r : Bool) (m n : ℕ) → r ≡ true → r ≡ not (eqb m n) → m ≡ n → ⊥
+told-apart r m n e f z = eqb-false m n (not-true (eqb m n) (sym f ∙ e)) z

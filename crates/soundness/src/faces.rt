@@ -1,10 +1,11 @@
-// Two faces of a table compared.
+// Two faces of a table compared: their vertices, and their signs.
 use records::reading::vertex;
 ghost use mathlib.Core.Path.{_≡_};
-ghost use mathlib.Core.Bool.{cond};
+ghost use mathlib.Core.Bool.{cond, not};
 ghost use Prim.Native.Nat.{_+_, _≤_, _<_};
-ghost use lib.Dec.{ltb};
+ghost use lib.Dec.{eqb, ltb};
 ghost use Rattle.simplex.specs.Cell.{sameRow};
+ghost use Rattle.simplex.specs.SignWords.{turnedSign};
 ghost use Rattle.records.specs.Inner.Inside.{Inside};
 ghost use Rattle.soundness.specs.Inner.Certified.{faceIn};
 
@@ -34,4 +35,12 @@ pub fn same_face(d: usize, s: usize, table: &[u16], p: usize, a: usize, q: usize
         j += 1;
     }
     true
+}
+
+// Whether two sign words differ, turned over b and a times. No branch depends on the table.
+pub fn opposite(x: u16, b: usize, y: u16, a: usize) -> bool
+    ensures { λ r. ⌜ r ≡ not (eqb (turnedSign x b) (turnedSign y a)) ⌝ }
+{
+    let same = (x == 0) == (y == 0);
+    same != ((b % 2 == 0) == (a % 2 == 0))
 }

@@ -6,7 +6,7 @@ ghost use Prim.Native.Nat.{ℕ, suc, _+_, _*_, _-_, _^_, _≤_, _<_};
 ghost use lib.ListN.{length, getD};
 ghost use Rattle.records.specs.Inner.Inside.{Table, Inside, vertexIn};
 ghost use Rattle.soundness.specs.Inner.Certified.{rowIn};
-ghost use Rattle.soundness.specs.Inner.Hashing.{term, weight, scattered, Hashes};
+ghost use Rattle.soundness.specs.Inner.Hashing.{term, weight, scattered, linear, Hashes};
 
 fn widest(x: u16) -> u64
     ensures { λ r. ⌜ (r ≡ x) × (r < 65536) ⌝ }
@@ -28,6 +28,13 @@ fn scattered(sum: u64, t: u64) -> u32
     ensures { λ r. ⌜ r ≡ scattered (sum - t) ⌝ }
 {
     ((sum - t) % 4294967296 * 2654435769 / 4294967296) as u32
+}
+
+// The hash of a single vertex: vertices close together are far apart, and do not meet in a bucket.
+fn linear(x: u16) -> u32
+    ensures { λ r. ⌜ r ≡ linear x ⌝ }
+{
+    (widest(x) * 2654435769 % 4294967296) as u32
 }
 
 // The weights of a cell's vertices, and their sum.
@@ -56,7 +63,7 @@ fn terms(d: usize, s: usize, table: &[u16], p: usize) -> Weights
 
 // Puts the hashes of cell p.
 fn hash_cell(d: usize, s: usize, table: &[u16], p: usize, hash: &mut [u32])
-    requires { ⌜ Inside d s p (now table) × (s ≤ 4096) × (s * suc d ≤ length (now hash)) × Hashes d (now table) (now hash) (p * suc d) ⌝ }
+    requires { ⌜ (2 ≤ d) × Inside d s p (now table) × (s ≤ 4096) × (s * suc d ≤ length (now hash)) × Hashes d (now table) (now hash) (p * suc d) ⌝ }
     ensures hashed { λ _. ⌜ Hashes d (now (table .entry)) (now (hash .exit)) (p * suc d + suc d) ⌝ }
     ensures long { λ _. ⌜ length (now (hash .exit)) ≡ length (now (hash .entry)) ⌝ }
 {
@@ -71,7 +78,7 @@ fn hash_cell(d: usize, s: usize, table: &[u16], p: usize, hash: &mut [u32])
 
 // Puts those of all cells.
 fn hash_all(d: usize, s: usize, table: &[u16], hash: &mut [u32])
-    requires { ⌜ Table d s (now table) × (s * suc d ≤ length (now hash)) ⌝ }
+    requires { ⌜ (2 ≤ d) × Table d s (now table) × (s * suc d ≤ length (now hash)) ⌝ }
     ensures hashed { λ _. ⌜ Hashes d (now (table .entry)) (now (hash .exit)) (s * suc d) ⌝ }
     ensures long { λ _. ⌜ length (now (hash .exit)) ≡ length (now (hash .entry)) ⌝ }
 {
@@ -82,14 +89,39 @@ fn hash_all(d: usize, s: usize, table: &[u16], hash: &mut [u32])
     }
 }
 
+// Puts those of segment p: a face has the other vertex.
+fn hash_segment(s: usize, table: &[u16], p: usize, hash: &mut [u32])
+    requires { ⌜ Inside 1 s p (now table) × (s ≤ 4096) × (s * 2 ≤ length (now hash)) × Hashes 1 (now table) (now hash) (p * 2) ⌝ }
+    ensures hashed { λ _. ⌜ Hashes 1 (now (table .entry)) (now (hash .exit)) (p * 2 + 2) ⌝ }
+    ensures long { λ _. ⌜ length (now (hash .exit)) ≡ length (now (hash .entry)) ⌝ }
+{
+    let x = linear(vertex(1, s, table, p, 0));
+    let y = linear(vertex(1, s, table, p, 1));
+    hash[p * 2] = y;
+    hash[p * 2 + 1] = x;
+}
+
+// Puts those of all segments.
+fn hash_segments(s: usize, table: &[u16], hash: &mut [u32])
+    requires { ⌜ Table 1 s (now table) × (s * 2 ≤ length (now hash)) ⌝ }
+    ensures hashed { λ _. ⌜ Hashes 1 (now (table .entry)) (now (hash .exit)) (s * 2) ⌝ }
+    ensures long { λ _. ⌜ length (now (hash .exit)) ≡ length (now (hash .entry)) ⌝ }
+{
+    let mut p: usize = 0;
+    while p < s {
+        hash_segment(s, table, p, hash);
+        p += 1;
+    }
+}
+
 // The same; where the compiler knows the dimension it writes the loops out.
 pub fn hashes(d: usize, s: usize, table: &[u16], hash: &mut [u32])
-    requires { ⌜ Table d s (now table) × (s * suc d ≤ length (now hash)) ⌝ }
+    requires { ⌜ (1 ≤ d) × Table d s (now table) × (s * suc d ≤ length (now hash)) ⌝ }
     ensures hashed { λ _. ⌜ Hashes d (now (table .entry)) (now (hash .exit)) (s * suc d) ⌝ }
     ensures long { λ _. ⌜ length (now (hash .exit)) ≡ length (now (hash .entry)) ⌝ }
 {
     if d == 1 {
-        hash_all(1, s, table, hash);
+        hash_segments(s, table, hash);
         return;
     }
     if d == 2 {

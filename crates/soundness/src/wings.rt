@@ -1,6 +1,7 @@
 // The wings of a table, compared with what its faces say: each key in its order is new, or meets the one earlier key that has its face. A new
 // key with a wing waits for its pair; at the end none may wait.
 use crate::buckets::put;
+use crate::faces::opposite;
 use crate::faces::same_face;
 use crate::keys::wide;
 use records::reading::sign;
@@ -8,7 +9,6 @@ use records::reading::vertex;
 use records::reading::wing;
 use records::sizes::EMPTY;
 use records::sizes::wings_words;
-use simplex::sign_words::turned;
 ghost use mathlib.Core.Path.{_≡_};
 ghost use mathlib.Core.Logic.{_⊎_};
 ghost use mathlib.Core.Bool.{true};
@@ -32,7 +32,7 @@ fn meets(d: usize, s: usize, table: &[u16], q: usize, b: usize, p: usize, a: usi
     if vertex(d, s, table, q, b) == vertex(d, s, table, p, a) {
         return false;
     }
-    if turned(sign(d, s, table, q), b) == turned(sign(d, s, table, p), a) {
+    if !opposite(sign(d, s, table, q), b, sign(d, s, table, p), a) {
         return false;
     }
     same_face(d, s, table, q, b, p, a)

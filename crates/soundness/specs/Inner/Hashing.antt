@@ -2,7 +2,8 @@
 --   term x                the weight of a vertex
 --   weight w              the weight of a row: a sum, so that one vertex less is one term less
 --   scattered n           32 bits of a number, for weights close together far apart
---   hashOf w              those of its weight
+--   linear x              the same of a single vertex
+--   hashOf w              the hash of a row: by its weight, or by its one vertex
 --   bucketIn n h          the bucket of a hash, of n buckets
 --   faceOf d ws g         the face of key g
 --   Hashes d ws hash n    the hashes of the faces of n keys
@@ -32,8 +33,13 @@ weight (x ∷ w) = term x + weight w
 unfoldable pub scattered : ℕ → ℕ
 scattered n = n % 4294967296 * 2654435769 / 4294967296
 
+unfoldable pub linear : ℕ → ℕ
+linear x = x * 2654435769 % 4294967296
+
 abbrev pub hashOf : Row → ℕ
-hashOf w = scattered (weight w)
+hashOf [] = 0
+hashOf (x ∷ []) = linear x
+hashOf (x ∷ (y ∷ w)) = scattered (weight (x ∷ (y ∷ w)))
 
 unfoldable pub bucketIn : ℕ → ℕ → ℕ
 bucketIn n h = h * n / 4294967296

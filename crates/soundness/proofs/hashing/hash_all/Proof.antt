@@ -21,8 +21,8 @@ hash-cell-requires c κs =
     let s : tie.Start Inv-loop μ-loop = search needs in
     let t : tie.At-loop Inv-loop μ-loop = search needs in
     let i = t .loop .inv in
-    let k = s .pre .0 in
-    (record { dimension = k .dimension; long = k .long; number = omega arith }, k .cells, omega (arith, i .1, s .pre .1), i .2)
+    let k = s .pre .1 in
+    (s .pre .0, record { dimension = k .dimension; long = k .long; number = omega arith }, k .cells, omega (arith, i .1, s .pre .2), i .2)
 
 loop-again : tie.Need-loop-again Inv-loop μ-loop
 loop-again c =

@@ -25,7 +25,7 @@ abbrev μ-loop : tie.MeasureT-loop
 loop-holds : tie.Need-loop-holds Inv-loop μ-loop
 loop-holds c =
     let s : tie.Start Inv-loop μ-loop = search needs in
-    (omega arith, refl, rw (add-zero (s .args .p * suc (s .args .d))) (s .pre .3))
+    (omega arith, refl, rw (add-zero (s .args .p * suc (s .args .d))) (s .pre .4))
 
 scattered-requires : tie.Need-scattered-requires Inv-loop μ-loop
 scattered-requires c κs =
@@ -33,7 +33,7 @@ scattered-requires c κs =
     let t : tie.At-loop Inv-loop μ-loop = search needs in
     let w : tie.After-terms Inv-loop μ-loop = search needs in
     let a = s .args in
-    let n = size-in (a .d) (a .s) (a .p) (a .table .now) (s .pre .0) in
+    let n = size-in (a .d) (a .s) (a .p) (a .table .now) (s .pre .1) in
     omega (
       arith,
       w .terms .ensures .0 .1 (t .loop .a) (omega arith),
@@ -50,16 +50,16 @@ loop-again c =
     let k : tie.After-key Inv-loop μ-loop = search needs in
     let a = s .args in
     let i = t .loop .inv in
-    let n = size-in (a .d) (a .s) (a .p) (a .table .now) (s .pre .0) in
+    let n = size-in (a .d) (a .s) (a .p) (a .table .now) (s .pre .1) in
     let g = a .p * suc (a .d) + t .loop .a in
     let e : m .scattered .result ≡ hashOf (faceOf (a .d) (a .table .now) g) =
-    hash-is (t .loop .a) _ _ _ (rowIn (a .d) (a .table .now) (a .p)) (omega (arith, n)) (w .terms .ensures .1)
+    hash-is (t .loop .a) _ _ _ (rowIn (a .d) (a .table .now) (a .p)) (omega (arith, n)) (omega (arith, n, s .pre .0)) (w .terms .ensures .1)
     (w .terms .ensures .0 .1 (t .loop .a) (omega arith)) (m .scattered .ensures)
     ∙ ap hashOf (sym (face-of (a .d) (a .table .now) (a .p) (t .loop .a) (omega arith))) in (
       omega arith,
       length-set (t .loop .hash) _ _ ∙ i .1,
       rw (k .key .ensures .0) (rw (sym (add-assoc (a .p * suc (a .d)) (t .loop .a) 1))
-          (filled-more (λ g. hashOf (faceOf (a .d) (a .table .now) g)) (t .loop .hash) g _ (omega (arith, k .key .ensures, i .1, s .pre .2)) (i .2)
+          (filled-more (λ g. hashOf (faceOf (a .d) (a .table .now) g)) (t .loop .hash) g _ (omega (arith, k .key .ensures, i .1, s .pre .3)) (i .2)
           e)),
     )
 
@@ -89,7 +89,7 @@ hash-cell-spec =
     let s : tie.Start Inv-loop μ-loop = search needs in
     let t : tie.At-loop Inv-loop μ-loop = search needs in
     let k : tie.After-key Inv-loop μ-loop = search needs in
-    omega (arith, k .key .ensures, t .loop .inv .1, s .pre .2))
+    omega (arith, k .key .ensures, t .loop .inv .1, s .pre .3))
     (λ c. search needs)
     (λ c. search needs)
     loop-again

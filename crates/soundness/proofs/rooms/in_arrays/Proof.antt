@@ -29,7 +29,7 @@ pub in-arrays-spec : {M : Type 1} → statement M
 in-arrays-spec =
     tie.close
     (tie.spec
-    (λ c κs. let s : tie.Start = search needs in (s .pre .0, s .pre .4 .hash-room))
+    (λ c κs. let s : tie.Start = search needs in (s .pre .1, s .pre .0, s .pre .4 .hash-room))
     all-right-requires
     (λ c. search needs)
     (λ c. search needs)
