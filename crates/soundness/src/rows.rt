@@ -10,20 +10,19 @@ ghost use Prim.Native.Nat.{ℕ, suc, _<_};
 ghost use Rattle.records.specs.Inner.Inside.{Table, Inside, vertexIn};
 ghost use Rattle.soundness.specs.Inner.Certified.{Fine};
 
-// Whether the vertices of cell p ascend. All are looked at, so that no branch depends on the table.
+// Whether the vertices of cell p ascend. Each test is a branch, which nearly always goes the same way.
 fn ascends(d: usize, s: usize, table: &[u16], p: usize) -> bool
     requires { ⌜ Inside d s p (now table) ⌝ }
     ensures { λ r. ⌜ (r ≡ true → (j : ℕ) → j < d → vertexIn d (now (table .entry)) p j < vertexIn d (now (table .entry)) p (suc j)) ⌝ }
 {
-    let mut up = true;
     let mut j: usize = 0;
     while j < d {
-        let x = vertex(d, s, table, p, j);
-        let y = vertex(d, s, table, p, j + 1);
-        up = up & (x < y);
+        if vertex(d, s, table, p, j + 1) <= vertex(d, s, table, p, j) {
+            return false;
+        }
         j += 1;
     }
-    up
+    true
 }
 
 // Whether record p is so.
@@ -31,11 +30,16 @@ fn is_fine(d: usize, v: usize, s: usize, table: &[u16], p: usize) -> bool
     requires { ⌜ Inside d s p (now table) ⌝ }
     ensures { λ r. ⌜ (r ≡ true → Fine d v (now (table .entry)) p) ⌝ }
 {
-    let up = ascends(d, s, table, p);
-    let signed = sign(d, s, table, p) <= 1;
-    let made = material(d, s, table, p) <= Shape::MAX_MATERIAL;
-    let low = wide(vertex(d, s, table, p, d)) < v;
-    up & (signed & (made & low))
+    if 1 < sign(d, s, table, p) {
+        return false;
+    }
+    if Shape::MAX_MATERIAL < material(d, s, table, p) {
+        return false;
+    }
+    if v <= wide(vertex(d, s, table, p, d)) {
+        return false;
+    }
+    ascends(d, s, table, p)
 }
 
 // Whether all are.
@@ -43,13 +47,14 @@ fn every_fine(d: usize, v: usize, s: usize, table: &[u16]) -> bool
     requires { ⌜ Table d s (now table) ⌝ }
     ensures { λ r. ⌜ (r ≡ true → (p : ℕ) → p < s → Fine d v (now (table .entry)) p) ⌝ }
 {
-    let mut fine = true;
     let mut p: usize = 0;
     while p < s {
-        fine = fine & is_fine(d, v, s, table, p);
+        if !is_fine(d, v, s, table, p) {
+            return false;
+        }
         p += 1;
     }
-    fine
+    true
 }
 
 // The same; where the compiler knows the dimension it writes the loops out.
@@ -74,6 +79,9 @@ pub fn all_fine(d: usize, v: usize, s: usize, table: &[u16]) -> bool
     }
     if d == 6 {
         return every_fine(6, v, s, table);
+    }
+    if d == 7 {
+        return every_fine(7, v, s, table);
     }
     every_fine(d, v, s, table)
 }

@@ -32,5 +32,7 @@ all-fine-spec =
     (λ c e. back (search needs) 5 (c .before .if5 .taken) (c .every-fine5 .ensures e))
     (λ c κs. there (search needs) 6 (c .if6 .taken))
     (λ c e. back (search needs) 6 (c .before .if6 .taken) (c .every-fine6 .ensures e))
+    (λ c κs. there (search needs) 7 (c .if7 .taken))
+    (λ c e. back (search needs) 7 (c .before .if7 .taken) (c .every-fine7 .ensures e))
     (λ c κs. search needs)
     (λ c. search needs))

@@ -1,47 +1,40 @@
 -- The vertices passed ascend. Assumes nothing.
 use mathlib.Core.Path.{_≡_, ap}
-use mathlib.Core.Bool.{true}
+use mathlib.Core.Bool.{false≢true}
 use Prim.Native.Nat.{ℕ, suc, _+_, _-_, _≤_, _<_}
 use native.Mathlib.Nat.{not-suc-le-zero}
 use native.Mathlib.Numerals.{add-one}
 use native.Mathlib.Omega.{arith}
-use lib.Dec.{ltb}
 use borrow.Author.Count.{below-more}
 use borrow.Author.Needs.{needs}
-use borrow.Author.Tests.{ltb-true}
-use Rattle.rules.proofs.Tests.{and-parts}
 use Rattle.records.specs.Inner.Inside.{vertexIn}
 use Rattle.soundness.proofs.rows.ascends.Statement.{statement}
 use Rattle.soundness.proofs.rows.ascends.Tie as tie
 
 abbrev Inv-loop : tie.InvT-loop
-Inv-loop d s table p up₀ j₀ up j =
-    (j ≤ d) × (up ≡ true → (i : ℕ) → i < j → vertexIn d table p i < vertexIn d table p (suc i))
+Inv-loop d s table p j₀ j = (j ≤ d) × ((i : ℕ) → i < j → vertexIn d table p i < vertexIn d table p (suc i))
 
 abbrev μ-loop : tie.MeasureT-loop
-μ-loop d s table p up₀ j₀ up j = d - j
+μ-loop d s table p j₀ j = d - j
 
 loop-again : tie.Need-loop-again Inv-loop μ-loop
 loop-again c =
-    let l = c .before .before .before .loop in
-    let a = c .before .before .before .before .before .args in (
+    let s : tie.Start Inv-loop μ-loop = search needs in
+    let t : tie.At-loop Inv-loop μ-loop = search needs in
+    let y : tie.After-vertex Inv-loop μ-loop = search needs in
+    let x : tie.After-vertex2 Inv-loop μ-loop = search needs in
+    let o : tie.Else1 Inv-loop μ-loop = search needs in
+    let a = s .args in (
       omega arith,
-      λ e.
-          let x = c .before .vertex .result in
-          let y = c .vertex2 .result in
-          let r = and-parts (l .up) (ltb x y) e in
-          below-more _ _ (l .inv .1 (r .0))
+      below-more _ _ (t .loop .inv .1)
           (omega (
             arith,
-            ltb-true x y (r .1),
-            c .before .vertex .ensures,
-            c .vertex2 .ensures,
-            ap (λ i. vertexIn (a .d) (a .table .now) (a .p) i) (add-one (l .j)),
+            o .if1 .left,
+            y .vertex .ensures,
+            x .vertex2 .ensures,
+            ap (λ i. vertexIn (a .d) (a .table .now) (a .p) i) (add-one (t .loop .j)),
           )),
     )
-
-returns : tie.Need-returns Inv-loop μ-loop
-returns c e j l = c .before .loop .inv .1 e j (omega arith)
 
 pub ascends-spec : {M : Type 1} → statement M
 ascends-spec =
@@ -49,11 +42,12 @@ ascends-spec =
     (tie.spec
     Inv-loop
     μ-loop
-    (λ c. (omega arith, (λ e i l. absurd (not-suc-le-zero l))))
-    (λ c κs. search needs)
+    (λ c. (omega arith, (λ i l. absurd (not-suc-le-zero l))))
     (λ c. search needs)
     (λ c κs. search needs)
+    (λ c κs. search needs)
+    (λ c e. absurd (false≢true e))
     (λ c. search needs)
     (λ c. search needs)
     loop-again
-    returns)
+    (λ c e j l. let t : tie.At-loop Inv-loop μ-loop = search needs in t .loop .inv .1 j (omega arith)))
