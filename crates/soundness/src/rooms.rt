@@ -101,7 +101,7 @@ fn in_32768(d: usize, v: usize, s: usize, table: &[u16]) -> bool
         return false;
     }
     let mut hash = [0u32; 32768];
-    let mut head = [EMPTY; 65536];
+    let mut head = [EMPTY; 49152];
     let mut next = [0u16; 32768];
     in_arrays(d, v, s, table, &mut hash, &mut head, &mut next)
 }

@@ -13,7 +13,7 @@ in-arrays-requires c κs =
     let f : tie.After-all-fine = search needs in
     let o : tie.Else1 = search needs in
     let fine = f .all-fine .ensures (not-false _ (o .if1 .left)) in
-    (s .pre .0, s .pre .1, s .pre .3, fine, arrays-made _ 32768 65536 (s .pre .2) (omega arith) (omega arith))
+    (s .pre .0, s .pre .1, s .pre .3, fine, arrays-made _ 32768 49152 (s .pre .2) (omega arith) (omega arith))
 
 pub in-32768-spec : {M : Type 1} → statement M
 in-32768-spec =
