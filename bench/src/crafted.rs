@@ -1,8 +1,9 @@
 //! Solids made to be slow, with full knowledge of the library's hashes. First it puts faces into buckets by one hash
-//! (crates/soundness), and gives up after sixteen in a bucket: the last cells of a solid have a face each in one bucket,
-//! so that all was for nothing. Then it looks a face up in one of 32,749 buckets (crates/matching): the sum of weights of
-//! its vertices, modulo that. Among cells whose vertices have one sum, all faces without vertex x are in one bucket. So
-//! cells of one sum on few vertices have as few buckets, and a face would be compared with thousands.
+//! (crates/soundness), and gives up where more than d + 9 in a bucket are to be looked at: the last cells of a solid have
+//! a face each in one bucket, so that all was for nothing. Then it looks a face up in one of 32,749 buckets
+//! (crates/matching): the sum of weights of its vertices, modulo that. Among cells whose vertices have one sum, all faces
+//! without vertex x are in one bucket. So cells of one sum on few vertices have as few buckets, and a face would be
+//! compared with thousands.
 
 use crate::both::{Both, Lent};
 use crate::calls::{Call, Job};
@@ -81,14 +82,15 @@ fn crafted(d: usize, n: usize) -> Vec<Cell> {
     found
 }
 
-/// The bucket of a face by the first hash, of 32,768.
+/// The bucket of a face by the first hash, of 65,536: more than the library ever has.
 fn first_bucket(face: &[u16]) -> u64 {
     let term = |&x: &u16| x as u64 * (x as u64 * (x as u64 + 123456789) + 362436069);
     let weight: u64 = face.iter().map(term).sum();
-    ((weight & 0xffff_ffff) * 2654435769 >> 32) * 32768 >> 32
+    ((weight & 0xffff_ffff) * 2654435769 >> 32) * 65536 >> 32
 }
 
-/// Puts cells in place of the last ones, each with a face in one bucket.
+/// Puts cells in place of the last ones, each with a face in one bucket, which lies within one of 32,768, 45,056 and
+/// 49,152 too.
 fn crowd_the_end(cells: &mut [Cell], d: usize, random: &mut Random) {
     const CROWD: usize = 20;
     let at = cells.len() - CROWD;
@@ -97,7 +99,7 @@ fn crowd_the_end(cells: &mut [Cell], d: usize, random: &mut Random) {
             let mut row: Vec<u16> = (0..=d).map(|_| random.below(CELLS) as u16).collect();
             row.sort_unstable();
             row.dedup();
-            if row.len() == d + 1 && first_bucket(&row[1..]) == 12345 {
+            if row.len() == d + 1 && first_bucket(&row[1..]) == 12352 {
                 break [&[0, 7], &row[..]].concat();
             }
         };
