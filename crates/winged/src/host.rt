@@ -6,10 +6,14 @@ ghost use mathlib.Core.Bool.{true};
 ghost use Prim.Native.Nat.{suc, _*_, _≤_};
 ghost use lib.ListN.{length};
 ghost use Rattle.rules.specs.Limits.{maxCells, maxSource};
+ghost use Rattle.words.specs.Bytes.{words16};
+ghost use Rattle.rules.specs.Numbers.{outcomeOf};
+ghost use Rattle.rules.specs.Calls.{after};
 ghost use Rattle.records.specs.Layout.{tableLength};
 ghost use Rattle.prism.specs.Swept.{sweptCells};
+ghost use Rattle.sweep.specs.Sweep.{sweptWords, sweepInput};
 ghost use Rattle.winged.specs.Host.{hostWing, hostWingBuffer, hostUploadedBuffer, hostSweep, hostSweepBuffer};
-ghost use Rattle.winged.specs.Inner.Sent.{smallTable, SweepRoom};
+ghost use Rattle.winged.specs.Inner.Sent.{smallTable, sweepRead, SweepRoom};
 use crate::host::rooms::in_2560;
 use crate::host::rooms::in_5120;
 use crate::host::rooms::in_10240;
@@ -20,7 +24,6 @@ use crate::host::rooms::wide_5120;
 use crate::host::rooms::wide_10240;
 use crate::host::rooms::wide_20480;
 use crate::host::rooms::wide_73728;
-use crate::reading::sweep_decoded;
 use crate::reading::wing_words;
 use crate::sending::answered;
 use crate::sending::is_small;
@@ -32,6 +35,8 @@ use rules::limits::Shape;
 use rules::refusal::Answer;
 use rules::refusal::Refusal;
 use sweep::limits::in_limits;
+use sweep::sweep;
+use words::copy::decode;
 
 fn wing_bytes(
     d: usize,
@@ -83,7 +88,27 @@ pub(crate) fn wing_told(
     wing_bytes(d, v, s, cells, &mut words, table, uploaded)
 }
 
-// sweep in lent arrays for the table and for its sweep.
+// sweep on a table of the right length, decoded into an array.
+fn sweep_decoded(
+    d: usize,
+    v: usize,
+    s: usize,
+    h: usize,
+    table: &[u8],
+    solid: &mut [u16],
+    out: &mut [u16],
+) -> Answer
+    requires { ⌜ (length (now table) ≡ tableLength d s * 2) × (tableLength d s ≤ length (now solid)) ⌝ }
+    ensures answer { λ r. ⌜ outcomeOf r ≡ sweepRead d v s h (now (table .entry)) (length (now (out .entry))) ⌝ }
+    ensures buffer { λ r. ⌜ now (out .exit)
+        ≡ after (outcomeOf r) (sweptWords (sweepInput d v s h (words16 (now (table .entry))) (length (now (out .entry))))) (now (out .entry)) ⌝ }
+{
+    decode(table, solid);
+    let n = table.len() / 2;
+    sweep(d, v, s, h, &solid[..n], out)
+}
+
+// The same from bytes to bytes, with an array for the sweep.
 fn sweep_bytes(
     d: usize,
     v: usize,

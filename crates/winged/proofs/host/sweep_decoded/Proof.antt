@@ -9,12 +9,13 @@ use Rattle.words.specs.Bytes.{words16}
 use Rattle.sweep.specs.Sweep.{sweepBuffer, sweepInput, sweepOutcome}
 use Rattle.direct.proofs.WordBytes.{decoded-front}
 use Rattle.winged.proofs.Inward.{sweep-after, sweep-right}
-use Rattle.winged.proofs.reading.sweep_decoded.Statement.{statement}
-use Rattle.winged.proofs.reading.sweep_decoded.Tie as tie
+use Rattle.winged.proofs.host.sweep_decoded.Statement.{statement}
+use Rattle.winged.proofs.host.sweep_decoded.Tie as tie
 
 -- the decoded words
 front : (c : tie.After-decode) → let a = (let s : tie.Start = search needs in s .args) in
-    (length (a .table .now) / 2 ≤ length (c .decode .last .1 .0)) × (take (length (a .table .now) / 2) (c .decode .last .1 .0) ≡ words16 (a .table .now))
+    (length (a .table .now) / 2 ≤ length (c .decode .last .1 .0))
+    × (take (length (a .table .now) / 2) (c .decode .last .1 .0) ≡ words16 (a .table .now))
 front c =
     let s : tie.Start = search needs in
     let a = s .args in
