@@ -3,7 +3,7 @@
 --   kept-none, kept-then          nothing is written; a list is kept twice
 --   kept-set, set-right           one right word is written, and is right
 --   Stored, stored                one word is written into what there was
---   rights-more                   one right word more
+--   rights-from, rights-more      one right word more
 --   inside-at                     a word of what was placed
 --   run-kept, run-right           several right words are written behind each other
 --   filled                        with all words right the list is placed
@@ -75,14 +75,18 @@ module _ (at : ℕ) (xs : List ℕ) where
         right = set-right old old e w room he (kept-none old) is;
       })
 
-  -- of places given one after the other, one more is right
-  pub rights-more : (old new : List ℕ) (f : ℕ → ℕ) (k : ℕ) → Kept at xs old new → ((m : ℕ) → m < k → Right at xs old (f m)) →
-      Right at xs new (f k) → (m : ℕ) → m < k + 1 → Right at xs new (f m)
-  rights-more old new f k kept all one m h = go (decLt m k)
+  -- of places given one after the other, from one on, one more is right
+  pub rights-from : (old new : List ℕ) (f : ℕ → ℕ) (first k : ℕ) → Kept at xs old new →
+      ((m : ℕ) → first ≤ m → m < k → Right at xs old (f m)) → Right at xs new (f k) → (m : ℕ) → first ≤ m → m < k + 1 → Right at xs new (f m)
+  rights-from old new f first k kept all one m g h = go (decLt m k)
     where
       go : Dec (m < k) → Right at xs new (f m)
-      go (yes l) = kept .right (f m) (all m l)
+      go (yes l) = kept .right (f m) (all m g l)
       go (no l) = let here : m ≡ k = omega arith in rw here one
+
+  pub rights-more : (old new : List ℕ) (f : ℕ → ℕ) (k : ℕ) → Kept at xs old new → ((m : ℕ) → m < k → Right at xs old (f m)) →
+      Right at xs new (f k) → (m : ℕ) → m < k + 1 → Right at xs new (f m)
+  rights-more old new f k kept all one m h = rights-from old new f 0 k kept (λ q l. all q) one m (omega arith) h
 
   module _ (old : List ℕ) (room : at + length xs ≤ length old) where
     abbrev whole : List ℕ

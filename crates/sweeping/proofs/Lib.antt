@@ -1,6 +1,6 @@
 -- Laws of the words of a swept table.
 pub mod Bounds
-pub mod DoubleRow
+pub mod Columns
 pub mod Filling
 pub mod Joining
 pub mod LevelSteps
