@@ -179,7 +179,7 @@ pub(crate) fn sweep_told(
     if m <= 10240 {
         return wide_10240(d, v, s, h, table, swept);
     }
-    if (m <= 20480) & (n <= 1280) {
+    if (m <= 20480) & (n <= 2560) {
         return in_20480(d, v, s, h, table, swept);
     }
     if m <= 20480 {

@@ -82,7 +82,7 @@ pub(crate) fn wide_10240(
     sweep_bytes(d, v, s, h, table, &mut solid, &mut words, swept)
 }
 
-// For a table of at most 1,280 words whose sweep has at most 20,480.
+// For a table of at most 2,560 words whose sweep has at most 20,480.
 pub(crate) fn in_20480(
     d: usize,
     v: usize,
@@ -91,11 +91,11 @@ pub(crate) fn in_20480(
     table: &[u8],
     swept: &mut [u8],
 ) -> i64
-    requires { ⌜ SweepRoom d s h (now table) 1280 20480 ⌝ }
+    requires { ⌜ SweepRoom d s h (now table) 2560 20480 ⌝ }
     ensures answer { λ r. ⌜ r ≡ hostSweep d v s h (now (table .entry)) (now (swept .entry)) ⌝ }
     ensures buffer { λ _. ⌜ now (swept .exit) ≡ hostSweepBuffer d v s h (now (table .entry)) (now (swept .entry)) ⌝ }
 {
-    let mut solid = [0u16; 1280];
+    let mut solid = [0u16; 2560];
     let mut words = [0u16; 20480];
     sweep_bytes(d, v, s, h, table, &mut solid, &mut words, swept)
 }

@@ -179,7 +179,7 @@ sweep-told-spec =
     (λ c κs. let t : tie.Then8 = search needs in wide (search needs) 3840 10240 (omega arith) (t .if8 .taken))
     (λ c. search needs)
     (λ c. search needs)
-    (λ c κs. let t : tie.Then9 = search needs in small (search needs) 1280 20480 (t .if9 .taken))
+    (λ c κs. let t : tie.Then9 = search needs in small (search needs) 2560 20480 (t .if9 .taken))
     (λ c. search needs)
     (λ c. search needs)
     (λ c κs. let t : tie.Then10 = search needs in wide (search needs) 7680 20480 (omega arith) (t .if10 .taken))
