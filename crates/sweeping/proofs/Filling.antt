@@ -3,9 +3,7 @@
 --   kept-none, kept-then          nothing is written; a list is kept twice
 --   kept-set, set-right           one right word is written, and is right
 --   Stored, stored                one word is written into what there was
---   rights-more                   one right word more
---   inside-at                     a word of what was placed
---   run-kept, run-right           several right words are written behind each other
+--   rights-from, rights-more      one right word more
 --   filled                        with all words right the list is placed
 -- Assumes nothing.
 use mathlib.Core.Path.{_≡_, refl, sym, ap, _∙_}
@@ -19,8 +17,6 @@ use lib.ListN.{length, getD, set, drop, length-set}
 use lib.Seq.{ext-getD, getD-drop, getD-take, getD-set-same, getD-set-other}
 use borrow.Author.Tests.{eqb-true, eqb-false}
 use Rattle.words.specs.Inner.Placed.{placed}
-use Rattle.words.specs.Records.{tabulate}
-use Rattle.words.proofs.Records.{tabulate-length, tabulate-at}
 use Rattle.words.proofs.Placed.{placed-length, placed-before, placed-read, placed-behind}
 use Rattle.sweeping.specs.Inner.Filling.{Right, Outside, Kept}
 
@@ -75,25 +71,29 @@ module _ (at : ℕ) (xs : List ℕ) where
         right = set-right old old e w room he (kept-none old) is;
       })
 
-  -- of places given one after the other, one more is right
-  pub rights-more : (old new : List ℕ) (f : ℕ → ℕ) (k : ℕ) → Kept at xs old new → ((m : ℕ) → m < k → Right at xs old (f m)) →
-      Right at xs new (f k) → (m : ℕ) → m < k + 1 → Right at xs new (f m)
-  rights-more old new f k kept all one m h = go (decLt m k)
+  -- of places given one after the other, from one on, one more is right
+  pub rights-from : (old new : List ℕ) (f : ℕ → ℕ) (first k : ℕ) → Kept at xs old new →
+      ((m : ℕ) → first ≤ m → m < k → Right at xs old (f m)) → Right at xs new (f k) → (m : ℕ) → first ≤ m → m < k + 1 → Right at xs new (f m)
+  rights-from old new f first k kept all one m g h = go (decLt m k)
     where
       go : Dec (m < k) → Right at xs new (f m)
-      go (yes l) = kept .right (f m) (all m l)
+      go (yes l) = kept .right (f m) (all m g l)
       go (no l) = let here : m ≡ k = omega arith in rw here one
+
+  pub rights-more : (old new : List ℕ) (f : ℕ → ℕ) (k : ℕ) → Kept at xs old new → ((m : ℕ) → m < k → Right at xs old (f m)) →
+      Right at xs new (f k) → (m : ℕ) → m < k + 1 → Right at xs new (f m)
+  rights-more old new f k kept all one m h = rights-from old new f 0 k kept (λ q l. all q) one m (omega arith) h
 
   module _ (old : List ℕ) (room : at + length xs ≤ length old) where
     abbrev whole : List ℕ
     whole = placed at xs old
 
-    pub inside-at : (e : ℕ) → e < length xs → getD whole (at + e) 0 ≡ getD xs e 0
+    inside-at : (e : ℕ) → e < length xs → getD whole (at + e) 0 ≡ getD xs e 0
     inside-at e h =
         sym (getD-drop at whole e 0) ∙ sym (getD-take (length xs) (drop at whole) e 0 h)
         ∙ ap (λ (l : List ℕ). getD l e 0) (placed-read at xs old (omega arith))
 
-    pub behind-at : (e : ℕ) → getD whole (at + length xs + e) 0 ≡ getD old (at + length xs + e) 0
+    behind-at : (e : ℕ) → getD whole (at + length xs + e) 0 ≡ getD old (at + length xs + e) 0
     behind-at e =
         sym (getD-drop (at + length xs) whole e 0) ∙ ap (λ (l : List ℕ). getD l e 0) (placed-behind at xs old room)
         ∙ getD-drop (at + length xs) old e 0
@@ -110,45 +110,3 @@ module _ (at : ℕ) (xs : List ℕ) where
         go x (no l) (no m) =
             let here : x ≡ at + length xs + (x - (at + length xs)) = omega arith in
             o .behind x (omega arith) ∙ rw here (sym (behind-at (x - (at + length xs))))
-
--- n words of a list written behind each other, from its word e on
-module _ (at : ℕ) (xs old : List ℕ) (room : at + length xs ≤ length old) (e n : ℕ) (few : e + n ≤ length xs)
-    (f : ℕ → ℕ) (is : (j : ℕ) → j < n → f j ≡ getD xs (e + j) 0) where
-  abbrev part : List ℕ
-  part = tabulate n f
-
-  abbrev new : List ℕ
-  new = placed (at + e) part old
-
-  long : length part ≡ n
-  long = tabulate-length n f
-
-  fits : at + e + length part ≤ length old
-  fits = omega (arith, long)
-
-  pub run-right : (j : ℕ) → j < n → Right at xs new (e + j)
-  run-right j h =
-      ap (λ m. getD new m 0) {x = at + (e + j)} {y = at + e + j} (omega arith)
-      ∙ inside-at (at + e) part old fits j (omega (arith, long)) ∙ tabulate-at n f j 0 h ∙ is j h
-
-  same-behind : (y : ℕ) → at + e + n ≤ y → getD new y 0 ≡ getD old y 0
-  same-behind y h =
-      let here : y ≡ at + e + length part + (y - (at + e + length part)) = omega (arith, long) in
-      rw here (behind-at (at + e) part old fits (y - (at + e + length part)))
-
-  pub run-kept : Kept at xs old new
-  run-kept =
-      record {
-        outside =
-            record {
-              same = placed-length (at + e) part old fits;
-              before = λ y l. placed-before (at + e) part old y 0 (omega arith) (omega (arith, long));
-              behind = λ y l. same-behind y (omega arith);
-            };
-        right = λ m r. go m (decLt m e) (decLt m (e + n)) r;
-      }
-    where
-      go : (m : ℕ) → Dec (m < e) → Dec (m < e + n) → Right at xs old m → Right at xs new m
-      go m (yes l) k r = placed-before (at + e) part old (at + m) 0 (omega arith) (omega (arith, long)) ∙ r
-      go m (no l) (yes k) r = let here : m ≡ e + (m - e) = omega arith in rw here (run-right (m - e) (omega arith))
-      go m (no l) (no k) r = same-behind (at + m) (omega arith) ∙ r

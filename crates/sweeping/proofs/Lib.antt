@@ -1,8 +1,9 @@
 -- Laws of the words of a swept table.
 pub mod Bounds
-pub mod DoubleRow
+pub mod Columns
 pub mod Filling
 pub mod Joining
+pub mod LevelStep
 pub mod LevelSteps
 pub mod LevelWords
 pub mod Onward
@@ -12,5 +13,6 @@ pub mod RaisedLevel
 pub mod RecordLaws
 pub mod Searching
 pub mod SoundTable
+pub mod Stepping
 pub mod SweptWords
 pub mod TableWords

@@ -1,14 +1,12 @@
 // The vertices of the cells over one cell.
 ghost use mathlib.Core.Path.{_≡_};
-ghost use Prim.Native.Nat.{ℕ, suc, _+_, _*_, _<_, _≤_};
-ghost use lib.ListN.{getD, length};
+ghost use Prim.Native.Nat.{ℕ, suc, _+_, _*_, _-_, _<_, _≤_};
+ghost use lib.ListN.{length};
 ghost use Rattle.rules.specs.Limits.{maxVertices, sweptVertices};
-ghost use Rattle.words.specs.Records.{tabulate};
-ghost use Rattle.words.specs.Inner.Placed.{placed};
 ghost use Rattle.records.specs.Layout.{recordSize, vertexPlace};
 ghost use Rattle.prism.specs.Cells.{atLevel};
 ghost use Rattle.sweeping.specs.Inner.Filling.{Right, Kept};
-ghost use Rattle.sweeping.specs.Inner.RecordWords.{liftedVertex};
+ghost use Rattle.sweeping.specs.Inner.RecordWords.{sweptVertex};
 ghost use Rattle.sweeping.specs.Inner.SweptWords.{prismWords, Ready};
 use crate::places::record_place;
 use crate::reading::vertex;
@@ -23,8 +21,9 @@ fn lift(v: usize, h: usize, i: usize, x: usize) -> u16
     (x + i * v) as u16
 }
 
-// The vertices of cell p at level i, from place `at` of a row on.
-fn lift_row(
+// Word m of the vertices at this level and the next, one behind the other: in cells `low` to `high`, one place earlier in each. A row that is
+// copied to each cell instead is stored word by word and read at once, for which the machine waits.
+fn put_column(
     d: usize,
     v: usize,
     s: usize,
@@ -32,30 +31,25 @@ fn lift_row(
     table: &[u16],
     i: usize,
     p: usize,
+    m: usize,
+    x: u16,
+    low: usize,
+    high: usize,
     at: usize,
-    row: &mut [u16],
+    out: &mut [u16],
 )
     requires ready { ⌜ Ready d v s h (now table) ⌝ }
-    requires from { ⌜ (i ≤ h) × (p < s) ⌝ }
-    requires room { ⌜ at + suc d ≤ length (now row) ⌝ }
-    ensures { λ _. ⌜ now (row .exit) ≡ placed at (tabulate (suc d) (liftedVertex d v s (now (table .entry)) i p)) (now (row .entry)) ⌝ }
+    requires at { ⌜ (i < h) × (p < s) × (high ≤ d) × (high ≤ m) × (low ≤ high) × (m ≤ low + suc d) ⌝ }
+    requires word { ⌜ ((k : ℕ) → low ≤ k → k ≤ high → x ≡ sweptVertex d v s (now table) i p k (m - k)) ⌝ }
+    requires room { ⌜ at + length (prismWords d v s h (now table) i p) ≤ length (now out) ⌝ }
+    ensures kept { λ _. ⌜ Kept at (prismWords d v s h (now (table .entry)) i p) (now (out .entry)) (now (out .exit)) ⌝ }
+    ensures right { λ _. ⌜ ((k : ℕ) → low ≤ k → k ≤ high →
+        Right at (prismWords d v s h (now (table .entry)) i p) (now (out .exit)) (k * recordSize (suc d) + vertexPlace (m - k))) ⌝ }
 {
-    let mut j: usize = 0;
-    while j <= d {
-        row[at + j] = lift(v, h, i, wide(vertex(d, s, table, p, j)));
-        j += 1;
-    }
-}
-
-// n words of a row, from place `from` on.
-fn copy_window(n: usize, from: usize, row: &[u16; 16], at: usize, out: &mut [u16])
-    requires { ⌜ (from + n ≤ 16) × (at + n ≤ length (now out)) ⌝ }
-    ensures { λ _. ⌜ now (out .exit) ≡ placed at (tabulate n (λ j. getD (now (row .entry)) (from + j) 0)) (now (out .entry)) ⌝ }
-{
-    let mut j: usize = 0;
-    while j < n {
-        out[at + j] = row[from + j];
-        j += 1;
+    let mut k = low;
+    while k <= high {
+        out[at + (record_place(d, k) + (VERTICES + (m - k)))] = x;
+        k += 1;
     }
 }
 
@@ -78,13 +72,26 @@ fn put_vertices(
     ensures vertices { λ _. ⌜ ((k j : ℕ) → k ≤ d → j ≤ suc d →
         Right at (prismWords d v s h (now (table .entry)) i p) (now (out .exit)) (k * recordSize (suc d) + vertexPlace j)) ⌝ }
 {
-    let mut row = [0u16; 16];
-    lift_row(d, v, s, h, table, i, p, 0, &mut row);
-    lift_row(d, v, s, h, table, i + 1, p, d + 1, &mut row);
-    let mut k: usize = 0;
-    while k <= d {
-        copy_window(d + 2, k, &row, at + (record_place(d, k) + VERTICES), out);
-        k += 1;
+    let mut j: usize = 0;
+    while j <= d {
+        let x = wide(vertex(d, s, table, p, j));
+        put_column(d, v, s, h, table, i, p, j, lift(v, h, i, x), 0, j, at, out);
+        put_column(
+            d,
+            v,
+            s,
+            h,
+            table,
+            i,
+            p,
+            j + (d + 1),
+            lift(v, h, i + 1, x),
+            j,
+            d,
+            at,
+            out,
+        );
+        j += 1;
     }
 }
 

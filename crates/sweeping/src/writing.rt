@@ -11,6 +11,7 @@ use crate::faces::write_faces;
 use crate::heads::write_heads;
 use crate::places::record_place;
 use crate::raising::raise_level;
+use crate::raising::second_level;
 use crate::vertices::write_vertices;
 use records::sizes::record_size;
 
@@ -72,7 +73,7 @@ fn level_size(d: usize, s: usize) -> usize
     s * (d + 1) * record_size(d + 1)
 }
 
-// Level i of n words, in its place, where those below stand in theirs: the first two from the table, the others raised.
+// Level i of n words, in its place, where those below stand in theirs: the first from the table, the others raised.
 fn next_level(
     d: usize,
     v: usize,
@@ -89,8 +90,12 @@ fn next_level(
     requires room { ⌜ i * n + n ≤ length (now out) ⌝ }
     ensures { λ _. ⌜ now (out .exit) ≡ placed (i * n) (levelWords d v s h (now (table .entry)) i) (now (out .entry)) ⌝ }
 {
-    if i < 2 {
-        let _behind = write_level(d, v, s, h, table, i, i * n, out);
+    if i == 0 {
+        let _behind = write_level(d, v, s, h, table, 0, 0, out);
+        return;
+    }
+    if i == 1 {
+        second_level(d, v, s, h, table, n, out);
         return;
     }
     raise_level(d, v, s, h, table, i - 2, n, out);

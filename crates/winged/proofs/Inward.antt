@@ -4,16 +4,18 @@
 --   wing-host             the answer and the lent bytes, as the host's definitions say: room beyond the largest table changes nothing
 --   wing-long             the count is that of the answer's words
 --   sweep-..              the same of sweep
---   sweep-large           a table too long for its array is swept to too many cells
+--   sweep-refused         a refusal, as the host's definitions say
+--   point-words, solid-words    words of a table, by those of its sweep
+--   room-arrays           the arrays of a room for a sweep
 -- Assumes nothing.
 use mathlib.Core.Path.{_≡_, refl, sym, ap, _∙_}
 use mathlib.Core.Bool.{Bool, true, false, not, _&&_, _||_}
 use mathlib.Core.List.{List, []}
 use Prim.Native.Nat.{ℕ, suc, _+_, _*_, _≤_, _<_}
-use native.Mathlib.Nat.{mul-add, mul-le-mul-right, mul-suc, one-mul}
+use native.Mathlib.Nat.{mul-add, mul-le-mul, mul-le-mul-right, mul-suc, one-mul}
 use native.Mathlib.Omega.{arith}
 use lib.Dec.{leb, ltb}
-use lib.ListN.{length}
+use lib.ListN.{length, replicate, length-replicate}
 use borrow.Author.Tests.{eq-eqb, leb-true, le-leb, le-ltb, lt-ltb, ltb-false, ne-eqb}
 use Rattle.words.specs.Bytes.{words16, bytesOf}
 use Rattle.words.specs.Inner.Placed.{placed}
@@ -24,7 +26,7 @@ use Rattle.rules.specs.Shapes.{shapeOk}
 use Rattle.rules.specs.Calls.{Outcome, accepted, refused, after, written}
 use Rattle.rules.proofs.Tests.{and-parts}
 use Rattle.solids.specs.Accept.{Listed, solidRules}
-use Rattle.records.specs.Layout.{listLength, tableLength}
+use Rattle.records.specs.Layout.{listLength, recordSize, tableLength}
 use Rattle.solids.specs.Table.{tableOfList}
 use Rattle.solids.specs.Uploaded.{uploadedOfList}
 use Rattle.wing.specs.Wing.{WingInput, wingInput, wingOutcome, wingBuffer, wingRules}
@@ -39,7 +41,7 @@ use Rattle.sweep.proofs.Order as sweep
 use Rattle.direct.proofs.Room.{table-fits}
 use Rattle.winged.specs.Host.{hostAnswer, wordsIn, hostList, hostWing, hostWingOutcome, hostWingBuffer, hostUploadedBuffer}
 use Rattle.winged.specs.Host.{hostSweepInput, hostSweep, hostSweepOutcome, hostSweepBuffer}
-use Rattle.winged.specs.Inner.Sent.{lesser, smallSweep, smallTable, tableRoom, wingRead, sweepRead}
+use Rattle.winged.specs.Inner.Sent.{lesser, smallTable, tableRoom, wingRead, sweepRead, SweepRoom}
 use Rattle.winged.proofs.Hosting.{hosted-accepted, hosted-right, hosted-wrong}
 use Rattle.wing.proofs.Lengths.{accepted-long}
 use Rattle.sweep.proofs.CallWords.{swept-long}
@@ -141,18 +143,28 @@ or-right : (a : Bool) {b : Bool} → b ≡ true → (a || b) ≡ true
 or-right true e = refl
 or-right false e = e
 
-steps-some : (d v s h : ℕ) → (shapeOk maxSource d v s && stepsOk h) ≡ true → 1 ≤ h
+pub steps-some : (d v s h : ℕ) → (shapeOk maxSource d v s && stepsOk h) ≡ true → 1 ≤ h
 steps-some d v s h ok = leb-true 1 h (and-parts (leb 1 h) (leb h maxSteps) (and-parts (shapeOk maxSource d v s) (stepsOk h) ok .1) .0)
 
--- words of the largest table that can be swept: its cells are points
-abbrev pub solidRoom : ℕ
-solidRoom = tableLength 0 maxCells
-
--- a cell of the table has at most 3 words for each swept cell
-many-cells : (d s h : ℕ) → 1 ≤ h → solidRoom < tableLength d s → maxCells < sweptCells d s h
-many-cells d s h steps n =
+-- a table has at most 4 words for each cell of its sweep, of one dimension or more at most 3, and that has at least 8
+pub point-words : (d s h : ℕ) → 1 ≤ h → tableLength d s ≤ sweptCells d s h * 4
+point-words d s h steps =
     omega
     (arith, mul-suc s d, mul-add s (d + d) 3, mul-add s d d, one-mul (s * suc d), mul-le-mul-right {m = 1} {n = h} (s * suc d) steps)
+
+pub solid-words : (d s h : ℕ) → 1 ≤ h → 1 ≤ d → tableLength d s * 8 ≤ tableLength (suc d) (sweptCells d s h) * 3
+solid-words d s h steps some =
+    let n = sweptCells d s h in
+    let more : n * 8 ≤ tableLength (suc d) n =
+    mul-le-mul {n₁ = n} {m₁ = 8} {n₂ = n} {m₂ = recordSize (suc d)} (omega arith) (omega arith) in
+    let least : s * 1 ≤ s * d = mul-le-mul {n₁ = s} {m₁ = 1} {n₂ = s} {m₂ = d} (omega arith) some in
+    omega
+    (arith, more, least, mul-suc s d, mul-add s (d + d) 3, mul-add s d d, one-mul (s * suc d), mul-le-mul-right {m = 1} {n = h} (s * suc d) steps)
+
+-- the arrays of a room, as the code makes them
+pub room-arrays : {d s h : ℕ} {table : List ℕ} {k m : ℕ} → SweepRoom d s h table k m →
+    SweepRoom d s h table (length (replicate {A = ℕ} k 0)) (length (replicate {A = ℕ} m 0))
+room-arrays {k = k} {m = m} r = rw (length-replicate {A = ℕ} k 0, length-replicate {A = ℕ} m 0) r
 
 module _ (d v s h : ℕ) (table : List ℕ) (x : ℕ) where
   pub sweep-outside : (shapeOk maxSource d v s && stepsOk h) ≡ false → refused 2 ≡ sweepRead d v s h table x
@@ -171,55 +183,18 @@ module _ (d v s h : ℕ) (table : List ℕ) (x : ℕ) where
   sweep-right e =
       sym (hosted-right (shapeOk maxSource d v s && stepsOk h) table (tableLength d s) (sweepOutcome (sweepInput d v s h (words16 table) x)) e)
 
-  pub sweep-large : (shapeOk maxSource d v s && stepsOk h) ≡ true → length table ≡ tableLength d s * 2 → solidRoom < tableLength d s →
+  pub sweep-large : (shapeOk maxSource d v s && stepsOk h) ≡ true → length table ≡ tableLength d s * 2 → maxCells < sweptCells d s h →
       refused 12 ≡ sweepRead d v s h table x
   unfolding sweepRules
   sweep-large ok e n =
       let right = eq-eqb (length (words16 table)) (tableLength d s) (omega (arith, words-count table)) in
-      let large = or-right (ltb maxVertices (sweptVertices v h)) (lt-ltb maxCells (sweptCells d s h) (many-cells d s h (steps-some d v s h ok) n)) in
+      let large = or-right (ltb maxVertices (sweptVertices v h)) (lt-ltb maxCells (sweptCells d s h) n) in
       sweep.refuses (sweepInput d v s h (words16 table) x) [] 12 (rw (ok, right, large)) .0 ∙ sweep-right e
 
--- a small sweep fits
-sweep-fits : (d s h most : ℕ) → smallSweep d s h most ≡ true → d ≤ maxSource → s ≤ maxCells → h ≤ maxSteps → sweptCells d s h ≤ maxCells →
-    tableLength (suc d) (sweptCells d s h) ≤ most
-sweep-fits d s h most e hd hs hh hc =
-    leb-true (tableLength (suc d) (sweptCells d s h)) most
-    (rw (le-ltb maxSource d hd, le-ltb maxCells s hs, le-ltb maxSteps h hh, le-ltb maxCells (sweptCells d s h) hc) at e)
-
--- every sweep fits the largest table
-pub all-small-sweep : (d s h : ℕ) → smallSweep d s h tableRoom ≡ true
-all-small-sweep d s h = go (ltb maxSource d) (ltb maxCells s) (ltb maxSteps h) (ltb maxCells (sweptCells d s h)) refl refl
-  where
-    go : (a b c e : Bool) → ltb maxSource d ≡ a → ltb maxCells (sweptCells d s h) ≡ e →
-        (a || (b || (c || (e || leb (tableLength (suc d) (sweptCells d s h)) tableRoom)))) ≡ true
-    go true b c e x y = refl
-    go false true c e x y = refl
-    go false false true e x y = refl
-    go false false false true x y = refl
-    go false false false false x y =
-        le-leb (tableLength (suc d) (sweptCells d s h)) tableRoom
-        (table-fits (suc d) (sweptCells d s h) (omega (arith, ltb-false maxSource d x)) (ltb-false maxCells (sweptCells d s h) y))
-
-sweep-same : (d v s h most : ℕ) → smallSweep d s h most ≡ true → (ws : List ℕ) (x : ℕ) →
-    sweepOutcome (sweepInput d v s h ws (lesser x most)) ≡ sweepOutcome (sweepInput d v s h ws x)
-unfolding sweepOutcome sweepRules
-sweep-same d v s h most small ws x =
-    go (shapeOk maxSource d v s && stepsOk h) refl ((ltb maxVertices (sweptVertices v h) || ltb maxCells (sweptCells d s h))) refl
-  where
-    go : (a : Bool) → (shapeOk maxSource d v s && stepsOk h) ≡ a → (b : Bool) →
-        (ltb maxVertices (sweptVertices v h) || ltb maxCells (sweptCells d s h)) ≡ b →
-        sweepOutcome (sweepInput d v s h ws (lesser x most)) ≡ sweepOutcome (sweepInput d v s h ws x)
-    go false e b f = rw e refl
-    go true e true f = rw f refl
-    go true e false f =
-        let l = sweep-limits-are d v s h (ap not e) in
-        let n = sweep.small d v s h f .1 in
-        rw (room-cut x most (tableLength (suc d) (sweptCells d s h)) (sweep-fits d s h most small (l .dimension) (l .cells) (l .steps) n)) refl
-
-sweep-room : (d v s h most : ℕ) → smallSweep d s h most ≡ true → (table : List ℕ) (x : ℕ) →
+sweep-room : (d v s h most : ℕ) → tableLength (suc d) (sweptCells d s h) ≤ most → (table : List ℕ) (x : ℕ) →
     sweepRead d v s h table (lesser x most) ≡ sweepRead d v s h table x
-unfolding sweepRead
-sweep-room d v s h most small table x = rw (sweep-same d v s h most small (words16 table) x) refl
+unfolding sweepRead sweepOutcome sweepRules
+sweep-room d v s h most fits table x = rw (room-cut x most (tableLength (suc d) (sweptCells d s h)) fits) refl
 
 pub sweep-long : (d v s h : ℕ) (table : List ℕ) (x k : ℕ) → sweepRead d v s h table x ≡ accepted k →
     k ≡ length (sweptWords (sweepInput d v s h (words16 table) x))
@@ -228,11 +203,17 @@ sweep-long d v s h table x k e =
     swept-long d v s h (words16 table) x k
     (hosted-accepted (shapeOk maxSource d v s && stepsOk h) table (sweepOutcome (sweepInput d v s h (words16 table) x)) k e)
 
-pub sweep-host : (d v s h : ℕ) (table out : List ℕ) (x most : ℕ) (o : Outcome ℕ) → smallSweep d s h most ≡ true →
-    x ≡ lesser (wordsIn out) most → o ≡ sweepRead d v s h table x →
+pub sweep-host : (d v s h : ℕ) (table out : List ℕ) (x most : ℕ) (o : Outcome ℕ) →
+    tableLength (suc d) (sweptCells d s h) ≤ most → x ≡ lesser (wordsIn out) most → o ≡ sweepRead d v s h table x →
     (hostAnswer o ≡ hostSweep d v s h table out)
     × (after o (bytesOf (sweptWords (sweepInput d v s h (words16 table) x))) out ≡ hostSweepBuffer d v s h table out)
 unfolding sweepRead hostSweep hostSweepOutcome hostSweepBuffer sweptWords
 sweep-host d v s h table out x most o small room e =
     let q = e ∙ ap (sweepRead d v s h table) room ∙ sweep-room d v s h most small table (wordsIn out) in
     (ap hostAnswer q, ap (λ r. after r (bytesOf (sweptWords (hostSweepInput d v s h table out))) out) q)
+
+pub sweep-refused : (d v s h : ℕ) (table out : List ℕ) (k : ℕ) → refused k ≡ sweepRead d v s h table (wordsIn out) →
+    (hostAnswer (refused k) ≡ hostSweep d v s h table out) × (out ≡ hostSweepBuffer d v s h table out)
+unfolding sweepRead hostSweep hostSweepOutcome hostSweepBuffer
+sweep-refused d v s h table out k e =
+    (ap hostAnswer e, ap (λ r. after r (bytesOf (sweptWords (hostSweepInput d v s h table out))) out) e)

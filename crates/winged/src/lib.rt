@@ -9,11 +9,10 @@ ghost use Rattle.hosting.specs.Moves.{moveTold, hostMoveOutcome, hostMoveBuffer
 ghost use Rattle.hosting.specs.Reads.{hostReadOutcome, hostReadHeader, hostReadCells, hostReadPoints};
 ghost use Rattle.page.specs.Key.{textOutcome, textBuffer};
 use crate::faces::faces_bytes;
-use crate::host::sweep_bytes;
+use crate::host::sweep_told;
 use crate::host::wing_told;
 use crate::sending::answered;
 use crate::sending::is_small;
-use crate::sending::is_small_sweep;
 use direct::lent::in_room;
 use hosting::lists::list_bytes;
 use hosting::moving::move_bytes;
@@ -72,16 +71,7 @@ pub extern "C" fn winged_sweep(
     let v = v as usize;
     let s = s as usize;
     let h = h as usize;
-    if is_small_sweep(d, s, h, 5120) {
-        let mut words = [0u16; 5120];
-        return sweep_bytes(d, v, s, h, table, &mut words, swept);
-    }
-    if is_small_sweep(d, s, h, 20480) {
-        let mut words = [0u16; 20480];
-        return sweep_bytes(d, v, s, h, table, &mut words, swept);
-    }
-    let mut words = [0u16; TABLE_ROOM];
-    sweep_bytes(d, v, s, h, table, &mut words, swept)
+    sweep_told(d, v, s, h, table, swept)
 }
 
 #[no_mangle]

@@ -1,27 +1,20 @@
 // The calls on bytes: the numbers and the length are tested, the input is decoded, and the call writes words.
 ghost use mathlib.Core.Path.{_≡_};
-ghost use Prim.Native.Nat.{_*_, _≤_};
 ghost use lib.ListN.{length};
 ghost use Rattle.words.specs.Bytes.{words16, bytesOf};
 ghost use Rattle.rules.specs.Numbers.{outcomeOf};
 ghost use Rattle.rules.specs.Calls.{after};
-ghost use Rattle.records.specs.Layout.{tableLength};
 ghost use Rattle.solids.specs.Table.{tableOfList};
 ghost use Rattle.solids.specs.Uploaded.{uploadedOfList};
 ghost use Rattle.wing.specs.Wing.{wingInput, wingOutcome};
-ghost use Rattle.sweep.specs.Sweep.{sweptWords, sweepInput};
 ghost use Rattle.winged.specs.Host.{wordsIn, hostList};
-ghost use Rattle.winged.specs.Inner.Sent.{wingRead, sweepRead};
+ghost use Rattle.winged.specs.Inner.Sent.{wingRead};
 use direct::uploaded::uploaded_bytes;
 use records::sizes::LIST_ROOM;
-use records::sizes::SOLID_ROOM;
 use records::sizes::list_words;
-use records::sizes::table_words;
 use rules::limits::Shape;
 use rules::refusal::Answer;
 use rules::refusal::Refusal;
-use sweep::limits::in_limits;
-use sweep::sweep;
 use wing::wing_table;
 use words::copy::decode;
 
@@ -74,52 +67,4 @@ pub fn wing_words(
     let mut list = [0u16; LIST_ROOM];
     decode(cells, &mut list);
     wing_list(d, v, s, &list[..n], out, uploaded)
-}
-
-// sweep on a table of n words, decoded into an array.
-fn sweep_decoded(
-    d: usize,
-    v: usize,
-    s: usize,
-    h: usize,
-    table: &[u8],
-    n: usize,
-    solid: &mut [u16],
-    out: &mut [u16],
-) -> Answer
-    requires { ⌜ (length (now table) ≡ n * 2) × (n ≤ length (now solid)) × (n ≡ tableLength d s) ⌝ }
-    ensures answer { λ r. ⌜ outcomeOf r ≡ sweepRead d v s h (now (table .entry)) (length (now (out .entry))) ⌝ }
-    ensures buffer { λ r. ⌜ now (out .exit)
-        ≡ after (outcomeOf r) (sweptWords (sweepInput d v s h (words16 (now (table .entry))) (length (now (out .entry))))) (now (out .entry)) ⌝ }
-{
-    decode(table, solid);
-    sweep(d, v, s, h, &solid[..n], out)
-}
-
-pub fn sweep_words(d: usize, v: usize, s: usize, h: usize, table: &[u8], out: &mut [u16]) -> Answer
-    ensures answer { λ r. ⌜ outcomeOf r ≡ sweepRead d v s h (now (table .entry)) (length (now (out .entry))) ⌝ }
-    ensures buffer { λ r. ⌜ now (out .exit)
-        ≡ after (outcomeOf r) (sweptWords (sweepInput d v s h (words16 (now (table .entry))) (length (now (out .entry))))) (now (out .entry)) ⌝ }
-{
-    if !in_limits(d, v, s, h) {
-        return Answer::Refused(Refusal::OutsideLimits);
-    }
-    let n = table_words(d, s);
-    if table.len() != n * 2 {
-        return Answer::Refused(Refusal::WrongLength);
-    }
-    // A table of more words gives over 4,096 cells.
-    if SOLID_ROOM < n {
-        return Answer::Refused(Refusal::SweptTooLarge);
-    }
-    if n <= 512 {
-        let mut solid = [0u16; 512];
-        return sweep_decoded(d, v, s, h, table, n, &mut solid, out);
-    }
-    if n <= 4096 {
-        let mut solid = [0u16; 4096];
-        return sweep_decoded(d, v, s, h, table, n, &mut solid, out);
-    }
-    let mut solid = [0u16; SOLID_ROOM];
-    sweep_decoded(d, v, s, h, table, n, &mut solid, out)
 }

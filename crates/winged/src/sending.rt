@@ -5,7 +5,7 @@ ghost use lib.IntN.{pos, negℤ};
 ghost use lib.ListN.{length};
 ghost use Rattle.rules.specs.Numbers.{outcomeOf};
 ghost use Rattle.winged.specs.Host.{hostAnswer};
-ghost use Rattle.winged.specs.Inner.Sent.{lesser, smallTable, smallSweep, countOf, sent};
+ghost use Rattle.winged.specs.Inner.Sent.{lesser, smallTable, countOf, sent};
 use records::sizes::table_words;
 use rules::limits::Shape;
 use rules::refusal::Answer;
@@ -34,26 +34,6 @@ pub fn is_small(d: usize, s: usize, most: usize) -> bool
         return true;
     }
     table_words(d, s) <= most
-}
-
-// Whether the table of the sweep of s cells of dimension d in h steps has at most so many words, or there is none such.
-pub fn is_small_sweep(d: usize, s: usize, h: usize, most: usize) -> bool
-    ensures { λ r. ⌜ r ≡ smallSweep d s h most ⌝ }
-{
-    if Shape::MAX_SOURCE < d {
-        return true;
-    }
-    if Shape::MAX_CELLS < s {
-        return true;
-    }
-    if Shape::MAX_STEPS < h {
-        return true;
-    }
-    let n = h * (s * (d + 1));
-    if Shape::MAX_CELLS < n {
-        return true;
-    }
-    table_words(d + 1, n) <= most
 }
 
 pub fn minus(k: u8) -> i64

@@ -2,7 +2,7 @@
 --   lesser a b        the lesser of two numbers
 --   tableRoom         words of the largest table
 --   smallTable d s most    a table of s cells of dimension d has at most so many words, or there is none such
---   smallSweep d s h most  the same of the sweep of s cells of dimension d in h steps
+--   SweepRoom d s h table k m    the table has its length in bytes, k words have room for it, and m words for its sweep in h steps
 --   countOf o         the count of an accepted outcome; 0 of a refused one
 --   sent o t out      the lent bytes when the outcome's count of the words t has gone to their start
 --   wingRead, sweepRead    the outcomes in rooms of so many words
@@ -10,13 +10,14 @@
 --   facesAnswer, facesAfter    what faces answers and leaves in the lent bytes, told from the table's words
 use mathlib.Core.Bool.{Bool, cond, _&&_, _||_}
 use mathlib.Core.List.{List, _++_, map}
-use Prim.Native.Nat.{ℕ, suc, _*_}
+use mathlib.Core.Path.{_≡_}
+use Prim.Native.Nat.{ℕ, suc, _*_, _≤_}
 use lib.Dec.{leb, ltb}
 use lib.IntN.{ℤ}
-use lib.ListN.{take, drop}
+use lib.ListN.{length, take, drop}
 use Rattle.words.specs.Records.{concat}
 use Rattle.words.specs.Bytes.{words16, bytesOf}
-use Rattle.rules.specs.Limits.{maxDimension, maxSource, maxCells, maxSteps, stepsOk}
+use Rattle.rules.specs.Limits.{maxDimension, maxSource, maxCells, stepsOk}
 use Rattle.rules.specs.Shapes.{shapeOk}
 use Rattle.rules.specs.Calls.{Outcome, accepted, refused, after}
 use Rattle.simplex.specs.Cell.{Cell}
@@ -36,9 +37,10 @@ tableRoom = tableLength maxDimension maxCells
 abbrev pub smallTable : ℕ → ℕ → ℕ → Bool
 smallTable d s most = ltb maxDimension d || (ltb maxCells s || leb (tableLength d s) most)
 
-abbrev pub smallSweep : ℕ → ℕ → ℕ → ℕ → Bool
-smallSweep d s h most =
-    ltb maxSource d || (ltb maxCells s || (ltb maxSteps h || (ltb maxCells (sweptCells d s h) || leb (tableLength (suc d) (sweptCells d s h)) most)))
+pub record SweepRoom (d s h : ℕ) (table : List ℕ) (k m : ℕ) : Type 0 where
+  pub size : length table ≡ tableLength d s * 2
+  pub solid : tableLength d s ≤ k
+  pub swept : tableLength (suc d) (sweptCells d s h) ≤ m
 
 abbrev pub countOf : Outcome ℕ → ℕ
 countOf (accepted n) = n

@@ -1,6 +1,7 @@
--- The first two levels from the table, the others raised. Assumes nothing.
+-- The first level from the table, the second from the first, the others raised. Assumes nothing.
 use mathlib.Core.Path.{_≡_, ap, _∙_}
 use Prim.Native.Nat.{ℕ, _+_, _*_, _-_, _≤_}
+use native.Mathlib.Nat.{one-mul, zero-mul}
 use native.Mathlib.Omega.{arith}
 use borrow.Author.Needs.{needs}
 use Rattle.words.proofs.Records.{record-next}
@@ -13,8 +14,36 @@ write-level-requires c κs =
     let s : tie.Start = search needs in
     let a = s .args in
     let pre = s .pre .1 in
-    let long = level-long (a .d) (a .v) (a .s) (a .h) (a .table .now) (s .pre .0 .long) (a .i) in
-    (s .pre .0, (pre .0 .0, omega (arith, long, pre .0 .1, pre .1 .1)))
+    let long = level-long (a .d) (a .v) (a .s) (a .h) (a .table .now) (s .pre .0 .long) 0 in
+    (s .pre .0, (omega (arith, pre .0 .0), omega (arith, long, pre .0 .1, pre .1 .1)))
+
+returns : tie.Need-returns
+returns c =
+    let t : tie.Then1 = search needs in
+    let done : tie.After-write-level = search needs in
+    let s : tie.Start = search needs in
+    rw (t .if1 .taken, zero-mul (s .args .n)) (done .write-level .ensures .1)
+
+second-level-requires : tie.Need-second-level-requires
+second-level-requires c κs =
+    let s : tie.Start = search needs in
+    let t : tie.Then2 = search needs in
+    let a = s .args in
+    let pre = s .pre .1 in
+    let one : a .i * a .n ≡ a .n = ap (λ m. m * a .n) (t .if2 .taken) ∙ one-mul (a .n) in (
+      s .pre .0,
+      (
+        (omega (arith, pre .0 .0, t .if2 .taken), pre .0 .1),
+        ((λ e l. rw (zero-mul (a .n)) at (pre .1 .0 0 e (omega (arith, t .if2 .taken)) l)), omega (arith, one, pre .1 .1)),
+      ),
+    )
+
+returns-2 : tie.Need-returns-2
+returns-2 c =
+    let t : tie.Then2 = search needs in
+    let done : tie.After-second-level = search needs in
+    let s : tie.Start = search needs in
+    rw (t .if2 .taken, one-mul (s .args .n)) (done .second-level .ensures)
 
 -- where level i begins, from level i - 2
 begins : (n i : ℕ) → 2 ≤ i → i * n ≡ (i - 2) * n + n + n
@@ -25,40 +54,47 @@ begins n i h =
 raise-level-requires : tie.Need-raise-level-requires
 raise-level-requires c κs =
     let s : tie.Start = search needs in
-    let e : tie.Else1 = search needs in
+    let o : tie.Else1 = search needs in
+    let e : tie.Else2 = search needs in
     let a = s .args in
+    let two : 2 ≤ a .i = omega (arith, o .if1 .left, e .if2 .left) in
     let pre = s .pre .1 in
     let below = pre .1 .0 in (
       s .pre .0,
       (
-        (omega (arith, pre .0 .0, e .if1 .left), pre .0 .1),
+        (omega (arith, pre .0 .0, two), pre .0 .1),
         (
           (
-            (λ x l. below (a .i - 2) x (omega (arith, e .if1 .left)) l),
-            (λ x l. rw (record-next (a .n) (a .i - 2)) at (below (a .i - 2 + 1) x (omega (arith, e .if1 .left)) l)),
+            (λ x l. below (a .i - 2) x (omega (arith, two)) l),
+            (λ x l. rw (record-next (a .n) (a .i - 2)) at (below (a .i - 2 + 1) x (omega (arith, two)) l)),
           ),
-          omega (arith, pre .1 .1, begins (a .n) (a .i) (e .if1 .left)),
+          omega (arith, pre .1 .1, begins (a .n) (a .i) (two)),
         ),
       ),
     )
 
-returns-2 : tie.Need-returns-2
-returns-2 c =
+returns-3 : tie.Need-returns-3
+returns-3 c =
     let s : tie.Start = search needs in
-    let e : tie.Else1 = search needs in
+    let o : tie.Else1 = search needs in
+    let e : tie.Else2 = search needs in
     let done : tie.After-raise-level = search needs in
     let a = s .args in
-    let level : a .i - 2 + 2 ≡ a .i = omega (arith, e .if1 .left) in
-    rw (begins (a .n) (a .i) (e .if1 .left)) (rw level at (done .raise-level .ensures))
+    let two : 2 ≤ a .i = omega (arith, o .if1 .left, e .if2 .left) in
+    let level : a .i - 2 + 2 ≡ a .i = omega (arith, two) in
+    rw (begins (a .n) (a .i) (two)) (rw level at (done .raise-level .ensures))
 
 pub next-level-spec : {M : Type 1} → statement M
 next-level-spec =
     tie.close
     (tie.spec
-    (λ c. search needs)
     write-level-requires
     (λ c. search needs)
+    returns
+    second-level-requires
+    (λ c. search needs)
+    returns-2
     (λ c. search needs)
     raise-level-requires
     (λ c. search needs)
-    returns-2)
+    returns-3)

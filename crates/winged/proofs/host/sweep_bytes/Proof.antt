@@ -26,15 +26,15 @@ relay : (c : tie.After-words) →
     let s : tie.Start = search needs in
     let a = s .args in
     let r : tie.After-room = search needs in
-    let call = c .before .sweep-words in
-    Relayed (a .words .now) (a .swept .now) (call .last .1 .1 .1 .1 .1 .0)
+    let call = (let k : tie.After-sweep-decoded = search needs in k .sweep-decoded) in
+    Relayed (a .words .now) (a .swept .now) (call .last .1 .1 .1 .1 .1 .1 .0)
     (sweptWords (sweepInput (a .d) (a .v) (a .s) (a .h) (words16 (a .table .now)) (length (take (r .room .result) (a .words .now)))))
     (r .room .result) (outcomeOf (call .result))
 relay c =
     let s : tie.Start = search needs in
     let a = s .args in
     let r : tie.After-room = search needs in
-    let call = c .before .sweep-words in
+    let call = (let k : tie.After-sweep-decoded = search needs in k .sweep-decoded) in
     record {
       room = m r .1;
       same = c .words .given .0 ∙ length-take-le (r .room .result) (a .words .now) (m r .0);
@@ -50,7 +50,8 @@ returns c =
     let w : tie.After-words = search needs in
     let send = c .before .before .send in
     let room = length-take-le (r .room .result) (a .words .now) (m r .0) ∙ r .room .ensures in
-    let host = sweep-host (a .d) (a .v) (a .s) (a .h) (a .table .now) (a .swept .now) _ _ _ (s .pre) room (w .before .sweep-words .ensures .0) in
+    let call : tie.After-sweep-decoded = search needs in
+    let host = sweep-host (a .d) (a .v) (a .s) (a .h) (a .table .now) (a .swept .now) _ _ _ (s .pre .swept) room (call .sweep-decoded .ensures .0) in
     (toZ-ofZ w64 _ (search needs) ∙ send .ensures .0 ∙ host .0, send .ensures .1 ∙ relayed (relay w) ∙ host .1)
 
 pub sweep-bytes-spec : {M : Type 1} → statement M
@@ -60,10 +61,11 @@ sweep-bytes-spec =
     (λ c κs. search needs)
     (λ c. m (search needs) .0)
     (λ c. sym (length-take-le _ _ (m (search needs) .0)))
-    (λ c κs. search needs)
+    (λ c κs. let s : tie.Start = search needs in (s .pre .size, s .pre .solid))
     (λ c. lent-fits (relay (search needs)))
     (λ c. sym (lent-long (relay (search needs))))
     (λ c κs. send-fits (relay (search needs)))
+    (λ c. search needs)
     (λ c. search needs)
     (λ c. search needs)
     returns)
