@@ -20,7 +20,8 @@ fn bucket(h: u32, n: usize) -> usize
     (widest(h) * n as u64 / 4294967296) as usize
 }
 
-// A key before g with its hash, 65535 where there is none, or g where more than so many are to be looked at. The last in its bucket is `first`. The bound is no constant, or the compiler would write the loop out, and then not put it into its callers.
+// A key before g with its hash, 65535 where there is none, or g where more than so many are to be looked at. The last in its bucket is `first`.
+// The bound is no constant, or the compiler would write the loop out, and then not put it into its callers.
 fn find(hash: &[u32], next: &[u16], buckets: usize, g: usize, first: u16, most: usize) -> usize
     requires { ⌜ Chain buckets (now hash) (now next) g first × (g < 32768) × (g < length (now hash)) × (g < length (now next)) ⌝ }
     ensures none { λ r. ⌜ (r ≡ 65535 → (j : ℕ) → j < g → getD (now (hash .entry)) j 0 ≡ getD (now (hash .entry)) g 0 → ⊥) ⌝ }

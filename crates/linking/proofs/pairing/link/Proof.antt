@@ -49,8 +49,8 @@ returns-3 c z =
     let place : a .g % suc (a .d) ≡ a .a =
     ap (λ i. i % suc (a .d)) (s .pre .3) ∙ place-of-key (a .p) (a .a) (suc (a .d)) (omega (arith, s .pre .2)) in
     paired (a .d) (a .s) (a .table .now) (a .hash .now) (a .head .now) (a .next .now) _ _ (a .g) (s .pre .0) (inside s .0)
-    (u .put .ensures .1 .1 .1) (u .put .ensures .0 (λ l. absurd (omega (arith, l, t .if2 .left)))) _ (u .put .result) (omega (arith, t .if2 .left)) (rw cell (rw place (now .0)))
-    (rw cell (rw place (now .1)))
+    (u .put .ensures .1 .1 .1) (u .put .ensures .0 (λ l. absurd (omega (arith, l, t .if2 .left)))) _ (u .put .result)
+    (omega (arith, t .if2 .left)) (rw cell (rw place (now .0))) (rw cell (rw place (now .1)))
 
 pub link-spec : {M : Type 1} → statement M
 link-spec =
