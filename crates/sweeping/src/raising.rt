@@ -115,6 +115,7 @@ fn stepped_row(d: usize, steps: &[u16; 18], from: usize, out: &[u16]) -> [u16; 1
     row
 }
 
+// Writes such a record from place `to` on.
 fn put_row(d: usize, row: &[u16; 18], to: usize, out: &mut [u16])
     requires { ⌜ (d ≤ maxSource) × (to + recordSize (suc d) ≤ length (now out)) ⌝ }
     ensures outside { λ _. ⌜ Outside to (recordSize (suc d)) (now (out .entry)) (now (out .exit)) ⌝ }
@@ -128,7 +129,7 @@ fn put_row(d: usize, row: &[u16; 18], to: usize, out: &mut [u16])
     }
 }
 
-// Writes it at place `to`. All is read before any is written, so that the compiler makes both wide.
+// Both: all is read before any is written, so that the compiler makes both wide.
 fn put_stepped(d: usize, steps: &[u16; 18], from: usize, to: usize, out: &mut [u16])
     requires { ⌜ (d ≤ maxSource) × (from + recordSize (suc d) ≤ length (now out)) × (to + recordSize (suc d) ≤ length (now out)) ⌝ }
     ensures { λ _. ⌜ SteppedTo (recordSize (suc d)) from to (now (steps .entry)) (now (out .entry)) (now (out .exit)) ⌝ }
