@@ -2,14 +2,16 @@
 --   list-fits, table-fits     the largest list and the largest table
 --   room-made                 arrays of such lengths, as the code makes them, are a room
 --   room-small                the words of a list and of a table by its places
+--   room-for                  arrays for n places are a room for a call with at most n
 -- Assumes nothing.
+use mathlib.Core.List.{List}
 use Prim.Native.Nat.{ℕ, suc, _*_, _≤_, _<_}
 use native.Mathlib.Nat.{mul-assoc, mul-le-mul}
 use native.Mathlib.Omega.{arith}
 use lib.ListN.{length, replicate, length-replicate, getD-replicate}
 use Rattle.rules.specs.Limits.{maxCells, maxDimension}
 use Rattle.records.specs.Layout.{listSize, recordSize, listLength, tableLength}
-use Rattle.direct.specs.Inner.Direct.{Buckets}
+use Rattle.direct.specs.Inner.Direct.{Buckets, Lent}
 
 pub list-fits : (d s : ℕ) → d ≤ maxDimension → s ≤ maxCells → listLength d s ≤ listLength maxDimension maxCells
 list-fits d s hd hs = mul-le-mul {m₁ = listSize d} {m₂ = listSize maxDimension} hs (omega arith)
@@ -47,3 +49,11 @@ room-small d s n some few =
     let table : tableLength d s ≤ s * (suc d * 3) =
     mul-le-mul {n₁ = s} {m₁ = recordSize d} {n₂ = s} {m₂ = suc d * 3} (omega arith) (omega arith) in
     (omega (arith, list, mul-assoc s (suc d) 2), omega (arith, table, mul-assoc s (suc d) 3))
+
+pub room-for : (d v s n h : ℕ) (cells table uploaded : List ℕ) → Lent d v s cells table uploaded × (s * suc d ≤ n) → 0 < h → h ≤ 65536 →
+    (Lent d v s cells table uploaded × Buckets d s (replicate {A = ℕ} n 0) (replicate {A = ℕ} h 65535) (replicate {A = ℕ} n 0))
+    × ((listLength d s ≤ length (replicate {A = ℕ} (n * 2) 0)) × (tableLength d s ≤ length (replicate {A = ℕ} (n * 3) 0)))
+room-for d v s n h cells table uploaded (lent, few) some most =
+    let small = room-small d s n (lent .some) few in
+    let room = room-made d s n (n * 2) (n * 3) h few (small .0) (small .1) some most in
+    ((lent, room .0), (room .1, room .2))

@@ -10,7 +10,9 @@ ghost use Rattle.direct.specs.Inner.Direct.{Buckets, Direct, Lent};
 use crate::lent::rooms::in_512;
 use crate::lent::rooms::in_1024;
 use crate::lent::rooms::in_2048;
+use crate::lent::rooms::in_4096;
 use crate::lent::rooms::in_8192;
+use crate::lent::rooms::in_16384;
 use crate::lent::rooms::in_32768;
 use crate::uploaded::uploaded_bytes;
 use linking::try_table;
@@ -132,11 +134,23 @@ pub fn in_room(
         }
         return in_2048(d, v, s, cells, table, uploaded);
     }
+    if n <= 4096 {
+        if d == 1 {
+            return in_4096(1, v, s, cells, table, uploaded);
+        }
+        return in_4096(d, v, s, cells, table, uploaded);
+    }
     if n <= 8192 {
         if d == 1 {
             return in_8192(1, v, s, cells, table, uploaded);
         }
         return in_8192(d, v, s, cells, table, uploaded);
+    }
+    if n <= 16384 {
+        if d == 1 {
+            return in_16384(1, v, s, cells, table, uploaded);
+        }
+        return in_16384(d, v, s, cells, table, uploaded);
     }
     if d == 1 {
         return in_32768(1, v, s, cells, table, uploaded);

@@ -2,6 +2,7 @@
 --   BlankTables       its records
 --   Blanks            a record written in its parts
 --   SortedCells       a cell read and sorted
+--   FineCells         a cell tested as it is read
 --   Ranks             a row put in order by rank
 --   RankCounts        ranks counted and written
 --   Scattered         its entries written by rank, one after the other
@@ -9,6 +10,7 @@
 pub mod BlankTables
 pub mod Blanks
 pub mod SortedCells
+pub mod FineCells
 pub mod Ranks
 pub mod RankCounts
 pub mod Scattered

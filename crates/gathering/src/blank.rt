@@ -1,4 +1,4 @@
-// The record of a cell with empty wings, written in its parts. The loops always have eight turns, which the compiler writes out.
+// The record of a cell with empty wings, written in its parts.
 use records::sizes::EMPTY;
 use records::sizes::MATERIAL;
 use records::sizes::VERTICES;
@@ -14,7 +14,7 @@ ghost use Rattle.simplex.specs.SignWords.{signWord};
 ghost use Rattle.records.specs.Layout.{empty, recordSize, wingPlace};
 ghost use Rattle.gathering.specs.Inner.Gathering.{blankWords};
 
-// Writes the first n words of a row to place `to` of the table and on.
+// Writes the first n words of a row to place `to` of the table and on. There are always eight turns, which the compiler writes out.
 fn store(n: usize, row: [u16; 8], to: usize, table: &mut [u16])
     requires { ⌜ (n ≤ 8) × (length row ≡ 8) × (to + n ≤ length (now table)) ⌝ }
     ensures { λ _. ⌜ now (table .exit) ≡ placed to (take n row) (now (table .entry)) ⌝ }
@@ -28,16 +28,14 @@ fn store(n: usize, row: [u16; 8], to: usize, table: &mut [u16])
     }
 }
 
-// Writes n empty wings there.
+// Writes n empty wings there. The compiler makes one store of it where it knows n.
 fn clear(n: usize, to: usize, table: &mut [u16])
     requires { ⌜ (n ≤ 8) × (to + n ≤ length (now table)) ⌝ }
     ensures { λ _. ⌜ now (table .exit) ≡ placed to (replicate n empty) (now (table .entry)) ⌝ }
 {
     let mut j: usize = 0;
-    while j < 8 {
-        if j < n {
-            table[to + j] = EMPTY;
-        }
+    while j < n {
+        table[to + j] = EMPTY;
         j += 1;
     }
 }

@@ -6,7 +6,6 @@ use crate::pairing::link_all;
 use gathering::gather;
 use records::sizes::wings_words;
 use soundness::hashing::hashes;
-use soundness::rows::all_fine;
 ghost use mathlib.Core.Path.{_≡_};
 ghost use mathlib.Core.Bool.{true};
 ghost use Prim.Native.Nat.{ℕ, suc, _*_, _≤_, _<_};
@@ -37,10 +36,7 @@ pub fn try_table(
     ensures long { λ _. ⌜ (length (now (hash .exit)) ≡ length (now (hash .entry)))
         × (length (now (head .exit)) ≡ length (now (head .entry))) × (length (now (next .exit)) ≡ length (now (next .entry))) ⌝ }
 {
-    if !gather(d, s, cells, table) {
-        return false;
-    }
-    if !all_fine(d, v, s, table) {
+    if !gather(d, v, s, cells, table) {
         return false;
     }
     hashes(d, s, table, hash);

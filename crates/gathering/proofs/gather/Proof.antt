@@ -1,12 +1,14 @@
--- The dimension that the compiler knows is the list's. Assumes nothing.
-use mathlib.Core.Path.{_≡_, sym, subst}
+-- The dimension that the compiler knows is the list's; longer rows are tested when all are written. Assumes nothing.
+use mathlib.Core.Path.{_≡_, sym, subst, _∙_}
 use mathlib.Core.Bool.{Bool, true}
 use mathlib.Core.List.{List}
 use Prim.Native.Nat.{ℕ, _≤_, _<_}
 use lib.ListN.{length, getD}
 use borrow.Author.Needs.{needs}
 use Rattle.words.specs.Records.{part}
+use Rattle.rules.proofs.Tests.{and-parts}
 use Rattle.records.specs.Layout.{listLength, listSize, tableLength}
+use Rattle.soundness.specs.Inner.Certified.{Fine}
 use Rattle.gathering.specs.Inner.Gathering.{blankTable}
 use Rattle.gathering.proofs.gather.Statement.{statement}
 use Rattle.gathering.proofs.gather.Tie as tie
@@ -20,13 +22,26 @@ abbrev Whole : tie.Start → List ℕ → Bool → ℕ → Type 0
 Whole s out r d =
     let a = s .args in
     (out ≡ blankTable d (a .s) (a .cells .now))
-    × (r ≡ true → (p : ℕ) → p < a .s → getD (part (listSize d) p (a .cells .now)) 0 0 ≤ 1)
+    × ((r ≡ true → (p : ℕ) → p < a .s → Fine d (a .v) out p)
+    × (r ≡ true → (p : ℕ) → p < a .s → getD (part (listSize d) p (a .cells .now)) 0 0 ≤ 1))
 
 there : (s : tie.Start) (k : ℕ) → s .args .d ≡ k → Asked s k
 there s k e = subst (Asked s) e (s .pre)
 
 back : (s : tie.Start) (k : ℕ) (out : List ℕ) (r : Bool) → s .args .d ≡ k → Whole s out r k → Whole s out r (s .args .d)
 back s k out r e = subst (Whole s out r) (sym e)
+
+all-fine-requires : tie.Need-all-fine-requires
+all-fine-requires c κs =
+    let s : tie.Start = search needs in
+    let w : tie.After-gather-wide = search needs in
+    record { dimension = s .pre .0; cells = s .pre .1; long = w .gather-wide .kept .1 .1 .1 .0 ∙ s .pre .3 }
+
+returns-5 : tie.Need-returns-5
+returns-5 c =
+    let w : tie.After-gather-wide = search needs in
+    let both = and-parts (w .gather-wide .result) (c .all-fine .result) in
+    (w .gather-wide .ensures .0, ((λ z. c .all-fine .ensures (both z .1)), (λ z. w .gather-wide .ensures .1 (both z .0))))
 
 pub gather-spec : {M : Type 1} → statement M
 gather-spec =
@@ -44,12 +59,7 @@ gather-spec =
     (λ c κs. there (search needs) 4 (c .before .if4 .taken))
     (λ c. search needs)
     (λ c. back (search needs) 4 _ _ (c .before .before .before .before .if4 .taken) (c .before .before .gather-all4 .ensures))
-    (λ c κs. there (search needs) 5 (c .before .if5 .taken))
-    (λ c. search needs)
-    (λ c. back (search needs) 5 _ _ (c .before .before .before .before .if5 .taken) (c .before .before .gather-all5 .ensures))
-    (λ c κs. there (search needs) 6 (c .before .if6 .taken))
-    (λ c. search needs)
-    (λ c. back (search needs) 6 _ _ (c .before .before .before .before .if6 .taken) (c .before .before .gather-all6 .ensures))
     (λ c κs. search needs)
+    all-fine-requires
     (λ c. search needs)
-    (λ c. search needs))
+    returns-5)

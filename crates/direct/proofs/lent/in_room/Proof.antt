@@ -117,26 +117,50 @@ returns-10 c =
     let call : tie.After-in-2048 = search needs in
     back (search needs) _ _ _ (t .if11 .taken) (call .in-2048 .ensures)
 
-in-8192-requires : tie.Need-in-8192-requires
-in-8192-requires c κs =
+in-4096-requires : tie.Need-in-4096-requires
+in-4096-requires c κs =
     let t : tie.Then12 = search needs in
     let u : tie.Then13 = search needs in
-    one 8192 (search needs) (omega (arith, places (search needs), t .if12 .taken)) (u .if13 .taken)
+    one 4096 (search needs) (omega (arith, places (search needs), t .if12 .taken)) (u .if13 .taken)
 
 returns-12 : tie.Need-returns-12
 returns-12 c =
     let t : tie.Then13 = search needs in
-    let call : tie.After-in-8192 = search needs in
-    back (search needs) _ _ _ (t .if13 .taken) (call .in-8192 .ensures)
+    let call : tie.After-in-4096 = search needs in
+    back (search needs) _ _ _ (t .if13 .taken) (call .in-4096 .ensures)
 
-in-32768-requires : tie.Need-in-32768-requires
-in-32768-requires c κs = let u : tie.Then14 = search needs in one 32768 (search needs) (few (search needs)) (u .if14 .taken)
+in-8192-requires : tie.Need-in-8192-requires
+in-8192-requires c κs =
+    let t : tie.Then14 = search needs in
+    let u : tie.Then15 = search needs in
+    one 8192 (search needs) (omega (arith, places (search needs), t .if14 .taken)) (u .if15 .taken)
 
 returns-14 : tie.Need-returns-14
 returns-14 c =
-    let t : tie.Then14 = search needs in
+    let t : tie.Then15 = search needs in
+    let call : tie.After-in-8192 = search needs in
+    back (search needs) _ _ _ (t .if15 .taken) (call .in-8192 .ensures)
+
+in-16384-requires : tie.Need-in-16384-requires
+in-16384-requires c κs =
+    let t : tie.Then16 = search needs in
+    let u : tie.Then17 = search needs in
+    one 16384 (search needs) (omega (arith, places (search needs), t .if16 .taken)) (u .if17 .taken)
+
+returns-16 : tie.Need-returns-16
+returns-16 c =
+    let t : tie.Then17 = search needs in
+    let call : tie.After-in-16384 = search needs in
+    back (search needs) _ _ _ (t .if17 .taken) (call .in-16384 .ensures)
+
+in-32768-requires : tie.Need-in-32768-requires
+in-32768-requires c κs = let u : tie.Then18 = search needs in one 32768 (search needs) (few (search needs)) (u .if18 .taken)
+
+returns-18 : tie.Need-returns-18
+returns-18 c =
+    let t : tie.Then18 = search needs in
     let call : tie.After-in-32768 = search needs in
-    back (search needs) _ _ _ (t .if14 .taken) (call .in-32768 .ensures)
+    back (search needs) _ _ _ (t .if18 .taken) (call .in-32768 .ensures)
 
 pub in-room-spec : {M : Type 1} → statement M
 in-room-spec =
@@ -178,18 +202,34 @@ in-room-spec =
     (λ c. search needs)
     (λ c. search needs)
     (λ c. let o : tie.Else5 = search needs in let call : tie.After-in-20482 = search needs in ((λ z. lent o), call .in-20482 .ensures))
-    in-8192-requires
+    in-4096-requires
     (λ c. search needs)
     (λ c. search needs)
     returns-12
     (λ c κs. let t : tie.Then12 = search needs in let o : tie.Else5 = search needs in (lent o, omega (arith, places o, t .if12 .taken)))
     (λ c. search needs)
     (λ c. search needs)
-    (λ c. let o : tie.Else5 = search needs in let call : tie.After-in-81922 = search needs in ((λ z. lent o), call .in-81922 .ensures))
-    in-32768-requires
+    (λ c. let o : tie.Else5 = search needs in let call : tie.After-in-40962 = search needs in ((λ z. lent o), call .in-40962 .ensures))
+    in-8192-requires
     (λ c. search needs)
     (λ c. search needs)
     returns-14
+    (λ c κs. let t : tie.Then14 = search needs in let o : tie.Else5 = search needs in (lent o, omega (arith, places o, t .if14 .taken)))
+    (λ c. search needs)
+    (λ c. search needs)
+    (λ c. let o : tie.Else5 = search needs in let call : tie.After-in-81922 = search needs in ((λ z. lent o), call .in-81922 .ensures))
+    in-16384-requires
+    (λ c. search needs)
+    (λ c. search needs)
+    returns-16
+    (λ c κs. let t : tie.Then16 = search needs in let o : tie.Else5 = search needs in (lent o, omega (arith, places o, t .if16 .taken)))
+    (λ c. search needs)
+    (λ c. search needs)
+    (λ c. let o : tie.Else5 = search needs in let call : tie.After-in-163842 = search needs in ((λ z. lent o), call .in-163842 .ensures))
+    in-32768-requires
+    (λ c. search needs)
+    (λ c. search needs)
+    returns-18
     (λ c κs. let o : tie.Else5 = search needs in (lent o, few o))
     (λ c. search needs)
     (λ c. search needs)

@@ -1,30 +1,30 @@
--- The loop has written the first p records, and its answer is that of their sign words. Assumes nothing.
+-- The loop has written the first p records, and its answer is that of their cells. Assumes nothing.
 use mathlib.Core.Path.{_≡_, sym, ap, _∙_}
 use mathlib.Core.Bool.{true}
 use Prim.Native.Nat.{ℕ, _+_, _*_, _-_, _≤_, _<_}
 use native.Mathlib.Nat.{not-suc-le-zero, zero-mul}
 use native.Mathlib.Omega.{arith}
-use lib.ListN.{drop, getD}
+use lib.ListN.{drop}
 use borrow.Author.Count.{below-more}
 use borrow.Author.Needs.{needs}
-use Rattle.words.specs.Records.{concat, part, tabulate}
+use Rattle.words.specs.Records.{concat, tabulate}
 use Rattle.words.proofs.Records.{record-fits, record-next}
 use Rattle.words.proofs.Writing.{Left, left-starts, left-record, left-records}
 use Rattle.rules.proofs.Tests.{and-parts}
 use Rattle.records.specs.Layout.{listSize, recordSize}
-use Rattle.gathering.specs.Inner.Gathering.{blankTable}
-use Rattle.gathering.proofs.BlankTables.{blank-length, blank-long, blank-whole, blankRecord}
+use Rattle.gathering.specs.Inner.Gathering.{FineCell, blankTable}
+use Rattle.gathering.proofs.BlankTables.{blank-fine, blank-length, blank-long, blank-whole, blankRecord}
 use Rattle.gathering.proofs.cells.gather_all.Statement.{statement}
 use Rattle.gathering.proofs.cells.gather_all.Tie as tie
 
 abbrev Inv-loop : tie.InvT-loop
-Inv-loop d s cells table₀ signed₀ p₀ table signed p =
+Inv-loop d v s cells table₀ fine₀ p₀ table fine p =
     let all = tabulate s (blankRecord d cells) in
     (p ≤ s) × Left 0 (concat all) table₀ (p * recordSize d) (concat (drop p all)) table
-    × (signed ≡ true → (q : ℕ) → q < p → getD (part (listSize d) q cells) 0 0 ≤ 1)
+    × (fine ≡ true → (q : ℕ) → q < p → FineCell d v cells q)
 
 abbrev μ-loop : tie.MeasureT-loop
-μ-loop d s cells table₀ signed₀ p₀ table signed p = s - p
+μ-loop d v s cells table₀ fine₀ p₀ table fine p = s - p
 
 loop-holds : tie.Need-loop-holds Inv-loop μ-loop
 unfolding blankTable
@@ -63,7 +63,7 @@ loop-again c =
                 ∙ ap (λ n. l .p * recordSize (a .d) + n) (sym (blank-long (a .d) (a .s) (a .cells .now) (s .pre .2) (l .p) (turn .loop-test .taken)));
             content = call .gather-cell .ensures .0;
           }),
-      λ e. let r = and-parts (l .signed) _ e in below-more _ _ (l .inv .2 (r .0)) (call .gather-cell .ensures .1 (r .1)),
+      λ e. let r = and-parts (l .fine) _ e in below-more _ _ (l .inv .2 (r .0)) (call .gather-cell .ensures .1 (r .1)),
     )
 
 written : (c : tie.After-loop Inv-loop μ-loop) → let s : tie.Start Inv-loop μ-loop = search needs in
@@ -76,7 +76,17 @@ written c =
     ∙ blank-whole (a .d) (a .s) (a .cells .now) (s .pre .2) (a .table .now) (s .pre .3)
 
 returns : tie.Need-returns Inv-loop μ-loop
-returns c = (written (search needs), λ e p l. c .before .loop .inv .2 e p (omega arith))
+returns c =
+    let s : tie.Start Inv-loop μ-loop = search needs in
+    let a = s .args in
+    let e = written (search needs) in
+    let all = c .before .loop .inv .2 in (
+      e,
+      (
+        (λ z p l. rw e (blank-fine (a .d) (a .s) (a .cells .now) (s .pre .2) p l (a .v) (all z p (omega arith)))),
+        (λ z p l. all z p (omega arith) .sign),
+      ),
+    )
 
 pub gather-all-spec : {M : Type 1} → statement M
 gather-all-spec =
