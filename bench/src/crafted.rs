@@ -89,7 +89,7 @@ fn first_bucket(face: &[u16]) -> u64 {
     ((weight & 0xffff_ffff) * 2654435769 >> 32) * 65536 >> 32
 }
 
-/// Puts cells in place of the last ones, each with a face in one bucket, which lies within one of 32,768, 45,056 and
+/// Puts cells in place of the last ones, each with a face in one bucket, which lies within one of 36,864 and
 /// 49,152 too.
 fn crowd_the_end(cells: &mut [Cell], d: usize, random: &mut Random) {
     const CROWD: usize = 20;

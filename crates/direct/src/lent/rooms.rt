@@ -214,7 +214,7 @@ pub(crate) fn in_32768(
     let mut list = [0u16; LIST_ROOM];
     let mut words = [0u16; TABLE_ROOM];
     let mut hash = [0u32; 32768];
-    let mut head = [EMPTY; 45056];
+    let mut head = [EMPTY; 36864];
     let mut next = [0u16; 32768];
     in_arrays(
         d,

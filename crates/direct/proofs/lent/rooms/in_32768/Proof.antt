@@ -15,7 +15,7 @@ in-arrays-requires c κs =
     let l = limits-are 7 (a .d) (a .v) (a .s) (ap not (s .pre .0 .shape)) in
     let list = list-fits (a .d) (a .s) (l .dimension) (l .cells) in
     let table = table-fits (a .d) (a .s) (l .dimension) (l .cells) in
-    let room = room-made (a .d) (a .s) 32768 40960 73728 45056 (s .pre .1) list table (omega arith) (omega arith) in
+    let room = room-made (a .d) (a .s) 32768 40960 73728 36864 (s .pre .1) list table (omega arith) (omega arith) in
     ((s .pre .0, room .0), (room .1, room .2))
 
 pub in-32768-spec : {M : Type 1} → statement M
