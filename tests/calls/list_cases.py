@@ -87,7 +87,7 @@ def versions():
         yield case(f"d {d} material {material} in cell {p}", d, 1, d + 3, 3, table, plain(d + 3), row=row, version=version)
 
 
-def no_cells_lem():
+def no_cells():
     """No cells: a first line and the vertices, if there are any. No vertices and a cell are row 2."""
     for d, n, v in itertools.product(range(8), (1, 3, 8), (0, 1, 5, 4096)):
         for version in (1, 2):
@@ -293,7 +293,7 @@ def random_cases(rng, count):
 
 
 def cases(rng):
-    for part in (limits, versions, no_cells_lem, lengths, floats_at_edges, unsound, rooms, two_faults):
+    for part in (limits, versions, no_cells, lengths, floats_at_edges, unsound, rooms, two_faults):
         yield from part()
     yield from many_floats(rng)
     yield from random_cases(rng, 3000)

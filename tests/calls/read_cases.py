@@ -30,7 +30,7 @@ def limits():
         yield Solid().set(**{field: value}).case(f"{field} {value} and another length", row)
 
 
-def no_cells_lem():
+def no_cells():
     """Files without cells, with and without vertices; lent no words, and floats enough, one more and one too few."""
     for d, n, v, h, data in solids.empty_files():
         for more in (0, 1, -1) if v else (0, 1):
@@ -240,7 +240,7 @@ def random_files(rng, count):
 
 
 def cases(rng):
-    for part in (limits, no_cells_lem, starts, lengths, floats_at_edges, axes, cells, rooms, two_faults):
+    for part in (limits, no_cells, starts, lengths, floats_at_edges, axes, cells, rooms, two_faults):
         yield from part()
     yield from circles(rng)
     yield from random_files(rng, 4000)

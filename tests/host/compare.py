@@ -225,7 +225,7 @@ def two_faults():
             yield Request(WING, 2, 60, 14, 1, as_bytes(words), *lent, row)
 
 
-def no_cells_lem():
+def no_cells():
     """Solids without cells, lent no room and some; a word too many; and a cell without a vertex."""
     for d, (v, h) in itertools.product(range(8), solids.empty_sizes()):
         for call, data, room in itertools.product(NAMES, (b"", b"\0", b"\0\0"), (0, 1, 2, 7)):
@@ -241,7 +241,7 @@ def all_requests(rng):
     yield from rooms(rng)
     yield from materials()
     yield from two_faults()
-    yield from no_cells_lem()
+    yield from no_cells()
     for _ in range(1500):
         d = rng.choice((0, 1, 1, 2, 2, 3, 3, 4, 5, 6, 7))
         v, cells = solids.small_solid(d, rng)

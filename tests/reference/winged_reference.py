@@ -276,7 +276,7 @@ def step_floats(step):
     """The floats that a step holds: all of a turn, else those after each axis."""
     return list(step) if isinstance(step, Turn) else list(step[1::2])
 
-def step_fits_lem(step, n):
+def step_fits(step, n):
     """Rule 5, but for the unused parts of a file."""
     if isinstance(step, Slide):
         return step.axis < n
@@ -324,7 +324,7 @@ def move(n, v, h, step, points, room):
         return Refused(3)
     if not all(float_fits(x) for x in step_floats(step) + list(points)):
         return Refused(4)
-    if not step_fits_lem(step, n):
+    if not step_fits(step, n):
         return Refused(5)
     if (h + 1) * v > MOST:
         return Refused(12)
@@ -377,7 +377,7 @@ def read(data, cells_room, points_room):
     if not all(float_fits(x) for x in [*floats, *points]):
         return Refused(4)
     step, unused = read_step(kind, axes, floats, data)
-    if any(unused) or not step_fits_lem(step, n):
+    if any(unused) or not step_fits(step, n):
         return Refused(5)
     rows = file_rows(version, d, data[cells_start:])
     if refusal := rows_refusal(rows, (43, 45), v):
