@@ -3,7 +3,7 @@ ghost use Rattle.std.specs.Prelude.{◌≡◌};
 ghost use Rattle.points.specs.Step.{on_circle, step_fits};
 
 // Cosine and sine of a turn of the first two axes, and its rise on the last axis.
-#[derive(Drop)]
+#[derive(Clone, Copy)]
 pub struct Turn {
     pub c: f64,
     pub s: f64,
@@ -11,7 +11,7 @@ pub struct Turn {
 }
 
 // An axis counts from 0; an amount is added on the axis before it.
-#[derive(Drop)]
+#[derive(Clone, Copy)]
 pub enum Step {
     Slide(usize, f64),
     Slant(usize, f64, usize, f64),

@@ -12,7 +12,7 @@ use records::reading::material;
 use records::sizes::{MATERIAL, first_wing};
 use simplex::sign_words::turned;
 
-#[derive(Drop)]
+#[derive(Clone, Copy)]
 struct Head {
     sign: u16,
     material: u16,
