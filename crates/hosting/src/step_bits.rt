@@ -10,7 +10,7 @@ use crate::floats::{bits_in_range, float_of};
 use points::step::{Step, Turn};
 
 // Kind 1 is a slide, 2 a slant, 3 a turn. What a kind leaves unused is to be 0.
-#[derive(Drop)]
+#[derive(Clone, Copy)]
 pub struct StepBits {
     pub kind: usize,
     pub axis: usize,
