@@ -1,0 +1,61 @@
+-- The goals that the search leaves. Assumes nothing.
+use mathlib.Core.List.{List}
+use mathlib.Core.Logic.{⊎_elim}
+use mathlib.Core.Path.{◌≡◌, sym, ap, ◌∙◌}
+use Prim.Native.Nat.{ℕ, ◌-◌}
+use native.Mathlib.Omega.{arith}
+use lib.ListN.{length, take, length-set}
+use lib.Seq.{get_or-take, length-take-le, take_all}
+use Rattle.words.specs.Inner.Placed.{placed}
+use Rattle.words.proofs.Placed.{placed-none}
+use Rattle.gathering.proofs.Blanks.{list_more, list_no_more}
+use Rattle.gathering.proofs.blank.store.Goals as goal
+use Rattle.gathering.proofs.blank.store.Goals.{Start}
+
+long : (s : Start) → length (take s.args.n s.args.t2) ≡ s.args.n
+long s = length-take-le s.args.n s.args.t2 (omega arith)
+
+pub loop-j-init : goal.loop-j-init
+loop-j-init c = (omega arith, omega arith, sym (placed-none _ _))
+
+pub offset_bounds-row-j : goal.offset_bounds-row-j
+offset_bounds-row-j c = omega arith
+
+pub bounds-row-j : goal.bounds-row-j
+bounds-row-j c = omega arith
+
+pub overflow_add-table : goal.overflow_add-table
+overflow_add-table c = omega arith
+
+pub offset_bounds-table-to : goal.offset_bounds-table-to
+offset_bounds-table-to c = omega arith
+
+pub bounds-table-to : goal.bounds-table-to
+bounds-table-to c = omega arith
+
+pub overflow_add-j : goal.overflow_add-j
+overflow_add-j c = omega arith
+
+pub loop-j-smaller : goal.loop-j-smaller
+loop-j-smaller c = omega arith
+
+pub loop-j-preserved : goal.loop-j-preserved
+loop-j-preserved c =
+    let l = c.loop-j in
+    let a = c.args in (
+      omega arith,
+      ⊎_elim (λ w. ap length w.1 ∙ length-set l.table _ _ ∙ l.invariant.1) (λ w. ap length w.1 ∙ l.invariant.1) c.if-j-n.branch,
+      ⊎_elim (λ w. list_more a.n a.to l.j (take a.n a.t2) a.table.now l.table c.if-j-n.table (long (goal.at.loop-j-preserved c).Start) c.requires.2
+          l.invariant.2 _ (sym (get_or-take a.n a.t2 l.j 0 w.0.true)) w.0.true w.1)
+          (λ w. list_no_more a.n a.to l.j (take a.n a.t2) a.table.now l.table c.if-j-n.table (long (goal.at.loop-j-preserved c).Start) c.requires.2
+          l.invariant.2 w.0.left w.1) c.if-j-n.branch,
+    )
+
+pub shape_of-table : goal.shape_of-table
+shape_of-table c = omega arith
+
+pub returns : goal.returns
+returns c =
+    let l = c.loop-j in
+    let a = c.args in
+    l.invariant.2 ∙ ap (λ (t : List ℕ). placed a.to t a.table.now) (take_all l.j (take a.n a.t2) (omega (arith, long (goal.at.returns c).Start, c.requires.0)))

@@ -1,0 +1,82 @@
+-- The call list: each return is a rule's, and only an accepted call writes. Assumes nothing.
+use mathlib.Core.Path.{◌≡◌, sym, ap, ◌∙◌}
+use mathlib.Core.Bool.{not}
+use Prim.Native.Nat.{◌*◌}
+use lib.Dec.{eqb, ltb}
+use lib.ListN.{length}
+use borrow.Author.Tests.{eqb-true, ltb-false, not-false}
+use Rattle.words.proofs.Placed.{placed_first}
+use Rattle.rules.proofs.InLimits.{ListLimits, list_limits_are}
+use Rattle.rules.proofs.Tests.{and_parts}
+use Rattle.records.specs.Inner.Inside.{Table}
+use Rattle.records.specs.Layout.{table_length}
+use Rattle.boundary.specs.Inner.Walk.{table_faces}
+use Rattle.listing.specs.Lines.{key_text}
+use Rattle.listing.specs.Inner.Parts.{Points}
+use Rattle.list.specs.List.{list_input, list_text, list_rules}
+use Rattle.list.proofs.Order.{refuses, accepts}
+use Rattle.list.proofs.list.Goals as goal
+use Rattle.list.proofs.list.Goals.{After-less, Else-not-all_in_range, Else-not-numbers_fit}
+
+limits : (c : Else-not-numbers_fit) → let a = c.args in ListLimits a.d a.n a.v a.s
+limits c = list_limits_are c.args.version _ _ _ _ (ap not (sym c.numbers_fit.ensures) ∙ c.if-not-numbers_fit.false)
+
+-- what the tests say of the table and the points
+told : (c : Else-not-all_in_range) → let a = c.args in Table a.d a.s a.table.now × Points a.n a.v a.points.now
+told c =
+    let a = c.args in
+    let l = limits (goal.at.Else-not-all_in_range c).Else-not-numbers_fit in
+    let fit = ap not (sym c.lengths_fit.ensures) ∙ c.if-not-lengths_fit.false in
+    let long = and_parts (eqb (length a.table.now) (table_length a.d a.s)) (eqb (length a.points.now) (a.v * a.n)) (not-false _ fit) in
+    let ranged = not-false _ (ap not (sym c.all_in_range.ensures) ∙ c.if-not-all_in_range.false) in (
+      record { dimension = l.dimension; cells = l.cells; long = eqb-true _ _ long.0 },
+      record { axes = l.axes; vertices = l.vertices; long = eqb-true _ _ long.1; ranged = ranged },
+    )
+
+-- what is compared with the room is the length of the key
+compared : (c : After-less) → let a = c.args in
+    c.less.result
+    ≡ ltb (length a.out.now)
+    (length (list_text (list_input a.version a.d a.n a.v a.s a.table.now a.points.now 0)))
+unfolding list_text
+compared c = c.less.ensures ∙ ap (ltb _) c.key_size-size.ensures.text
+
+pub returns-then-not-numbers_fit : goal.returns-then-not-numbers_fit
+unfolding list_rules
+returns-then-not-numbers_fit c = refuses _ _ 2 cc
+
+pub lengths_fit-requires : goal.lengths_fit-requires
+lengths_fit-requires c = let l = limits c in (l.dimension, l.axes, l.vertices, l.cells)
+
+pub returns-then-not-lengths_fit : goal.returns-then-not-lengths_fit
+unfolding list_rules
+returns-then-not-lengths_fit c = refuses _ _ 3 cc
+
+pub returns-then-not-all_in_range : goal.returns-then-not-all_in_range
+unfolding list_rules
+returns-then-not-all_in_range c = refuses _ _ 4 cc
+
+pub returns-then-not-is_sound : goal.returns-then-not-is_sound
+unfolding list_rules
+returns-then-not-is_sound c = refuses _ _ 14 cc
+
+pub key_size-size-requires : goal.key_size-size-requires
+key_size-size-requires c = told (goal.at.key_size-size-requires c).Else-not-all_in_range
+
+pub returns-then-less : goal.returns-then-less
+unfolding list_rules list_text
+returns-then-less c = refuses _ _ 15 (cc (compared (goal.at.returns-then-less c).After-less))
+
+pub put_key-requires : goal.put_key-requires
+unfolding list_text
+put_key-requires c =
+    let t = told (goal.at.put_key-requires c).Else-not-all_in_range in
+    (t.0, t.1, c.key_size-size.ensures.faces, ltb-false _ _ (sym (compared (goal.at.put_key-requires c).After-less) ∙ c.if-less.false))
+
+pub returns : goal.returns
+unfolding list_rules list_text
+returns c =
+    let a = c.args in
+    accepts _ _ _ _ (cc (compared (goal.at.returns c).After-less)) c.key_size-size.ensures.text
+    (c.put_key.ensures.content
+    ∙ placed_first (key_text a.version a.d a.n a.v a.points.now (table_faces a.d a.s a.table.now)) a.out.now)

@@ -1,0 +1,24 @@
+-- The goals that the search leaves. Assumes nothing.
+use mathlib.Core.Bool.{false≢true}
+use mathlib.Core.Path.{sym, ◌∙◌}
+use Prim.Native.Nat.{◌-◌}
+use native.Mathlib.Nat.{not-suc-le-zero}
+use native.Mathlib.Omega.{arith}
+use borrow.Author.Count.{below_more}
+use Rattle.matching.proofs.classes.flat.Goals as goal
+
+pub loop-g-init : goal.loop-g-init
+loop-g-init c = (omega arith, (λ f l. absurd (not-suc-le-zero l)))
+
+pub digit-requires : goal.digit-requires
+digit-requires c = (c.requires.0, omega (arith, c.requires.1))
+
+pub returns-then-digit-ne0 : goal.returns-then-digit-ne0
+returns-then-digit-ne0 c = λ e. absurd (false≢true e)
+
+pub loop-g-preserved : goal.loop-g-preserved
+loop-g-preserved c =
+    (omega arith, below_more _ _ c.loop-g.invariant.1 (sym c.digit.ensures.0 ∙ c.if-digit-ne0.false))
+
+pub returns : goal.returns
+returns c = λ e g l. c.loop-g.invariant.1 g (omega arith)

@@ -1,0 +1,8 @@
+-- `in_range` answers `inRange`. Assumes nothing.
+use mathlib.Core.Path.{refl}
+use Rattle.points.specs.Step.{in_range}
+use Rattle.points.proofs.range.in_range.Goals as goal
+
+pub returns : goal.returns
+unfolding in_range
+returns c = refl

@@ -1,0 +1,112 @@
+-- The goals that the search leaves. Assumes nothing.
+use Rattle.std.proofs.Common.{◌≡◌, ℕ, suc, ◌+◌, ◌-◌, ◌*◌, ◌<◌, ◌≤◌, List, length, get_or, drop, sym, refl, ap, ◌∙◌, mul-le-mul_right, zero-mul, arith}
+use Rattle.words.specs.Records.{tabulate, concat, part}
+use Rattle.words.specs.Inner.Placed.{placed}
+use Rattle.words.proofs.Records.{part_tabulated, record_next, record_fits}
+use Rattle.words.proofs.Writing.{Left, left_starts, left_record, left_record_fits, left_records, left_read}
+use Rattle.records.proofs.Parts.{part_at}
+use Rattle.sweeping.specs.Inner.Filling.{Right}
+use Rattle.sweeping.specs.Inner.Raising.{prism_size}
+use Rattle.sweeping.specs.Inner.SweptWords.{level_words, all_words}
+use Rattle.sweeping.proofs.SweptWords.{all_is, level-long}
+use Rattle.sweeping.proofs.writing.write_swept.Goals as goal
+use Rattle.sweeping.proofs.writing.write_swept.Goals.{After-loop-i, Start}
+
+abbrev levels : Start → ℕ → List ℕ
+levels c = let a = c.args in level_words a.d a.v a.s a.h a.table.now
+
+abbrev Rest : Start → ℕ → ℕ → List ℕ → Type 0
+Rest c k next out =
+    let all = tabulate c.args.h (levels c) in
+    Left 0 (concat all) c.args.out.now next (concat (drop k all)) out
+
+none : (c : Start) → Rest c 0 0 c.args.out.now
+none c =
+    let a = c.args in
+    left_starts 0 _ a.out.now (omega (arith, c.requires.room, ap length (all_is a.d a.v a.s a.h a.table.now)))
+
+-- one level more,
+more : (c : Start) (k cur next : ℕ) (old E : List ℕ) → k < c.args.h → Rest c k cur old →
+    next ≡ cur + length (levels c k) → E ≡ placed cur (levels c k) old → Rest c (k + 1) next E
+more c k cur next old E few l place content = left_record _ k (levels c) few l next E (record { place = place; content = content })
+
+-- and none is left
+done : (c : Start) (k next : ℕ) (E : List ℕ) → c.args.h ≤ k → Rest c k next E → let a = c.args in
+    (next ≡ length (all_words a.d a.v a.s a.h a.table.now))
+    × (E ≡ placed 0 (all_words a.d a.v a.s a.h a.table.now) a.out.now)
+done c k next E all l =
+    let a = c.args in
+    let put = left_records a.h k (levels c) all l in
+    let is = all_is a.d a.v a.s a.h a.table.now in
+    (rw is (omega (arith, put.place)), rw is put.content)
+
+level-size : (c : Start) (k : ℕ) → length (levels c k) ≡ c.args.s * prism_size c.args.d
+level-size c k = let a = c.args in level-long a.d a.v a.s a.h a.table.now c.requires.ready.long k
+
+-- a level that is written is read in its place
+read : (c : Start) (n k x next e : ℕ) (E : List ℕ) → n ≡ c.args.s * prism_size c.args.d → x < c.args.h →
+    x * n + n ≤ next → Rest c k next E → e < n → Right (x * n) (levels c x) E e
+read c n k x next e E size hx low l he =
+    let all = concat (tabulate c.args.h (levels c)) in
+    let same : part n x E ≡ part n x all = left_read _ l refl (x * n) n low in
+    sym (part_at n x e E 0 he) ∙ ap (λ (w : List ℕ). get_or w e 0)
+    (same ∙ part_tabulated n c.args.h x (levels c) (λ y m. level-size c y ∙ sym size) hx)
+
+-- at the end i is h
+ended : (c : After-loop-i) → c.args.h * c.level_size-n.result ≡ c.loop-i.i * c.level_size-n.result
+ended c =
+    ap (λ (m : ℕ). m * c.level_size-n.result) {x = c.args.h} {y = c.loop-i.i}
+    (omega (arith, c.loop-i.invariant.0, c.loop-i-test.false))
+
+pub returns-then-h-eq0 : goal.returns-then-h-eq0
+returns-then-h-eq0 c =
+    done (goal.at.returns-then-h-eq0 c).Start 0 0 c.args.out.now (omega (arith, c.if-h-eq0.true)) (none (goal.at.returns-then-h-eq0 c).Start)
+
+pub level_size-n-requires : goal.level_size-n-requires
+level_size-n-requires c =
+    let a = c.args in
+    let one = mul-le-mul_right {m = 1} {n = a.h} (a.s * suc a.d) (omega (arith, c.if-h-eq0.false)) in
+    (c.requires.ready.dimension, omega (arith, one, c.requires.ready.cells))
+
+pub loop-i-init : goal.loop-i-init
+loop-i-init c =
+    (omega arith, rw (zero-mul c.level_size-n.result) (none (goal.at.loop-i-init c).Start))
+
+pub next_level-requires : goal.next_level-requires
+next_level-requires c =
+    let n = c.level_size-n.result in
+    let i = c.loop-i.i in
+    let few = c.loop-i-test.true in
+    let size = c.level_size-n.ensures in
+    let left = c.loop-i.invariant.1 in
+    let fits = left_record_fits _ i (levels (goal.at.next_level-requires c).Start) few left in record {
+      ready = c.requires.ready;
+      at = (few, size);
+      below = (λ x e hx he. read (goal.at.next_level-requires c).Start n i x (i * n) e c.loop-i.out size (omega (arith, few)) (record_fits n i x hx) left he);
+      room = omega (arith, fits, size, level-size (goal.at.next_level-requires c).Start i);
+    }
+
+pub loop-i-preserved : goal.loop-i-preserved
+loop-i-preserved c =
+    let n = c.level_size-n.result in
+    let i = c.loop-i.i in
+    let few = c.loop-i-test.true in (
+      omega (arith, few),
+      more (goal.at.loop-i-preserved c).Start i (i * n) ((i + 1) * n) c.loop-i.out _ few c.loop-i.invariant.1
+          (omega (arith, record_next n i, c.level_size-n.ensures, level-size (goal.at.loop-i-preserved c).Start i)) c.next_level.ensures,
+    )
+
+pub overflow_mul-result : goal.overflow_mul-result
+overflow_mul-result c =
+    omega (arith, ended c, c.loop-i.invariant.1.room)
+
+pub shape_of-out : goal.shape_of-out
+shape_of-out c = c.loop-i.invariant.1.same
+
+pub returns : goal.returns
+returns c =
+    let all = done (begun ((goal.at.returns c).After-level_size-n)) c.loop-i.i _ _ c.loop-i-test.false c.loop-i.invariant.1 in
+    record {
+      place = ended c ∙ all.0;
+      words = all.1;
+    }

@@ -1,0 +1,54 @@
+-- `write_table` answers `table_outcome` and leaves `table_after`: each return is a case of Tabling. Assumes nothing.
+use mathlib.Core.Path.{◌≡◌, sym, ap, ◌∙◌}
+use mathlib.Core.Bool.{Bool, false, ◌||◌}
+use Prim.Native.Nat.{ℕ}
+use native.Mathlib.Omega.{arith}
+use lib.Dec.{ltb}
+use lib.ListN.{length, length-replicate}
+use borrow.Author.Tests.{ltb-false}
+use Rattle.rules.specs.Calls.{first_refusal}
+use Rattle.rules.specs.Numbers.{verdict_of}
+use Rattle.solids.specs.Accept.{solid_rules}
+use Rattle.solids.proofs.Tests.{or_false}
+use Rattle.records.specs.Layout.{list_size, table_length, wings_length}
+use Rattle.tables.specs.Inner.Held.{record_list}
+use Rattle.tables.proofs.SoundCases.{fresh_blank}
+use Rattle.tables.proofs.Tabling.{refuses, no_room}
+use Rattle.tables.proofs.tabled.write_table.Goals as goal
+use Rattle.tables.proofs.tabled.write_table.Goals.{After-take-verdict, Else-too_short, In_default}
+
+-- what is answered of rows 6 to 8, 18 and 9 to 11
+answered : (c : After-take-verdict) → let a = c.args in
+    verdict_of c.take-verdict.result ≡ first_refusal solid_rules (record_list (list_size a.d) a.d a.v a.s a.cells.now)
+answered c =
+    let a = c.args in
+    c.take-verdict.ensures.number ∙ ap (λ n. first_refusal solid_rules (record_list n a.d a.v a.s a.cells.now)) c.list_size-size.ensures
+
+-- these rows pass
+none : (c : In_default) → let a = c.args in
+    0 ≡ first_refusal solid_rules (record_list (list_size a.d) a.d a.v a.s a.cells.now)
+none c = sym (ap verdict_of c.enum_told-1.given.1) ∙ answered (goal.at.In_default c).After-take-verdict
+
+fits : (c : Else-too_short) → let a = c.args in
+    (ltb (length a.table.now) (table_length a.d a.s) || ltb a.further (wings_length a.d a.s)) ≡ false
+fits c = sym c.too_short.ensures ∙ c.if-too_short.false
+
+pub take-verdict-requires : goal.take-verdict-requires
+take-verdict-requires c =
+    (
+      (omega arith, omega arith, omega arith, omega arith, rw c.list_size-size.ensures (omega arith)),
+      (length-replicate {A = ℕ} 32768 0, length-replicate {A = Bool} 4096 false, fresh_blank),
+    )
+
+pub returns-in-Refuse : goal.returns-in-Refuse
+returns-in-Refuse c =
+    let v = c.verdict-1.given in
+    refuses _ _ _ _ _ _ c.requires.2 v.0.0 (sym (ap verdict_of v.1) ∙ answered (goal.at.returns-in-Refuse c).After-take-verdict)
+
+pub returns-then-too_short : goal.returns-then-too_short
+returns-then-too_short c =
+    no_room _ _ _ _ _ _ c.requires.2 (none (goal.at.returns-then-too_short c).In_default) (sym c.too_short.ensures ∙ c.if-too_short.true)
+
+pub fill-requires : goal.fill-requires
+fill-requires c =
+    (omega arith, omega arith, c.requires.2, ltb-false _ _ (or_false _ _ (fits (goal.at.fill-requires c).Else-too_short)).0)

@@ -1,0 +1,54 @@
+-- `wing_table` answers `wing_outcome` and leaves `wing_buffer`: each return is a rule's, or what becomes of the list. Assumes nothing.
+use mathlib.Core.Path.{◌≡◌, refl, sym, ap, ◌∙◌}
+use mathlib.Core.Bool.{false, not}
+use Prim.Native.Nat.{◌*◌}
+use lib.Dec.{eqb}
+use lib.ListN.{length}
+use borrow.Author.Tests.{eqb-true, not-false}
+use Rattle.rules.specs.Limits.{max_dimension}
+use Rattle.rules.specs.Shapes.{shape_ok}
+use Rattle.rules.proofs.InLimits.{Limits, limits_are}
+use Rattle.records.specs.Layout.{list_size}
+use Rattle.wing.specs.Wing.{wing_rules}
+use Rattle.wing.proofs.Order.{refuses, passes}
+use Rattle.wing.proofs.wing_table.Goals as goal
+use Rattle.wing.proofs.wing_table.Goals.{After-differ, After-within, Else-differ, Else-not-within}
+
+-- rows 2 and 3 are what the code tests
+two : (c : After-within) → let a = c.args in not (shape_ok max_dimension a.d a.v a.s) ≡ not c.within.result
+two c = ap not (sym c.within.ensures)
+
+three : (c : After-differ) → let a = c.args in
+    not (eqb (length a.cells.now) (a.s * list_size a.d)) ≡ c.differ.result
+three c =
+    let a = c.args in
+    ap (λ n. not (eqb (length a.cells.now) n)) (sym c.list_words.ensures) ∙ sym c.differ.ensures
+
+two-passes : (c : Else-not-within) → let a = c.args in not (shape_ok max_dimension a.d a.v a.s) ≡ false
+two-passes c = two (goal.at.Else-not-within c).After-within ∙ c.if-not-within.false
+
+three-passes : (c : Else-differ) → let a = c.args in not (eqb (length a.cells.now) (a.s * list_size a.d)) ≡ false
+three-passes c = three (goal.at.Else-differ c).After-differ ∙ c.if-differ.false
+
+limits : (c : Else-not-within) → let a = c.args in Limits max_dimension a.d a.v a.s
+limits c = limits_are _ _ _ _ (two-passes c)
+
+pub returns-then-not-within : goal.returns-then-not-within
+unfolding wing_rules
+returns-then-not-within c = refuses _ _ 2 (rw (two (goal.at.returns-then-not-within c).After-within ∙ c.if-not-within.true) refl)
+
+pub list_words-requires : goal.list_words-requires
+list_words-requires c = let l = limits c in (l.dimension, l.cells)
+
+pub returns-then-differ : goal.returns-then-differ
+unfolding wing_rules
+returns-then-differ c = refuses _ _ 3 (rw (two-passes (goal.at.returns-then-differ c).Else-not-within, three (goal.at.returns-then-differ c).After-differ ∙ c.if-differ.true) refl)
+
+pub write_table-requires : goal.write_table-requires
+write_table-requires c =
+    let l = limits (goal.at.write_table-requires c).Else-not-within in
+    (l.dimension, l.cells, eqb-true _ _ (not-false _ (three-passes (goal.at.write_table-requires c).Else-differ)))
+
+pub returns : goal.returns
+returns c =
+    passes _ _ _ _ _ _ (two-passes (goal.at.returns c).Else-not-within) (three-passes (goal.at.returns c).Else-differ) _ _ c.write_table.ensures.answer c.write_table.ensures.table

@@ -1,0 +1,28 @@
+-- An answer as a number. Assumes nothing.
+use mathlib.Core.Path.{sym, ap, ◌∙◌}
+use Prim.Native.Nat.{◌<◌, ◌^◌}
+use native.Mathlib.Omega.{arith}
+use borrow.Author.Rules.{rules}
+use lib.IntN.{pos, neg_ℤ}
+use mir.Syntax.{w64}
+use mir.ValLaws.{to_z_pos, to_z-of_z}
+use Rattle.rules.specs.Numbers.{outcome_of}
+use Rattle.rules.specs.declared.refusal.Answer.{Answer}
+use Rattle.winged.specs.Host.{host_answer}
+use Rattle.winged.specs.Inner.Sent.{count_of}
+use Rattle.winged.proofs.sending.answered.Goals as goal
+use Rattle.winged.proofs.sending.answered.Goals.{In-Written-2}
+
+small : (c : In-Written-2) → c.a-1.given.0.0 < 2 ^ 63
+small c = omega (arith, ap (λ (a : Answer). count_of (outcome_of a)) c.a-1.given.1)
+
+pub overflow_cast-result : goal.overflow_cast-result
+overflow_cast-result c = record { sfits = omega (arith, small (goal.at.overflow_cast-result c).In-Written-2) }
+
+pub returns-in-Written : goal.returns-in-Written
+returns-in-Written c = to_z_pos w64 _ (small (goal.at.returns-in-Written c).In-Written-2) ∙ ap (λ (a : Answer). host_answer (outcome_of a)) (sym c.a-1.given.1)
+
+pub returns-in-Refused : goal.returns-in-Refused
+returns-in-Refused c =
+    to_z-of_z w64 _ (search rules) ∙ c.minus.ensures ∙ ap (λ k. neg_ℤ (pos k)) c.number.ensures
+    ∙ ap (λ (a : Answer). host_answer (outcome_of a)) (sym c.a-in-Refused-1.given.1)
