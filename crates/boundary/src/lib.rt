@@ -1,4 +1,6 @@
 // Boundary faces: from a solid's table to the faces at its empty wings.
+#![tactic(auto)]
+
 ghost use Rattle.std.specs.Prelude.{◌≡◌, length};
 ghost use Rattle.rules.specs.Numbers.{outcome_of};
 ghost use Rattle.boundary.specs.Faces.{faces_input, faces_outcome, faces_buffer};

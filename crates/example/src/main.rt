@@ -3,6 +3,8 @@
 //
 // No call asks anything of its caller: whatever it is handed, it answers or refuses, and its contract says which. So the
 // calls need no proof here; what is proved is that the program ends and does nothing undefined.
+#![tactic(auto)]
+
 ghost use Rattle.std.specs.Prelude.{◌+◌, ◌≤◌, length};
 
 use rules::refusal;

@@ -1,4 +1,6 @@
 // What a file says, part by part: numbers, floats, step and cells.
+#![tactic(auto)]
+
 pub mod cells;
 pub mod floats;
 pub mod numbers;

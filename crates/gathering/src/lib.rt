@@ -1,4 +1,6 @@
 // The table of a list of cells before it has wings: each cell is read, put in ascending order and written.
+#![tactic(auto)]
+
 mod blank;
 mod cells;
 mod ranked;

@@ -1,4 +1,6 @@
 // The calls list, move and read from bytes to bytes: words of 16 bits and floats by their bits, little-endian.
+#![tactic(auto)]
+
 pub mod floats;
 pub mod lists;
 pub mod moving;

@@ -1,4 +1,6 @@
 // The program key: reads a file from standard input and prints its key, or the one line "refused N".
+#![tactic(auto)]
+
 ghost use Rattle.std.specs.Prelude.{◌≡◌, length, take};
 ghost use Rattle.io.specs.Counts.{IsPrefixLen};
 ghost use Rattle.libc.specs.Io.{Moved};

@@ -1,4 +1,6 @@
 // The table of a list of cells, with wings made by pairing faces in one pass.
+#![tactic(auto)]
+
 mod pairing;
 mod setting;
 

@@ -1,4 +1,6 @@
 // The call list: it takes a table and its points and writes the key's text, in the form of a version.
+#![tactic(auto)]
+
 ghost use Rattle.std.specs.Prelude.{◌≡◌, ◌&&◌, ◌*◌, ◌≤◌, eqb, length};
 ghost use Rattle.rules.specs.Numbers.{outcome_of};
 ghost use Rattle.records.specs.Layout.{table_length};

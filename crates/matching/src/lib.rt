@@ -1,6 +1,8 @@
 // Keys that are equal: for each key, the last earlier one with the same row.
 // Each key is linked to the last earlier key of its bucket; from the last key down, each link is then
 // followed back to a key with the same row. Where that takes more than a few steps a key, the keys are classed instead.
+#![tactic(auto)]
+
 pub mod classes;
 
 ghost use Rattle.std.specs.Prelude.{◌≡◌, true, cond, ℕ, ◌+◌, ◌*◌, ◌-◌, ◌/◌, ◌%◌, ◌^◌, ◌<◌, ◌≤◌, ltb, length, get_or, replicate};

@@ -1,4 +1,6 @@
 // The call move, under a name that is no keyword: levels 0 to h of the lent points, refused or written.
+#![tactic(auto)]
+
 ghost use Rattle.std.specs.Prelude.{◌≡◌, false, not, ◌&&◌, ◌*◌, ◌≤◌, eqb, length};
 ghost use Rattle.words.specs.Records.{all_of};
 ghost use Rattle.points.specs.Step.{in_range, step_fits, step_floats};

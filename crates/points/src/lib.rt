@@ -1,4 +1,6 @@
 // Points and steps.
+#![tactic(auto)]
+
 pub mod carrying;
 pub mod levels;
 pub mod point;

@@ -1,4 +1,6 @@
 // Numbers in print, and lines of them, put into lent bytes.
+#![tactic(auto)]
+
 pub mod fields;
 pub mod lengths;
 pub mod line_writer;

@@ -1,4 +1,6 @@
 // The call read.
+#![tactic(auto)]
+
 ghost use Rattle.std.specs.Prelude.{◌≡◌, true, ◌||◌, ◌≤◌, ltb, length};
 ghost use Rattle.words.specs.Records.{all_of, tabulate};
 ghost use Rattle.rules.specs.Calls.{first_refusal};

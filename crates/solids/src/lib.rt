@@ -1,1 +1,2 @@
 // Solids and their tables: definitions and laws, no code.
+#![tactic(auto)]

@@ -1,4 +1,6 @@
 // Whether a table is sound. Its faces are gone through once, and its wings must be what they say; where that is given up, all faces are matched.
+#![tactic(auto)]
+
 pub mod buckets;
 mod coded;
 pub mod codes;

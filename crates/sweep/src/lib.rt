@@ -1,4 +1,6 @@
 // The sweep: from a solid's table to the table of its sweep in h steps.
+#![tactic(auto)]
+
 ghost use Rattle.std.specs.Prelude.{◌≡◌, length};
 ghost use Rattle.rules.specs.Numbers.{outcome_of};
 ghost use Rattle.sweep.specs.Sweep.{sweep_outcome, sweep_buffer, sweep_input};

@@ -1,4 +1,6 @@
 // The words of a swept table, written.
+#![tactic(auto)]
+
 mod faces;
 mod heads;
 mod places;

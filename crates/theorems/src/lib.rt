@@ -1,1 +1,2 @@
 // The theorems about the whole. No code: see proofs/.
+#![tactic(auto)]

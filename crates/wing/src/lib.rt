@@ -1,4 +1,6 @@
 // The call wing: it takes a list of cells and writes its table, and the wings in uploaded order.
+#![tactic(auto)]
+
 ghost use Rattle.std.specs.Prelude.{◌≡◌, length};
 ghost use Rattle.rules.specs.Numbers.{outcome_of};
 ghost use Rattle.wing.specs.Wing.{wing_input, wing_outcome, wing_buffer, uploaded_buffer};

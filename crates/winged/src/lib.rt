@@ -1,4 +1,6 @@
 // Winged solids for a host in C: numbers and lent bytes in, a count of words or minus a refusal's number out.
+#![tactic(auto)]
+
 ghost use Rattle.std.specs.Prelude.{◌≡◌, ◌/◌, length};
 ghost use Rattle.winged.specs.Host.{host_wing, host_wing_buffer, host_uploaded_buffer, host_sweep, host_sweep_buffer};
 ghost use Rattle.winged.specs.Host.{host_faces, host_faces_buffer, host_answer};

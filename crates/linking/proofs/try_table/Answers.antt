@@ -11,9 +11,9 @@ use Rattle.linking.proofs.try_table.Goals as goal
 
 pub returns-then-not-gather : goal.returns-then-not-gather
 returns-then-not-gather c = record {
-      made = (λ z. absurd (false≢true z));
-      long = (refl, refl, refl);
-    }
+  made = (λ z. absurd (false≢true z));
+  long = (refl, refl, refl);
+}
 
 pub link_all-requires : goal.link_all-requires
 link_all-requires c =

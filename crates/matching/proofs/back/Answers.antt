@@ -54,13 +54,12 @@ overflow_add-b c =
     omega (arith, mod-lt c.args.g c.requires.keyed.0.some, c.requires.keyed.0.most, c.requires.keyed.0.start)
 
 pub same_key-requires : goal.same_key-requires
-same_key-requires c =
-    (
-      c.requires.keyed.0.long,
-      c.requires.keyed.0.vertices,
-      omega (arith, (div-lt_iff_lt-mul {y = 4096} c.requires.keyed.0.some).1 (lt_trans (lower (goal.at.same_key-requires c).In-loop-f) c.requires.keyed.2), c.place_of-there.ensures.0),
-      omega (arith, (div-lt_iff_lt-mul {y = 4096} c.requires.keyed.0.some).1 c.requires.keyed.2, c.place_of-here.ensures.0),
-    )
+same_key-requires c = (
+  c.requires.keyed.0.long,
+  c.requires.keyed.0.vertices,
+  omega (arith, (div-lt_iff_lt-mul {y = 4096} c.requires.keyed.0.some).1 (lt_trans (lower (goal.at.same_key-requires c).In-loop-f) c.requires.keyed.2), c.place_of-there.ensures.0),
+  omega (arith, (div-lt_iff_lt-mul {y = 4096} c.requires.keyed.0.some).1 c.requires.keyed.2, c.place_of-here.ensures.0),
+)
 
 pub returns-then-same_key : goal.returns-then-same_key
 unfolding earlier

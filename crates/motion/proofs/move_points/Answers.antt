@@ -101,9 +101,9 @@ returns-then-less c = refuses _ _ 12 cc
 
 pub levels_stay-requires : goal.levels_stay-requires
 levels_stay-requires c = record {
-      n_bound = ((limits (goal.at.levels_stay-requires c).Else-not-numbers_ok).axes, long (goal.at.levels_stay-requires c).Else-differ, fits (goal.at.levels_stay-requires c).Else-not-fits);
-      points_value = ranged (goal.at.levels_stay-requires c).Else-not-floats_in_range;
-    }
+  n_bound = ((limits (goal.at.levels_stay-requires c).Else-not-numbers_ok).axes, long (goal.at.levels_stay-requires c).Else-differ, fits (goal.at.levels_stay-requires c).Else-not-fits);
+  points_value = ranged (goal.at.levels_stay-requires c).Else-not-floats_in_range;
+}
 
 pub returns-then-not-levels_stay : goal.returns-then-not-levels_stay
 unfolding move_rules moved_levels
@@ -134,9 +134,9 @@ returns-then-less-2 c = refuses _ _ 15 (full (told ((goal.at.returns-then-less-2
 
 pub write_levels-requires : goal.write_levels-requires
 write_levels-requires c = record {
-      step_value = not-false _ (fits (goal.at.write_levels-requires c).Else-not-fits);
-      points_len = (eqb-true _ _ (not-false _ (long (goal.at.write_levels-requires c).Else-differ)), ltb-false _ _ (cc));
-    }
+  step_value = not-false _ (fits (goal.at.write_levels-requires c).Else-not-fits);
+  points_len = (eqb-true _ _ (not-false _ (long (goal.at.write_levels-requires c).Else-differ)), ltb-false _ _ (cc));
+}
 
 pub returns : goal.returns
 unfolding move_rules moved_levels

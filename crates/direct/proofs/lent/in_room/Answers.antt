@@ -109,9 +109,9 @@ in_512-requires-then-n-le512 c = (lent (goal.at.in_512-requires-then-n-le512 c).
 
 pub returns-then-n-le512 : goal.returns-then-n-le512
 returns-then-n-le512 c = record {
-      lent = (λ z. lent (goal.at.returns-then-n-le512 c).Else-uploaded-n);
-      direct = c.in_512-then-n-le512.ensures;
-    }
+  lent = (λ z. lent (goal.at.returns-then-n-le512 c).Else-uploaded-n);
+  direct = c.in_512-then-n-le512.ensures;
+}
 
 pub in_1024-requires : goal.in_1024-requires
 in_1024-requires c =
@@ -126,9 +126,9 @@ in_1024-requires-then-n-le1024 c = (lent (goal.at.in_1024-requires-then-n-le1024
 
 pub returns-then-n-le1024 : goal.returns-then-n-le1024
 returns-then-n-le1024 c = record {
-      lent = (λ z. lent (goal.at.returns-then-n-le1024 c).Else-uploaded-n);
-      direct = c.in_1024-then-n-le1024.ensures;
-    }
+  lent = (λ z. lent (goal.at.returns-then-n-le1024 c).Else-uploaded-n);
+  direct = c.in_1024-then-n-le1024.ensures;
+}
 
 pub in_2048-requires : goal.in_2048-requires
 in_2048-requires c =
@@ -143,9 +143,9 @@ in_2048-requires-then-n-le2048 c = (lent (goal.at.in_2048-requires-then-n-le2048
 
 pub returns-then-n-le2048 : goal.returns-then-n-le2048
 returns-then-n-le2048 c = record {
-      lent = (λ z. lent (goal.at.returns-then-n-le2048 c).Else-uploaded-n);
-      direct = c.in_2048-then-n-le2048.ensures;
-    }
+  lent = (λ z. lent (goal.at.returns-then-n-le2048 c).Else-uploaded-n);
+  direct = c.in_2048-then-n-le2048.ensures;
+}
 
 pub in_4096-requires : goal.in_4096-requires
 in_4096-requires c =
@@ -160,9 +160,9 @@ in_4096-requires-then-n-le4096 c = (lent (goal.at.in_4096-requires-then-n-le4096
 
 pub returns-then-n-le4096 : goal.returns-then-n-le4096
 returns-then-n-le4096 c = record {
-      lent = (λ z. lent (goal.at.returns-then-n-le4096 c).Else-uploaded-n);
-      direct = c.in_4096-then-n-le4096.ensures;
-    }
+  lent = (λ z. lent (goal.at.returns-then-n-le4096 c).Else-uploaded-n);
+  direct = c.in_4096-then-n-le4096.ensures;
+}
 
 pub in_8192-requires : goal.in_8192-requires
 in_8192-requires c =
@@ -177,9 +177,9 @@ in_8192-requires-then-n-le8192 c = (lent (goal.at.in_8192-requires-then-n-le8192
 
 pub returns-then-n-le8192 : goal.returns-then-n-le8192
 returns-then-n-le8192 c = record {
-      lent = (λ z. lent (goal.at.returns-then-n-le8192 c).Else-uploaded-n);
-      direct = c.in_8192-then-n-le8192.ensures;
-    }
+  lent = (λ z. lent (goal.at.returns-then-n-le8192 c).Else-uploaded-n);
+  direct = c.in_8192-then-n-le8192.ensures;
+}
 
 pub in_16384-requires : goal.in_16384-requires
 in_16384-requires c =
@@ -194,9 +194,9 @@ in_16384-requires-then-n-le16384 c = (lent (goal.at.in_16384-requires-then-n-le1
 
 pub returns-then-n-le16384 : goal.returns-then-n-le16384
 returns-then-n-le16384 c = record {
-      lent = (λ z. lent (goal.at.returns-then-n-le16384 c).Else-uploaded-n);
-      direct = c.in_16384-then-n-le16384.ensures;
-    }
+  lent = (λ z. lent (goal.at.returns-then-n-le16384 c).Else-uploaded-n);
+  direct = c.in_16384-then-n-le16384.ensures;
+}
 
 pub in_32768-requires : goal.in_32768-requires
 in_32768-requires c = one 32768 (search rules) (few (goal.at.in_32768-requires c).Else-uploaded-n) c.if-d-eq1-7.true
@@ -210,6 +210,6 @@ in_32768-requires-2 c = (lent (goal.at.in_32768-requires-2 c).Else-uploaded-n, f
 
 pub returns : goal.returns
 returns c = record {
-      lent = (λ z. lent (goal.at.returns c).Else-uploaded-n);
-      direct = c.in_32768-2.ensures;
-    }
+  lent = (λ z. lent (goal.at.returns c).Else-uploaded-n);
+  direct = c.in_32768-2.ensures;
+}

@@ -12,8 +12,7 @@ use Rattle.file.proofs.cells.cell_at.Goals.{After-cell_size-size}
 placed : (c : After-cell_size-size) → let a = c.args in (c.cells_start-start.result + a.p * c.cell_size-size.result ≡ cell_place a.b.now a.p)
     × (cell_place a.b.now a.p + size a.b.now ≤ length a.b.now)
 placed c =
-    let a = c.args in
-    (
+    let a = c.args in (
       ap₂ (λ x n. x + a.p * n) c.cells_start-start.ensures.0 (c.cell_size-size.ensures.0
           ∙ ap₂ cell_bytes c.version.ensures.0 c.dimension.ensures.0),
       cell_room_lem a.b.now c.requires.0 a.p c.requires.1,

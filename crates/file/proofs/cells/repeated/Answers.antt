@@ -13,12 +13,11 @@ returns-then-holds c =
     again_stops c.args.b.now c.loop-left.from c.loop-left.left _ (omega arith) _ c.word16-x.ensures c.loop-left.invariant.1 (cc)
 
 pub loop-left-preserved : goal.loop-left-preserved
-loop-left-preserved c =
-    (
-      omega arith,
-      again-goes c.args.b.now c.loop-left.from c.loop-left.left _ (omega arith) _ c.word16-x.ensures c.loop-left.invariant.1
-          (cc),
-    )
+loop-left-preserved c = (
+  omega arith,
+  again-goes c.args.b.now c.loop-left.from c.loop-left.left _ (omega arith) _ c.word16-x.ensures c.loop-left.invariant.1
+      (cc),
+)
 
 pub returns : goal.returns
 returns c = again_ends c.args.b.now c.loop-left.from c.loop-left.left _ (omega arith) c.loop-left.invariant.1

@@ -37,15 +37,14 @@ pub slice_bounds-encode-end : goal.slice_bounds-encode-end
 slice_bounds-encode-end c = sym (length-take-le _ _ (front (goal.at.slice_bounds-encode-end c).In-Written-2).0)
 
 pub encode-requires : goal.encode-requires
-encode-requires c =
-    (
-      sent-ranged (input (goal.at.encode-requires c).In-Written-2) _ _ _ (accepts (goal.at.encode-requires c).In-Written-2) c.move_decoded.ensures.buffer,
-      omega (
-        arith,
-        length-take-le c.m-1.given.0.0 c.move_decoded.new.out (front (goal.at.encode-requires c).In-Written-2).0,
-        c.if-levels-m.false,
-      ),
-    )
+encode-requires c = (
+  sent-ranged (input (goal.at.encode-requires c).In-Written-2) _ _ _ (accepts (goal.at.encode-requires c).In-Written-2) c.move_decoded.ensures.buffer,
+  omega (
+    arith,
+    length-take-le c.m-1.given.0.0 c.move_decoded.new.out (front (goal.at.encode-requires c).In-Written-2).0,
+    c.if-levels-m.false,
+  ),
+)
 
 pub returns-else-levels-m : goal.returns-else-levels-m
 returns-else-levels-m c =

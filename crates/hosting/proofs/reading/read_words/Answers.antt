@@ -23,12 +23,12 @@ words-requires c = (passed _ _ (accepts c)).0.header
 
 pub returns-in-Accepted : goal.returns-in-Accepted
 returns-in-Accepted c = record {
-      answer = ap accepted c.words.ensures ∙ accepts (goal.at.returns-in-Accepted c).In-Accepted;
-      buffer = left (goal.at.returns-in-Accepted c).After-read_cells;
-    }
+  answer = ap accepted c.words.ensures ∙ accepts (goal.at.returns-in-Accepted c).In-Accepted;
+  buffer = left (goal.at.returns-in-Accepted c).After-read_cells;
+}
 
 pub returns-in-Refused : goal.returns-in-Refused
 returns-in-Refused c = record {
-      answer = read_refuses _ _ (ap header_outcome (sym c.r-1.given.1) ∙ answer (goal.at.returns-in-Refused c).After-read_cells);
-      buffer = left (goal.at.returns-in-Refused c).After-read_cells;
-    }
+  answer = read_refuses _ _ (ap header_outcome (sym c.r-1.given.1) ∙ answer (goal.at.returns-in-Refused c).After-read_cells);
+  buffer = left (goal.at.returns-in-Refused c).After-read_cells;
+}

@@ -12,17 +12,16 @@ use Rattle.linking.proofs.WingSet.{cells-still}
 use Rattle.linking.proofs.pairing.link_all.Goals as goal
 
 pub loop-g-init : goal.loop-g-init
-loop-g-init c =
-    (
-      c.requires.0,
-      record { long = refl; sign = λ q h. refl; cell = λ q h. refl },
-      omega (arith, zero-mul (suc c.args.d)),
-      omega arith,
-      omega arith,
-      refl,
-      refl,
-      refl,
-    )
+loop-g-init c = (
+  c.requires.0,
+  record { long = refl; sign = λ q h. refl; cell = λ q h. refl },
+  omega (arith, zero-mul (suc c.args.d)),
+  omega arith,
+  omega arith,
+  refl,
+  refl,
+  refl,
+)
 
 pub link-requires : goal.link-requires
 link-requires c =

@@ -28,6 +28,7 @@ returns c =
     let a = c.args in
     key_put a.version a.d a.n a.v a.points.now _ a.faces c.requires.2 a.buf.now c.requires.3
     c.first_line-first.ensures c.put_vertices-vertices.ensures c.put_faces.ensures
+
 -- TODO need cast-t17
 --   cast-t17 : tie.Need-cast-t17
 --   cast-t17 c =

@@ -4,11 +4,10 @@ use Rattle.listing.proofs.Runs.{vertex-line, point-ranged}
 use Rattle.listing.proofs.vertices.put_vertex.Goals as goal
 
 pub vertex_line-requires : goal.vertex_line-requires
-vertex_line-requires c =
-    (
-      point-ranged c.args.n c.args.p c.args.points.now c.requires.0.within c.requires.0.ranged,
-      rw (vertex-line c.args.n c.args.p c.args.points.now) at c.requires.1,
-    )
+vertex_line-requires c = (
+  point-ranged c.args.n c.args.p c.args.points.now c.requires.0.within c.requires.0.ranged,
+  rw (vertex-line c.args.n c.args.p c.args.points.now) at c.requires.1,
+)
 
 pub returns : goal.returns
 returns c =

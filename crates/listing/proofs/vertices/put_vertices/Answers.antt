@@ -9,12 +9,11 @@ use Rattle.listing.proofs.Runs.{lines_rest, lines_end, point-within}
 use Rattle.listing.proofs.vertices.put_vertices.Goals as goal
 
 pub loop-p-init : goal.loop-p-init
-loop-p-init c =
-    (
-      omega arith,
-      left_starts c.args.at (vertex_lines c.args.n c.args.v c.args.points.now)
-          c.args.buf.now c.requires.1,
-    )
+loop-p-init c = (
+  omega arith,
+  left_starts c.args.at (vertex_lines c.args.n c.args.v c.args.points.now)
+      c.args.buf.now c.requires.1,
+)
 
 pub put_vertex-cur-requires : goal.put_vertex-cur-requires
 put_vertex-cur-requires c =

@@ -21,12 +21,11 @@ in_table : (c : In-loop-c) → c.loop-c.c < 32768
 in_table c = omega (arith, few (goal.at.In-loop-c c).Start)
 
 pub loop-c-init : goal.loop-c-init
-loop-c-init c =
-    (
-      omega arith,
-      refine_start _ _ _ c.requires.worded.3,
-      record { under = λ y l. omega (arith, get_or-replicate {A = ℕ} 4096 y 0 0 l); seen_long = length-replicate {A = ℕ} 4096 0 },
-    )
+loop-c-init c = (
+  omega arith,
+  refine_start _ _ _ c.requires.worded.3,
+  record { under = λ y l. omega (arith, get_or-replicate {A = ℕ} 4096 y 0 0 l); seen_long = length-replicate {A = ℕ} 4096 0 },
+)
 
 pub offset_bounds-class-c : goal.offset_bounds-class-c
 offset_bounds-class-c c = omega (arith, in_table c)
@@ -46,7 +45,7 @@ part_class-requires c =
         chain_start a.n a.class.now (digits (goal.at.part_class-requires c).Start) (few (goal.at.part_class-requires c).Start) c.requires.worded.2 l.class l.c c.loop-c-test.true l.invariant.1 is,
       );
       by_index = chain a.n a.class.now (digits (goal.at.part_class-requires c).Start) (few (goal.at.part_class-requires c).Start) c.requires.worded.2 l.class l.c c.loop-c-test.true l.invariant.1 is
-            a.prev.now c.requires.linked;
+          a.prev.now c.requires.linked;
       class_len = (l.invariant.1.new_long, l.invariant.2);
     }
 

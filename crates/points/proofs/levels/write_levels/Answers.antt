@@ -27,9 +27,9 @@ overflow_mul-i-in-loop-i c = omega (arith, next c)
 
 pub write_level-requires : goal.write_level-requires
 write_level-requires c = record {
-      step_value = (start ((goal.at.write_level-requires c).After-put)).requires.0;
-      n_bound = ((next (goal.at.write_level-requires c).In-loop-i).0, omega (arith, next (goal.at.write_level-requires c).In-loop-i));
-    }
+  step_value = (start ((goal.at.write_level-requires c).After-put)).requires.0;
+  n_bound = ((next (goal.at.write_level-requires c).In-loop-i).0, omega (arith, next (goal.at.write_level-requires c).In-loop-i));
+}
 
 pub loop-i-preserved : goal.loop-i-preserved
 loop-i-preserved c =

@@ -23,12 +23,11 @@ returns-then-not-in_range c =
     c.loop-i.invariant.1
 
 pub loop-i-preserved : goal.loop-i-preserved
-loop-i-preserved c =
-    (
-      omega arith,
-      all_goes in_range nan (floats (goal.at.loop-i-preserved c).At-loop-i) _ c.loop-i.i refl (omega arith) _ refl _ (cc (not-false c.in_range.result c.if-not-in_range.false))
-          c.loop-i.invariant.1,
-    )
+loop-i-preserved c = (
+  omega arith,
+  all_goes in_range nan (floats (goal.at.loop-i-preserved c).At-loop-i) _ c.loop-i.i refl (omega arith) _ refl _ (cc (not-false c.in_range.result c.if-not-in_range.false))
+      c.loop-i.invariant.1,
+)
 
 pub returns : goal.returns
 returns c = all_ends in_range nan (floats (goal.at.returns c).At-loop-i) _ c.loop-i.i refl (omega arith) _ c.loop-i.invariant.1

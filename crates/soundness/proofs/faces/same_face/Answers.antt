@@ -43,8 +43,7 @@ returns-then-x-y c =
 
 pub loop-j-preserved : goal.loop-j-preserved
 loop-j-preserved c =
-    let a = c.args in
-    (
+    let a = c.args in (
       omega (arith, c.if-d-j.false),
       below_more _ _ c.loop-j.invariant.1
           (left_at (row_in a.d a.table.now a.p) a.a _ _ c.stands.ensures.0 ∙ sym c.vertex-x.ensures ∙ c.if-x-y.false

@@ -32,4 +32,5 @@ pub returns : goal.returns
 returns c =
     let a = c.args in
     told a.d a.v a.s a.table.now c.requires.0 (fine (goal.at.returns c).Else-not-all_fine) c.requires.1 c.requires.2 (c.all_coded.ensures.right e)
+
 -- TODO inline 0 ?

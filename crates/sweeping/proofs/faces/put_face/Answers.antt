@@ -83,6 +83,6 @@ shape_of-out c = c.loop-l.invariant.1.outside.same
 
 pub returns : goal.returns
 returns c = let i = c.loop-l.invariant in record {
-      kept = i.1;
-      right = λ l m. i.2 l (omega arith);
-    }
+  kept = i.1;
+  right = λ l m. i.2 l (omega arith);
+}

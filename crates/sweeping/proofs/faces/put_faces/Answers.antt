@@ -29,6 +29,6 @@ shape_of-out c = c.loop-a.invariant.0.outside.same
 
 pub returns : goal.returns
 returns c = let i = c.loop-a.invariant in record {
-      kept = i.0;
-      right = λ a l h m. i.1 l a m (omega arith);
-    }
+  kept = i.0;
+  right = λ a l h m. i.1 l a m (omega arith);
+}

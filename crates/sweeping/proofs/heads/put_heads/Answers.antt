@@ -24,6 +24,6 @@ shape_of-out c = c.loop-k.invariant.0.outside.same
 
 pub returns : goal.returns
 returns c = let i = c.loop-k.invariant in record {
-      kept = i.0;
-      right = λ k l. i.1 k (omega arith);
-    }
+  kept = i.0;
+  right = λ k l. i.1 k (omega arith);
+}

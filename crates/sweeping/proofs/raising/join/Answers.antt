@@ -93,8 +93,7 @@ pub loop-p-preserved : goal.loop-p-preserved
 loop-p-preserved c =
     let x = places_of (goal.at.loop-p-preserved c).In-loop-p in
     let a = c.args in
-    let l = c.loop-p in
-    (
+    let l = c.loop-p in (
       omega (arith, c.loop-p-test.true),
       omega (arith, x.next, c.record_place-size.ensures.place, l.invariant.1),
       joined_more a.d a.v a.s a.h a.table.now c.requires.ready a.i a.at a.out.now c.requires.room l.out l.p _ _

@@ -11,12 +11,12 @@ join-requires c =
       ready = c.requires.ready;
       at = c.requires.at.0;
       room = omega (
-          arith,
-          c.requires.room,
-          c.requires.at.1,
-          c.raise.ensures.outside.same,
-          level-long a.d a.v a.s a.h a.table.now c.requires.ready.long (a.i + 2),
-        );
+        arith,
+        c.requires.room,
+        c.requires.at.1,
+        c.raise.ensures.outside.same,
+        level-long a.d a.v a.s a.h a.table.now c.requires.ready.long (a.i + 2),
+      );
     }
 
 pub returns : goal.returns

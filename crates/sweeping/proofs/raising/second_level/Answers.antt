@@ -43,12 +43,12 @@ join-requires c =
       ready = c.requires.ready;
       at = c.requires.at.0;
       room = omega (
-          arith,
-          c.requires.room,
-          c.requires.at.1,
-          c.step_level.ensures.outside.same,
-          level-long a.d a.v a.s a.h a.table.now c.requires.ready.long 1,
-        );
+        arith,
+        c.requires.room,
+        c.requires.at.1,
+        c.step_level.ensures.outside.same,
+        level-long a.d a.v a.s a.h a.table.now c.requires.ready.long 1,
+      );
     }
 
 pub returns : goal.returns

@@ -72,6 +72,6 @@ shape_of-out c = c.loop-k.invariant.1.outside.same
 
 pub returns : goal.returns
 returns c = let i = c.loop-k.invariant in record {
-      kept = i.1;
-      right = λ k l m. i.2 k l (omega arith);
-    }
+  kept = i.1;
+  right = λ k l m. i.2 k l (omega arith);
+}

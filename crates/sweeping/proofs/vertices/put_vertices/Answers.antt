@@ -32,7 +32,7 @@ put_column-requires c =
       ready = c.requires.ready;
       at = (at.0, at.1, hj, omega arith, omega arith, omega (arith, hj));
       word = (λ k l m. c.lift.ensures ∙ ap (at_level a.v a.i) (is (goal.at.put_column-requires c).After-wide-x)
-              ∙ column-low a.d a.v a.s a.table.now a.i a.p j k hj m);
+          ∙ column-low a.d a.v a.s a.table.now a.i a.p j k hj m);
       room = omega (arith, c.requires.room, c.loop-j.invariant.kept.outside.same);
     }
 
@@ -49,8 +49,8 @@ put_column-requires-in-loop-j c =
       ready = c.requires.ready;
       at = (at.0, at.1, omega arith, omega arith, hj, omega arith);
       word = (λ k l m. c.lift-in-loop-j.ensures ∙ ap (at_level a.v (a.i + 1)) (is (goal.at.put_column-requires-in-loop-j c).After-wide-x)
-              ∙ ap (λ n. at_level a.v n (solid_vertex a.d a.s a.table.now a.p j)) (add-one a.i)
-              ∙ column_high a.d a.v a.s a.table.now a.i a.p j k l m);
+          ∙ ap (λ n. at_level a.v n (solid_vertex a.d a.s a.table.now a.p j)) (add-one a.i)
+          ∙ column_high a.d a.v a.s a.table.now a.i a.p j k l m);
       room = omega (arith, c.requires.room, c.loop-j.invariant.kept.outside.same, c.put_column.ensures.kept.outside.same);
     }
 
@@ -69,6 +69,6 @@ shape_of-out c = c.loop-j.invariant.kept.outside.same
 
 pub returns : goal.returns
 returns c = let i = c.loop-j.invariant in record {
-      kept = i.kept;
-      vertices = columns_all _ _ _ _ _ _ c.loop-j-test.false i;
-    }
+  kept = i.kept;
+  vertices = columns_all _ _ _ _ _ _ c.loop-j-test.false i;
+}

@@ -42,9 +42,9 @@ raise_level-requires c =
       ready = c.requires.ready;
       at = (omega (arith, c.requires.at.0, two), c.requires.at.1);
       below = (
-            (λ x l. below (a.i - 2) x (omega (arith, two)) l),
-            (λ x l. rw (record_next a.n (a.i - 2)) at (below (a.i - 2 + 1) x (omega (arith, two)) l)),
-          );
+        (λ x l. below (a.i - 2) x (omega (arith, two)) l),
+        (λ x l. rw (record_next a.n (a.i - 2)) at (below (a.i - 2 + 1) x (omega (arith, two)) l)),
+      );
       room = omega (arith, c.requires.room, begins a.n a.i (two));
     }
 

@@ -10,7 +10,7 @@ returns c =
       crowded = c.either-crowded.ensures
           ∙ ap (λ (t : Bool). t || o.crowded) c.seen.ensures;
       repeated = c.either-repeated.ensures
-            ∙ ap (λ (t : Bool). t || o.repeated) c.same_first.ensures;
+          ∙ ap (λ (t : Bool). t || o.repeated) c.same_first.ensures;
       equal = c.either-equal.ensures ∙ ap (λ (t : Bool). t || o.equal) (c.product-like.ensures
-            ∙ ap₂ times c.face_sign.ensures c.face_sign-2.ensures);
+          ∙ ap₂ times c.face_sign.ensures c.face_sign-2.ensures);
     }

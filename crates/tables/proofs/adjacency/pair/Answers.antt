@@ -28,8 +28,7 @@ loop-g-init c = (omega arith, refl, omega arith, omega arith, pairing_none _ _ _
 
 pub pair_at-found-requires : goal.pair_at-found-requires
 pair_at-found-requires c =
-    let l = c.loop-g in
-    (
+    let l = c.loop-g in (
       (c.requires.0, c.requires.1, l.invariant.1, c.requires.2),
       (
         l.invariant.2,

@@ -28,6 +28,6 @@ loop-p-preserved c =
 
 pub returns : goal.returns
 returns c = record {
-      rows_len_2 = (c.loop-p.invariant.1, c.loop-p.invariant.2);
-      by_index = (λ p h. c.loop-p.invariant.3 p (omega arith));
-    }
+  rows_len_2 = (c.loop-p.invariant.1, c.loop-p.invariant.2);
+  by_index = (λ p h. c.loop-p.invariant.3 p (omega arith));
+}

@@ -34,11 +34,10 @@ fits : (c : Else-too_short) → let a = c.args in
 fits c = sym c.too_short.ensures ∙ c.if-too_short.false
 
 pub take-verdict-requires : goal.take-verdict-requires
-take-verdict-requires c =
-    (
-      (omega arith, omega arith, omega arith, omega arith, rw c.list_size-size.ensures (omega arith)),
-      (length-replicate {A = ℕ} 32768 0, length-replicate {A = Bool} 4096 false, fresh_blank),
-    )
+take-verdict-requires c = (
+  (omega arith, omega arith, omega arith, omega arith, rw c.list_size-size.ensures (omega arith)),
+  (length-replicate {A = ℕ} 32768 0, length-replicate {A = Bool} 4096 false, fresh_blank),
+)
 
 pub returns-in-Refuse : goal.returns-in-Refuse
 returns-in-Refuse c =

@@ -65,28 +65,28 @@ some n e = omega arith
 
 pub returns-then-bad_sign : goal.returns-then-bad_sign
 returns-then-bad_sign c = record {
-      number = first-sign (list (goal.at.returns-then-bad_sign c).After-bad_sign) (six (goal.at.returns-then-bad_sign c).After-bad_sign ∙ c.if-bad_sign.true);
-      taken = λ z. absurd (some _ z);
-    }
+  number = first-sign (list (goal.at.returns-then-bad_sign c).After-bad_sign) (six (goal.at.returns-then-bad_sign c).After-bad_sign ∙ c.if-bad_sign.true);
+  taken = λ z. absurd (some _ z);
+}
 
 pub returns-then-beyond : goal.returns-then-beyond
 returns-then-beyond c = record {
-      number = first-vertex (list (goal.at.returns-then-beyond c).After-bad_sign) (six-passes (goal.at.returns-then-beyond c).Else-bad_sign) (seven (goal.at.returns-then-beyond c).After-beyond ∙ c.if-beyond.true);
-      taken = λ z. absurd (some _ z);
-    }
+  number = first-vertex (list (goal.at.returns-then-beyond c).After-bad_sign) (six-passes (goal.at.returns-then-beyond c).Else-bad_sign) (seven (goal.at.returns-then-beyond c).After-beyond ∙ c.if-beyond.true);
+  taken = λ z. absurd (some _ z);
+}
 
 pub returns-then-any_falls : goal.returns-then-any_falls
 returns-then-any_falls c = record {
-      number = first-twice (list (goal.at.returns-then-any_falls c).After-bad_sign) (six-passes (goal.at.returns-then-any_falls c).Else-bad_sign) (seven-passes (goal.at.returns-then-any_falls c).Else-beyond) (eight (goal.at.returns-then-any_falls c).After-any_falls ∙ c.if-any_falls.true);
-      taken = λ z. absurd (some _ z);
-    }
+  number = first-twice (list (goal.at.returns-then-any_falls c).After-bad_sign) (six-passes (goal.at.returns-then-any_falls c).Else-bad_sign) (seven-passes (goal.at.returns-then-any_falls c).Else-beyond) (eight (goal.at.returns-then-any_falls c).After-any_falls ∙ c.if-any_falls.true);
+  taken = λ z. absurd (some _ z);
+}
 
 pub returns-then-bad_material : goal.returns-then-bad_material
 returns-then-bad_material c = record {
-      number = first-material (list (goal.at.returns-then-bad_material c).After-bad_sign) (six-passes (goal.at.returns-then-bad_material c).Else-bad_sign) (seven-passes (goal.at.returns-then-bad_material c).Else-beyond) (eight-passes (goal.at.returns-then-bad_material c).Else-any_falls)
+  number = first-material (list (goal.at.returns-then-bad_material c).After-bad_sign) (six-passes (goal.at.returns-then-bad_material c).Else-bad_sign) (seven-passes (goal.at.returns-then-bad_material c).Else-beyond) (eight-passes (goal.at.returns-then-bad_material c).Else-any_falls)
       (eighteen (goal.at.returns-then-bad_material c).After-bad_material ∙ c.if-bad_material.true);
-      taken = λ z. absurd (some _ z);
-    }
+  taken = λ z. absurd (some _ z);
+}
 
 pub adjacent-requires : goal.adjacent-requires
 adjacent-requires c =

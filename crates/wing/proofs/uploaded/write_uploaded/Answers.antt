@@ -42,12 +42,11 @@ pub loop-p-smaller : goal.loop-p-smaller
 loop-p-smaller c = omega arith
 
 pub loop-p-preserved : goal.loop-p-preserved
-loop-p-preserved c =
-    (
-      c.loop-p.invariant.0,
-      left_record _ _ (rows (goal.at.loop-p-preserved c).Start) c.loop-p-test.true c.loop-p.invariant.1 _ _
-          (record { place = omega (arith, long (goal.at.loop-p-preserved c).In-loop-p, c.loop-p.invariant.0); content = c.write_cell.ensures }),
-    )
+loop-p-preserved c = (
+  c.loop-p.invariant.0,
+  left_record _ _ (rows (goal.at.loop-p-preserved c).Start) c.loop-p-test.true c.loop-p.invariant.1 _ _
+      (record { place = omega (arith, long (goal.at.loop-p-preserved c).In-loop-p, c.loop-p.invariant.0); content = c.write_cell.ensures }),
+)
 
 pub shape_of-uploaded : goal.shape_of-uploaded
 shape_of-uploaded c = c.loop-p.invariant.1.same
