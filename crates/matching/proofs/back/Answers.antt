@@ -21,9 +21,9 @@ lower c = (walk_below (keys (goal.at.In-loop-f c).Start) _ _ c.loop-f.invariant 
 
 -- the comparison is that of the two keys
 compares : (c : After-same_key) →
-    c.same_key.result ≡ same_row (keys (start ((goal.at.After-same_key c).In-loop-f)) c.loop-f.f) (keys (start ((goal.at.After-same_key c).In-loop-f)) (start ((goal.at.After-same_key c).In-loop-f)).args.g)
+    c.same_key.result ≡ same_row (keys (goal.at.After-same_key c).Start c.loop-f.f) (keys (goal.at.After-same_key c).Start c.args.g)
 compares c =
-    let a = (start ((goal.at.After-same_key c).In-loop-f)).args in
+    let a = c.args in
     let x = (c.place_of-there) in
     let y = (c.place_of-here) in
     compared a.rows.now a.k _ a.first _ _ _ _ _ _ x.ensures.0 x.ensures.1 y.ensures.0 y.ensures.1 _ c.same_key.ensures

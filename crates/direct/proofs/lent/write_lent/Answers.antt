@@ -30,7 +30,7 @@ try_table-requires c =
     let l = limits (goal.at.try_table-requires c).Start in
     let b = c.requires.lent.1 in record {
       le_d = (c.requires.lent.0.some, l.dimension, l.cells, long (goal.at.try_table-requires c).After-decode, c.requires.list_len.1);
-      d_in_bounds = (b.hash-room, b.next-room, b.heads, b.few-heads);
+      d_in_bounds = (b.hash_room, b.next_room, b.heads, b.few-heads);
       by_index = b.blank;
     }
 

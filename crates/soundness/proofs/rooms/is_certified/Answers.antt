@@ -17,13 +17,13 @@ use Rattle.solids.specs.Table.{sound}
 use Rattle.soundness.specs.Inner.Coding.{base_of}
 use Rattle.soundness.proofs.Places.{few_keys}
 use Rattle.soundness.proofs.rooms.is_certified.Goals as goal
-use Rattle.soundness.proofs.rooms.is_certified.Goals.{After-table_words, Else-differ, Else-not-within, Start, Then-n-v}
+use Rattle.soundness.proofs.rooms.is_certified.Goals.{Else-differ, Else-not-within, Start, Then-n-v}
 
-inside : (c : Else-not-within) → let a = c.args in not (shape_ok max_dimension a.d a.v a.s) ≡ false
-inside c = ap not (sym c.within.ensures) ∙ c.if-not-within.false
+inside : (c : Else-not-within) → let a = c.args in shape_ok max_dimension a.d a.v a.s ≡ true
+inside c = sym c.within.ensures ∙ c.if-not-within.false
 
 limits : (c : Else-not-within) → let a = c.args in Limits max_dimension a.d a.v a.s
-limits c = limits_are _ _ _ _ (inside c)
+limits c = limits_are _ _ _ _ (ap not (inside c))
 
 -- what a room for m places asks
 abbrev Fits : Start → ℕ → ℕ → Type 0
@@ -31,25 +31,24 @@ Fits s m d =
     let a = s.args in
     Table d a.s a.table.now × (1 ≤ d) × (a.s * suc d ≤ m) × (shape_ok max_dimension d a.v a.s ≡ true)
 
-fits : (m : ℕ) (c : Else-differ) → let s = start (tested c).before in s.args.s * suc s.args.d ≤ m → Fits s m s.args.d
+fits : (m : ℕ) (c : Else-differ) → c.args.s * suc c.args.d ≤ m → Fits (goal.at.Else-differ c).Start m c.args.d
 fits m c few =
-    let i = tested c in
-    let a = (start i.before).args in
-    let l = limits i in
-    let n : After-table_words = search rules in (
+    let i = (goal.at.Else-differ c).Else-not-within in
+    let a = c.args in
+    let l = limits i in (
       record {
         dimension = l.dimension;
         cells = l.cells;
         long = eqb-true (length a.table.now) (table_length a.d a.s)
             (not-false _
-            (ap (λ x. not (eqb (length a.table.now) x)) (sym n.table-words.ensures) ∙ sym c.before.differ.ensures ∙ c.if2.false));
+            (ap (λ x. not (eqb (length a.table.now) x)) (sym c.table_words.ensures) ∙ sym c.differ.ensures ∙ c.if-differ.false));
       },
-      (start i.before).requires,
+      c.requires,
       few,
-      not-false _ (inside i),
+      inside i,
     )
 
-few : (c : Else-differ) → let a = (start c.before).args in a.s * suc a.d ≤ 32768
+few : (c : Else-differ) → let a = c.args in a.s * suc a.d ≤ 32768
 few c = let l = limits (goal.at.Else-differ c).Else-not-within in few_keys _ _ l.dimension l.cells
 
 -- by codes: what a room for m places asks
@@ -142,7 +141,7 @@ pub coded_16384-requires-then-n-v : goal.coded_16384-requires-then-n-v
 coded_16384-requires-then-n-v c = coded (goal.at.coded_16384-requires-then-n-v c).Then-n-v 16384 (few-places (goal.at.coded_16384-requires-then-n-v c).Then-n-v).0
 
 pub in_32768-requires : goal.in_32768-requires
-in_32768-requires c = subst (Fits (start c.before) 32768) c.if-d-eq4.true (fits 32768 (goal.at.in_32768-requires c).Else-differ (few (goal.at.in_32768-requires c).Else-differ))
+in_32768-requires c = subst (Fits (goal.at.in_32768-requires c).Start 32768) c.if-d-eq4.true (fits 32768 (goal.at.in_32768-requires c).Else-differ (few (goal.at.in_32768-requires c).Else-differ))
 
 pub returns-then-d-eq4 : goal.returns-then-d-eq4
 returns-then-d-eq4 c = λ e. back (goal.at.returns-then-d-eq4 c).Start 4 c.if-d-eq4.true (c.in_32768.ensures e)

@@ -42,7 +42,7 @@ put-f-requires c =
     (c.requires.0.chains, omega (arith, i), omega (arith, i, c.requires.0.wide), omega (arith, i, c.requires.0.deep))
 
 pub returns-then-wing : goal.returns-then-wing
-returns-then-wing c =
+returns-then-wing c = λ z.
     let a = c.args in
     let e : wing_of a.d a.table.now a.g ≡ empty = rw (cell (goal.at.returns-then-wing c).Start) (rw (place (goal.at.returns-then-wing c).Start) (sym c.wing.ensures ∙ c.if-wing.true)) in
     pass_alone a.d a.s a.table.now a.hash.now a.head.now a.next.now _ _ a.g a.n c.requires.0 (inside (goal.at.returns-then-wing c).Start).0
@@ -52,7 +52,7 @@ pub overflow_add-result : goal.overflow_add-result
 overflow_add-result c = omega (arith, c.requires.0.low, inside (goal.at.overflow_add-result c).Start)
 
 pub returns-then-f-eq65535 : goal.returns-then-f-eq65535
-returns-then-f-eq65535 c =
+returns-then-f-eq65535 c = λ z.
     let a = c.args in
     pass_waits a.d a.s a.table.now a.hash.now a.head.now a.next.now _ _ a.g a.n c.requires.0 (inside (goal.at.returns-then-f-eq65535 c).Start).0
     c.put-f.ensures.long.1 (c.put-f.ensures.chains (λ l. c.if-f-eq65535.true)) (c.put-f.ensures.none c.if-f-eq65535.true)
@@ -68,7 +68,7 @@ pub overflow_sub-result : goal.overflow_sub-result
 overflow_sub-result c = omega (arith, some-wait c)
 
 pub returns-then-is_met : goal.returns-then-is_met
-returns-then-is_met c =
+returns-then-is_met c = λ z.
     let a = c.args in
     let m = meeting c in
     (pass_met a.d a.s a.table.now a.hash.now a.head.now a.next.now _ _ a.g a.n c.requires.0 (inside (goal.at.returns-then-is_met c).Start).0
