@@ -7,7 +7,8 @@ use Rattle.soundness.proofs.coded.all_coded.Given as goal
 
 abbrev pub invariant-loop-g : goal.invariant-loop-g
 invariant-loop-g l =
-    PassingAlike l.d l.s l.table l.hash l.head l.next l.g l.n × (l.g ≤ l.keys) × (length l.head ≡ length l.initial.head) × (length l.next ≡ length l.initial.next)
+    PassingAlike l.d l.s l.table l.hash l.head l.next l.g l.n × (l.g ≤ l.keys) × (length l.head ≡ length l.initial.head)
+    × (length l.next ≡ length l.initial.next)
 
 abbrev pub decreases-loop-g : goal.decreases-loop-g
 decreases-loop-g l = l.keys - l.g
