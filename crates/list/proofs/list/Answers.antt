@@ -19,16 +19,16 @@ use Rattle.list.proofs.list.Goals as goal
 use Rattle.list.proofs.list.Goals.{After-less, Else-not-all_in_range, Else-not-numbers_fit}
 
 limits : (c : Else-not-numbers_fit) → let a = c.args in ListLimits a.d a.n a.v a.s
-limits c = list_limits_are c.args.version _ _ _ _ (ap not (sym c.numbers_fit.ensures) ∙ c.if-not-numbers_fit.false)
+limits c = list_limits_are c.args.version _ _ _ _ (ap not (sym c.numbers_fit.ensures ∙ c.if-not-numbers_fit.false))
 
 -- what the tests say of the table and the points
 told : (c : Else-not-all_in_range) → let a = c.args in Table a.d a.s a.table.now × Points a.n a.v a.points.now
 told c =
     let a = c.args in
     let l = limits (goal.at.Else-not-all_in_range c).Else-not-numbers_fit in
-    let fit = ap not (sym c.lengths_fit.ensures) ∙ c.if-not-lengths_fit.false in
+    let fit = ap not (sym c.lengths_fit.ensures ∙ c.if-not-lengths_fit.false) in
     let long = and_parts (eqb (length a.table.now) (table_length a.d a.s)) (eqb (length a.points.now) (a.v * a.n)) (not-false _ fit) in
-    let ranged = not-false _ (ap not (sym c.all_in_range.ensures) ∙ c.if-not-all_in_range.false) in (
+    let ranged = not-false _ (ap not (sym c.all_in_range.ensures ∙ c.if-not-all_in_range.false)) in (
       record { dimension = l.dimension; cells = l.cells; long = eqb-true _ _ long.0 },
       record { axes = l.axes; vertices = l.vertices; long = eqb-true _ _ long.1; ranged = ranged },
     )
