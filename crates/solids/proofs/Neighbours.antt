@@ -2,12 +2,12 @@
 --   face_in w v            1 where the cell on the row v has the face w
 --   others_with p n w cs   how many cells other than p have the face w, the cells being numbered from n
 --   Wing p n w cs m       the number m is that of a cell other than p that has the face w
-use mathlib.Core.Path.{◌≡◌, refl, sym, ap, ap₂}
+use mathlib.Core.Path.{◌≡◌, refl, sym, subst, ap, ap₂}
 use mathlib.Core.Bool.{Bool, true, false, not, cond, ◌&&◌, false≢true}
 use mathlib.Core.List.{List, [], ◌∷◌}
 use Prim.Native.Nat.{ℕ, zero, suc, ◌+◌, ◌≤◌, ◌<◌}
 use native.Mathlib.Omega.{arith}
-use native.Mathlib.Nat.{add-zero, add-suc, suc-add, le_of_suc-le-suc, not-suc-le-zero}
+use native.Mathlib.Nat.{add-zero, le_of_suc-le-suc, not-suc-le-zero}
 use lib.Dec.{eqb, ltb}
 use lib.ListN.{length}
 use borrow.Author.Tests.{eqb-false, eq-eqb, ne_eqb, ltb-true, ltb-false, lt-ltb}
@@ -49,12 +49,17 @@ others_with_past : (p n : ℕ) (w : Row) (cs : List Cell) → p < n → others_w
 others_with_past p n w [] h = refl
 others_with_past p n w (c ∷ cs) h = ap₂ (λ a b. a + b) (rw (ne_eqb p n (λ e. omega arith)) refl) (others_with_past p (suc n) w cs (omega arith))
 
-pub others_with_pick : (p n : ℕ) (w : Row) (cs : List Cell) → p < length cs → others_with (n + p) n w cs + face_in w (row_at cs p) ≡ sum_rows (face_in w) cs
+pub others_with_pick : (p n : ℕ) (w : Row) (cs : List Cell) → p < length cs
+    → others_with (n + p) n w cs + face_in w (row_at cs p) ≡ sum_rows (face_in w) cs
 others_with_pick p n w [] h = absurd (not-suc-le-zero h)
 others_with_pick zero n w (c ∷ cs) h =
-    rw (add-zero n, eq-eqb n n refl) (omega (arith, others_with_past n (suc n) w cs (omega arith)))
+    rw (eq-eqb (n + 0) n (add-zero n)) (omega (arith, others_with_past (n + 0) (suc n) w cs (omega arith)))
 others_with_pick (suc p) n w (c ∷ cs) h =
-    rw (add-suc n p, ← suc-add n p, ne_eqb (suc n + p) n (λ e. omega arith)) (omega (arith, others_with_pick p (suc n) w cs (le_of_suc-le-suc h)))
+    let e : suc n + p ≡ n + suc p = omega arith in
+    let r : others_with (n + suc p) (suc n) w cs + face_in w (row_at cs p) ≡ sum_rows (face_in w) cs =
+    subst (λ (m : ℕ). others_with m (suc n) w cs + face_in w (row_at cs p) ≡ sum_rows (face_in w) cs) e
+    (others_with_pick p (suc n) w cs (le_of_suc-le-suc h)) in
+    rw (ne_eqb (n + suc p) n (λ e. omega arith)) (omega arith)
 
 pub others_with_ge : (p n q : ℕ) (w : Row) (cs : List Cell) → q < length cs → (p ≡ n + q → ⊥) → face_in w (row_at cs q) ≤ others_with p n w cs
 others_with_ge p n q w [] h k = absurd (not-suc-le-zero h)

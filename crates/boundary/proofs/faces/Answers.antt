@@ -12,7 +12,7 @@ use Rattle.rules.specs.Limits.{max_dimension}
 use Rattle.rules.proofs.InLimits.{Limits, limits_are}
 use Rattle.records.specs.Inner.Inside.{Table}
 use Rattle.records.specs.Layout.{faces_words}
-use Rattle.boundary.specs.Faces.{boundary_cells, faces_rules}
+use Rattle.boundary.specs.Faces.{faces_input, boundary_cells, faces_rules}
 use Rattle.boundary.specs.Inner.Walk.{table_faces}
 use Rattle.boundary.proofs.Order.{refuses, accepts}
 use Rattle.boundary.proofs.Sizes.{words_long}
@@ -32,18 +32,24 @@ table c =
 
 pub returns-then-not-within : goal.returns-then-not-within
 unfolding faces_rules
-returns-then-not-within c = refuses _ _ 2 cc
+returns-then-not-within c =
+    let r = refuses (faces_input c.args.d c.args.v c.args.s c.args.table.now (length c.args.out.now)) c.args.out.now 2 (cc) in
+    record { answer = r.0; buffer = r.1 }
 
 pub table_words-requires : goal.table_words-requires
 table_words-requires c = let l = limits c in (l.dimension, l.cells)
 
 pub returns-then-differ : goal.returns-then-differ
 unfolding faces_rules
-returns-then-differ c = refuses _ _ 3 cc
+returns-then-differ c =
+    let r = refuses (faces_input c.args.d c.args.v c.args.s c.args.table.now (length c.args.out.now)) c.args.out.now 3 (cc) in
+    record { answer = r.0; buffer = r.1 }
 
 pub returns-then-not-is_sound : goal.returns-then-not-is_sound
 unfolding faces_rules
-returns-then-not-is_sound c = refuses _ _ 14 cc
+returns-then-not-is_sound c =
+    let r = refuses (faces_input c.args.d c.args.v c.args.s c.args.table.now (length c.args.out.now)) c.args.out.now 14 (cc) in
+    record { answer = r.0; buffer = r.1 }
 
 pub count_faces-n-requires : goal.count_faces-n-requires
 count_faces-n-requires c = table (goal.at.count_faces-n-requires c).Else-differ
@@ -58,7 +64,9 @@ overflow_mul-n c =
 
 pub returns-then-less : goal.returns-then-less
 unfolding faces_rules boundary_cells
-returns-then-less c = refuses _ _ 15 cc
+returns-then-less c =
+    let r = refuses (faces_input c.args.d c.args.v c.args.s c.args.table.now (length c.args.out.now)) c.args.out.now 15 (cc) in
+    record { answer = r.0; buffer = r.1 }
 
 pub write_faces-requires : goal.write_faces-requires
 write_faces-requires c =
@@ -73,5 +81,7 @@ pub returns : goal.returns
 unfolding faces_rules boundary_cells
 returns c =
     let a = c.args in
-    accepts _ _ _ _ (cc) c.count_faces-n.ensures.count
-    (c.write_faces.ensures.content ∙ placed_first (faces_words (table_faces a.d a.s a.table.now)) a.out.now)
+    let i = faces_input a.d a.v a.s a.table.now (length a.out.now) in
+    let new = c.write_faces.ensures.content ∙ placed_first (faces_words (table_faces a.d a.s a.table.now)) a.out.now in
+    let r = accepts i a.out.now _ _ (cc) c.count_faces-n.ensures.count new in
+    record { answer = r.0; buffer = r.1 }

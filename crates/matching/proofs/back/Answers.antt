@@ -21,9 +21,9 @@ lower c = (walk_below (keys (goal.at.In-loop-f c).Start) _ _ c.loop-f.invariant 
 
 -- the comparison is that of the two keys
 compares : (c : After-same_key) →
-    c.same_key.result ≡ same_row (keys (start ((goal.at.After-same_key c).In-loop-f)) c.loop-f.f) (keys (start ((goal.at.After-same_key c).In-loop-f)) (start ((goal.at.After-same_key c).In-loop-f)).args.g)
+    c.same_key.result ≡ same_row (keys (goal.at.After-same_key c).Start c.loop-f.f) (keys (goal.at.After-same_key c).Start c.args.g)
 compares c =
-    let a = (start ((goal.at.After-same_key c).In-loop-f)).args in
+    let a = c.args in
     let x = (c.place_of-there) in
     let y = (c.place_of-here) in
     compared a.rows.now a.k _ a.first _ _ _ _ _ _ x.ensures.0 x.ensures.1 y.ensures.0 y.ensures.1 _ c.same_key.ensures
@@ -57,14 +57,20 @@ pub same_key-requires : goal.same_key-requires
 same_key-requires c = (
   c.requires.keyed.0.long,
   c.requires.keyed.0.vertices,
-  omega (arith, (div-lt_iff_lt-mul {y = 4096} c.requires.keyed.0.some).1 (lt_trans (lower (goal.at.same_key-requires c).In-loop-f) c.requires.keyed.2), c.place_of-there.ensures.0),
+  omega (
+    arith,
+    (div-lt_iff_lt-mul {y = 4096} c.requires.keyed.0.some).1
+        (lt_trans (lower (goal.at.same_key-requires c).In-loop-f) c.requires.keyed.2),
+    c.place_of-there.ensures.0,
+  ),
   omega (arith, (div-lt_iff_lt-mul {y = 4096} c.requires.keyed.0.some).1 c.requires.keyed.2, c.place_of-here.ensures.0),
 )
 
 pub returns-then-same_key : goal.returns-then-same_key
 unfolding earlier
 returns-then-same_key c =
-    λ h. sym (walk_found (keys (goal.at.returns-then-same_key c).Start) _ _ c.loop-f.invariant c.loop-f-test.true (sym (compares (goal.at.returns-then-same_key c).After-same_key) ∙ c.if-same_key.true))
+    λ h. sym (walk_found (keys (goal.at.returns-then-same_key c).Start) _ _ c.loop-f.invariant c.loop-f-test.true
+    (sym (compares (goal.at.returns-then-same_key c).After-same_key) ∙ c.if-same_key.true))
 
 pub offset_bounds-prev-x : goal.offset_bounds-prev-x
 offset_bounds-prev-x c = omega (arith, lower (goal.at.offset_bounds-prev-x c).In-loop-f)
@@ -76,12 +82,17 @@ pub loop-f-smaller : goal.loop-f-smaller
 loop-f-smaller c =
     let f = c.loop-f.f in
     let h = lower (goal.at.loop-f-smaller c).In-loop-f in
-    omega (arith, rank_under (bucket_at (keys (goal.at.loop-f-smaller c).Start)) _ f _ (omega arith) (c.requires.linked f (omega arith)), rank_is f (omega arith))
+    omega (
+      arith,
+      rank_under (bucket_at (keys (goal.at.loop-f-smaller c).Start)) _ f _ (omega arith) (c.requires.linked f (omega arith)),
+      rank_is f (omega arith),
+    )
 
 pub loop-f-preserved : goal.loop-f-preserved
 loop-f-preserved c =
     let h = lower (goal.at.loop-f-preserved c).In-loop-f in
-    walk_next (keys (goal.at.loop-f-preserved c).Start) _ _ _ (omega arith) c.loop-f.invariant c.loop-f-test.true (sym (compares (goal.at.loop-f-preserved c).After-same_key) ∙ c.if-same_key.false) (c.requires.linked _ (omega arith))
+    walk_next (keys (goal.at.loop-f-preserved c).Start) _ _ _ (omega arith) c.loop-f.invariant c.loop-f-test.true
+    (sym (compares (goal.at.loop-f-preserved c).After-same_key) ∙ c.if-same_key.false) (c.requires.linked _ (omega arith))
 
 pub returns : goal.returns
 unfolding earlier

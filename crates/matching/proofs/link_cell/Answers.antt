@@ -1,6 +1,6 @@
 -- The goals that the search leaves. Assumes nothing.
 use mathlib.Core.Path.{◌≡◌, refl, subst, ◌∙◌}
-use Prim.Native.Nat.{ℕ, ◌+◌, ◌-◌, ◌*◌, ◌<◌}
+use Prim.Native.Nat.{ℕ, ◌+◌, ◌*◌, ◌<◌}
 use native.Mathlib.Nat.{add-zero, add_assoc}
 use native.Mathlib.Omega.{arith}
 use lib.ListN.{get_or, set}
@@ -26,7 +26,7 @@ bucket-b-requires c =
     let w = c.weigh-weighed in (
       c.requires.keyed.0.vertices,
       term-within a.rows.now a.p a.k (a.first + c.loop-i.i) w.result.sum w.result.each c.requires.keyed.0.vertices
-          w.ensures.1 w.ensures.0,
+          w.ensures.sum w.ensures.terms,
     )
 
 pub overflow_mul-g : goal.overflow_mul-g
@@ -57,7 +57,7 @@ loop-i-preserved c =
           (in_table (goal.at.loop-i-preserved c).In-loop-i) (omega arith)
           (bucket_is a.p _ _ c.loop-i-test.true a.rows.now a.k a.first _
           (b.ensures.0 ∙ bucket_of_lem a.rows.now a.p a.k (a.first + l.i) w.result.sum w.result.each c.requires.keyed.0.vertices
-          w.ensures.1 w.ensures.0)) b.ensures.1
+          w.ensures.sum w.ensures.terms)) b.ensures.1
           l.invariant.1),
       behind-set (a.p * a.w + a.w) l.prev a.prev.now (a.p * a.w + l.i) (get_or l.head b.result 0) (omega arith) l.invariant.2,
     )

@@ -1,6 +1,6 @@
 -- The goals that the search leaves. Assumes nothing.
 use mathlib.Core.Path.{sym, subst, ◌∙◌}
-use Prim.Native.Nat.{ℕ, ◌-◌, ◌<◌}
+use Prim.Native.Nat.{ℕ, ◌<◌}
 use native.Mathlib.Nat.{not-suc-le-zero}
 use native.Mathlib.Omega.{arith}
 use borrow.Author.Count.{below_more}
@@ -12,12 +12,12 @@ use Rattle.matching.proofs.same_key.Goals.{After-stands, After-stands-in-loop-j}
 stood : (c : After-stands) → c.stands.result < 8
 stood c =
     let l = c.loop-j in
-    subst (λ (x : ℕ). x < 8) (sym c.stands.ensures) (stands_below _ _ l.j (start ((goal.at.After-stands c).At-loop-j)).requires.1 (omega (arith, l.invariant.0)))
+    subst (λ (x : ℕ). x < 8) (sym c.stands.ensures) (stands_below _ _ l.j c.requires.1 (omega (arith, l.invariant.0)))
 
 stood-2 : (c : After-stands-in-loop-j) → c.stands-in-loop-j.result < 8
 stood-2 c =
     let l = c.loop-j in
-    subst (λ (x : ℕ). x < 8) (sym c.stands-in-loop-j.ensures) (stands_below _ _ l.j (start ((goal.at.After-stands-in-loop-j c).At-loop-j)).requires.1 (omega (arith, l.invariant.1)))
+    subst (λ (x : ℕ). x < 8) (sym c.stands-in-loop-j.ensures) (stands_below _ _ l.j c.requires.1 (omega (arith, l.invariant.1)))
 
 pub returns-then-kept-m : goal.returns-then-kept-m
 returns-then-kept-m c =
@@ -54,19 +54,17 @@ bounds-rows-q c = omega (arith, stood-2 c)
 
 pub returns-then-rows-p : goal.returns-then-rows-p
 returns-then-rows-p c =
-    let s = start ((goal.at.returns-then-rows-p c).At-loop-j) in
     let l = c.loop-j in
-    sym (vertex_differs _ _ _ _ _ _ s.requires.0 s.requires.1 s.requires.2 s.requires.3 _ l.invariant.0 l.invariant.1 _ _ _ (omega arith)
+    sym (vertex_differs _ _ _ _ _ _ c.requires.0 c.requires.1 c.requires.2 c.requires.3 _ l.invariant.0 l.invariant.1 _ _ _ (omega arith)
     c.stands.ensures c.stands-in-loop-j.ensures c.if-rows-p.true)
 
 pub loop-j-preserved : goal.loop-j-preserved
 loop-j-preserved c =
-    let s = start ((goal.at.loop-j-preserved c).At-loop-j) in
     let l = c.loop-j in (
       l.invariant.0,
       l.invariant.1,
       omega arith,
-      below_more _ _ l.invariant.3 (vertex-same _ _ _ _ _ _ s.requires.0 s.requires.1 s.requires.2 s.requires.3 _ l.invariant.0 l.invariant.1 _ _ _
+      below_more _ _ l.invariant.3 (vertex-same _ _ _ _ _ _ c.requires.0 c.requires.1 c.requires.2 c.requires.3 _ l.invariant.0 l.invariant.1 _ _ _
           (omega arith) c.stands.ensures c.stands-in-loop-j.ensures c.if-rows-p.false),
     )
 

@@ -17,7 +17,10 @@ loop-g-init c = (omega arith, c.requires.keyed.3, c.requires.linked, (λ f h t. 
 
 pub back-found-requires : goal.back-found-requires
 back-found-requires c =
-    ((c.requires.keyed.0, c.requires.keyed.1, omega arith), (λ f b. c.loop-g.invariant.2 f (omega arith)))
+    record {
+      keyed = (c.requires.keyed.0, c.requires.keyed.1, omega arith);
+      linked = (λ f b. c.loop-g.invariant.2 f (omega arith));
+    }
 
 pub returns-then-left-eq0 : goal.returns-then-left-eq0
 returns-then-left-eq0 c =
@@ -41,7 +44,7 @@ loop-g-preserved c =
       length-set l.prev (l.g - 1) _ ∙ l.invariant.1,
       linked_below (bucket_at (key_row _ a.k _ _)) l.prev (l.g - 1) _ (λ f b. l.invariant.2 f (omega arith)),
       answered_more (earlier _ a.k a.w _) l.prev a.n (l.g - 1) _ (omega (arith, l.invariant.1))
-          (c.back-found.ensures (omega (arith, c.if-left-eq0.false))) (λ f h t. l.invariant.3 f (omega arith) (goal.at.loop-g-preserved c).At-loop-g),
+          (c.back-found.ensures (omega (arith, c.if-left-eq0.false))) (λ f h t. l.invariant.3 f (omega arith) t),
       behind-set a.n l.prev a.prev.now (l.g - 1) _ (omega arith) l.invariant.4,
     )
 

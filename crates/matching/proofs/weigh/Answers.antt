@@ -1,12 +1,12 @@
 -- The goals that the search leaves. Assumes nothing.
-use mathlib.Core.Logic.{⊎_elim}
 use mathlib.Core.Path.{refl}
-use Prim.Native.Nat.{ℕ, ◌-◌}
+use Prim.Native.Nat.{ℕ}
 use native.Mathlib.Nat.{not-suc-le-zero}
 use native.Mathlib.Omega.{arith}
 use lib.ListN.{length-replicate}
 use Rattle.matching.proofs.Weights.{weighed_all, weighed_more, weighed_no_more}
 use Rattle.matching.proofs.weigh.Goals as goal
+use Rattle.matching.proofs.weigh.Goals.{then-j-k, else-j-k}
 
 pub loop-j-init : goal.loop-j-init
 loop-j-init c =
@@ -22,22 +22,23 @@ pub loop-j-preserved : goal.loop-j-preserved
 loop-j-preserved c =
     let l = c.loop-j in
     let a = (c.args) in
-    ⊎_elim
-    (λ w. (
-      omega arith,
-      rw (w.4, w.3)
-          (weighed_more a.rows.now a.p _ l.j _ l.terms (omega arith) (omega arith) l.invariant.1 _ w.0.true w.2.ensures.0),
-      omega (arith, w.4),
-    ))
-    (λ w. (
-      omega arith,
-      rw (w.2, w.1) (weighed_no_more a.rows.now a.p _ l.j _ l.terms (omega arith) (omega arith) l.invariant.1 w.0.left),
-      omega (arith, w.2),
-    ))
-    c.if-j-k.branch
+    elim c.if-j-k.branch [
+      | then-j-k w ↦ (
+        omega arith,
+        rw (w.sum-is, w.terms-is)
+            (weighed_more a.rows.now a.p _ l.j _ l.terms (omega arith) (omega arith) l.invariant.1 _ w.if-j-k.true w.term-t.ensures.0),
+        omega (arith, w.sum-is),
+      )
+      | else-j-k w ↦ (
+        omega arith,
+        rw (w.sum-is, w.terms-is) (weighed_no_more a.rows.now a.p _ l.j _ l.terms (omega arith) (omega arith) l.invariant.1 w.if-j-k.false),
+        omega (arith, w.sum-is),
+      )
+    ]
 
 pub returns : goal.returns
 returns c =
     let l = c.loop-j in
     let a = (c.args) in
-    weighed_all a.rows.now a.p _ l.j _ _ (omega arith) l.invariant.1
+    let all = weighed_all a.rows.now a.p a.k l.j l.sum l.terms (omega arith) l.invariant.1 in
+    record { terms = all.0; sum = all.1 }

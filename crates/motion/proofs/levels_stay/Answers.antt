@@ -18,4 +18,4 @@ pub returns : goal.returns
 returns c =
     let a = c.args in
     let ranged = and_parts (all_of in_range (step_floats a.step)) (all_of in_range a.points.now) (not-false _ c.requires.points_value) in
-    c.All-stay.ensures ∙ sym (levels_stay_lem a.step a.n a.v a.h a.points.now (eqb-true _ _ (not-false _ c.requires.n_bound.1)) ranged.1)
+    c.all_stay.ensures ∙ sym (levels_stay_lem a.step a.n a.v a.h a.points.now (eqb-true _ _ (not-false _ c.requires.n_bound.1)) ranged.1)

@@ -1,28 +1,26 @@
 -- `read_cells` answers `read_outcome`, and leaves the buffer as `read_cells` says: what read's rules refuse it refuses, and the rest
 -- it writes. Assumes nothing.
-use mathlib.Core.Path.{◌≡◌, sym, ap, ◌∙◌}
+use mathlib.Core.Path.{◌≡◌}
 use lib.ListN.{length}
 use Rattle.rules.specs.Calls.{first_refusal}
-use Rattle.rules.specs.Numbers.{verdict_of}
 use Rattle.read.specs.Read.{ReadInput, read_input, read_rules}
 use Rattle.read.proofs.Order.{Passed, passed, refuses, accepts}
 use Rattle.read.proofs.read_cells.Goals as goal
-use Rattle.read.proofs.read_cells.Goals.{In_default}
+use Rattle.read.proofs.read_cells.Goals.{In_default, Start}
 
-abbrev input : In_default → ReadInput
-input c =
-    read_input c.args.bytes.now (length c.args.cells.now) c.args.space
+abbrev input : Start → ReadInput
+input c = read_input c.args.bytes.now (length c.args.cells.now) c.args.space
 
-none : (c : In_default) → 0 ≡ first_refusal read_rules (input c)
-none c = sym (ap verdict_of c.enum_told-1.given.1) ∙ c.first_refusal-verdict.ensures
+none : (c : In_default) → 0 ≡ first_refusal read_rules (input (goal.at.In_default c).Start)
+none c = c.in_default.ensures
 
-fine : (c : In_default) → Passed (input c)
-fine c = passed (input c) (none c)
+fine : (c : In_default) → Passed (input (goal.at.In_default c).Start)
+fine c = passed (input (goal.at.In_default c).Start) (none c)
 
 pub returns-in-Refuse : goal.returns-in-Refuse
 returns-in-Refuse c =
-    let v = c.verdict-1.given in
-    refuses _ _ v.0.0 (sym (ap verdict_of v.1) ∙ c.first_refusal-verdict.ensures)
+    let r = refuses (input (goal.at.returns-in-Refuse c).Start) c.args.cells.now c.in-Refuse.why c.in-Refuse.ensures in
+    record { answer = r.0; cells = r.1 }
 
 pub write_cells-requires : goal.write_cells-requires
 write_cells-requires c = let f = fine (goal.at.write_cells-requires c).In_default in (f.whole, f.cells)
@@ -32,4 +30,6 @@ header_of-requires c = let f = fine (goal.at.header_of-requires c).In_default in
 
 pub returns : goal.returns
 returns c =
-    accepts _ _ _ _ (none (goal.at.returns c).In_default) c.header_of.ensures c.write_cells.ensures
+    let k = goal.at.returns c in
+    let r = accepts (input k.Start) c.args.cells.now c.header_of.result _ (none k.In_default) c.header_of.ensures c.write_cells.ensures in
+    record { answer = r.0; cells = r.1 }

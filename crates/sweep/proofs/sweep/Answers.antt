@@ -20,7 +20,8 @@ use Rattle.sweep.specs.Sweep.{sweep_input, swept_length, sweep_rules}
 use Rattle.sweep.proofs.Order.{refuses, accepts, small}
 use Rattle.sweep.proofs.CallWords.{call_words, call_long}
 use Rattle.sweep.proofs.sweep.Goals as goal
-use Rattle.sweep.proofs.sweep.Goals.{After-differ, After-in_limits, After-is_sound, After-less, After-too_large, Else-differ, Else-less, Else-not-in_limits, Else-not-is_sound, Else-too_large}
+use Rattle.sweep.proofs.sweep.Goals.{After-differ, After-in_limits, After-is_sound, After-less, After-too_large, Else-differ, Else-less}
+use Rattle.sweep.proofs.sweep.Goals.{Else-not-in_limits, Else-not-is_sound, Else-too_large}
 
 -- the rows are what the code tests
 two : (c : After-in_limits) → let a = c.args in
@@ -49,7 +50,7 @@ fifteen c =
 
 -- and where they pass
 two-passes : (c : Else-not-in_limits) → let a = c.args in not (shape_ok max_source a.d a.v a.s && steps_ok a.h) ≡ false
-two-passes c = two (goal.at.Else-not-in_limits c).After-in_limits ∙ c.if-not-in_limits.false
+two-passes c = two (goal.at.Else-not-in_limits c).After-in_limits ∙ ap not c.if-not-in_limits.false
 
 three-passes : (c : Else-differ) → let a = c.args in not (eqb (length a.table.now) (table_length a.d a.s)) ≡ false
 three-passes c = three (goal.at.Else-differ c).After-differ ∙ c.if-differ.false
@@ -59,7 +60,7 @@ twelve-passes : (c : Else-too_large) → let a = c.args in
 twelve-passes c = twelve (goal.at.Else-too_large c).After-too_large ∙ c.if-too_large.false
 
 fourteen-passes : (c : Else-not-is_sound) → let a = c.args in not (sound a.d a.v a.s a.table.now) ≡ false
-fourteen-passes c = fourteen (goal.at.Else-not-is_sound c).After-is_sound ∙ c.if-not-is_sound.false
+fourteen-passes c = fourteen (goal.at.Else-not-is_sound c).After-is_sound ∙ ap not c.if-not-is_sound.false
 
 fifteen-passes : (c : Else-less) → let a = c.args in
     ltb (length a.out.now) (swept_length (sweep_input a.d a.v a.s a.h a.table.now 0)) ≡ false
@@ -77,27 +78,64 @@ ready c =
 
 pub returns-then-not-in_limits : goal.returns-then-not-in_limits
 unfolding sweep_rules
-returns-then-not-in_limits c = refuses _ _ 2 (rw (two (goal.at.returns-then-not-in_limits c).After-in_limits ∙ c.if-not-in_limits.true) refl)
+returns-then-not-in_limits c =
+    let a = c.args in
+    let r = refuses (sweep_input a.d a.v a.s a.h a.table.now (length a.out.now)) a.out.now 2
+    (rw (two (goal.at.returns-then-not-in_limits c).After-in_limits ∙ ap not c.if-not-in_limits.true) refl) in
+    record {
+      answer = r.0;
+      buffer = r.1;
+    }
 
 pub table_words-requires : goal.table_words-requires
 table_words-requires c = let l = limits c in (omega arith, l.cells)
 
 pub returns-then-differ : goal.returns-then-differ
 unfolding sweep_rules
-returns-then-differ c = refuses _ _ 3 (rw (two-passes (goal.at.returns-then-differ c).Else-not-in_limits, three (goal.at.returns-then-differ c).After-differ ∙ c.if-differ.true) refl)
+returns-then-differ c =
+    let a = c.args in
+    let r = refuses (sweep_input a.d a.v a.s a.h a.table.now (length a.out.now)) a.out.now 3
+    (rw (two-passes (goal.at.returns-then-differ c).Else-not-in_limits, three (goal.at.returns-then-differ c).After-differ ∙ c.if-differ.true)
+    refl) in
+    record {
+      answer = r.0;
+      buffer = r.1;
+    }
 
 pub too_large-requires : goal.too_large-requires
 too_large-requires c = two-passes (goal.at.too_large-requires c).Else-not-in_limits
 
 pub returns-then-too_large : goal.returns-then-too_large
 unfolding sweep_rules
-returns-then-too_large c = refuses _ _ 12 (rw (two-passes (goal.at.returns-then-too_large c).Else-not-in_limits, three-passes (goal.at.returns-then-too_large c).Else-differ, twelve (goal.at.returns-then-too_large c).After-too_large ∙ c.if-too_large.true) refl)
+returns-then-too_large c =
+    let a = c.args in
+    let r = refuses (sweep_input a.d a.v a.s a.h a.table.now (length a.out.now)) a.out.now 12
+    (rw (
+      two-passes (goal.at.returns-then-too_large c).Else-not-in_limits,
+      three-passes (goal.at.returns-then-too_large c).Else-differ,
+      twelve (goal.at.returns-then-too_large c).After-too_large ∙ c.if-too_large.true,
+    ) refl) in
+    record {
+      answer = r.0;
+      buffer = r.1;
+    }
 
 pub returns-then-not-is_sound : goal.returns-then-not-is_sound
 unfolding sweep_rules
 returns-then-not-is_sound c =
-    refuses _ _ 14
-    (rw (two-passes (goal.at.returns-then-not-is_sound c).Else-not-in_limits, three-passes (goal.at.returns-then-not-is_sound c).Else-differ, twelve-passes (goal.at.returns-then-not-is_sound c).Else-too_large, fourteen (goal.at.returns-then-not-is_sound c).After-is_sound ∙ c.if-not-is_sound.true) refl)
+    let a = c.args in
+    let r = refuses (sweep_input a.d a.v a.s a.h a.table.now (length a.out.now)) a.out.now 14
+    (rw (
+      two-passes (goal.at.returns-then-not-is_sound c).Else-not-in_limits,
+      three-passes (goal.at.returns-then-not-is_sound c).Else-differ,
+      twelve-passes (goal.at.returns-then-not-is_sound c).Else-too_large,
+      fourteen (goal.at.returns-then-not-is_sound c).After-is_sound
+          ∙ ap not c.if-not-is_sound.true,
+    ) refl) in
+    record {
+      answer = r.0;
+      buffer = r.1;
+    }
 
 pub swept_words-requires : goal.swept_words-requires
 swept_words-requires c = let l = limits (goal.at.swept_words-requires c).Else-not-in_limits in (l.dimension, l.cells, l.steps, (ready c).cells)
@@ -105,13 +143,18 @@ swept_words-requires c = let l = limits (goal.at.swept_words-requires c).Else-no
 pub returns-then-less : goal.returns-then-less
 unfolding sweep_rules
 returns-then-less c =
-    refuses _ _ 15 (rw (
+    let a = c.args in
+    let r = refuses (sweep_input a.d a.v a.s a.h a.table.now (length a.out.now)) a.out.now 15 (rw (
       two-passes (goal.at.returns-then-less c).Else-not-in_limits,
       three-passes (goal.at.returns-then-less c).Else-differ,
       twelve-passes (goal.at.returns-then-less c).Else-too_large,
       fourteen-passes (goal.at.returns-then-less c).Else-not-is_sound,
       fifteen (goal.at.returns-then-less c).After-less ∙ c.if-less.true,
-    ) refl)
+    ) refl) in
+    record {
+      answer = r.0;
+      buffer = r.1;
+    }
 
 pub write_swept-requires : goal.write_swept-requires
 write_swept-requires c =
@@ -128,7 +171,7 @@ unfolding sweep_rules
 returns c =
     let a = c.args in
     let words = call_words a.d a.v a.s a.h a.table.now (length a.out.now) in
-    accepts _ _ _ _ (rw (
+    let r = accepts (sweep_input a.d a.v a.s a.h a.table.now (length a.out.now)) a.out.now c.write_swept.result c.write_swept.new.out (rw (
       two-passes (goal.at.returns c).Else-not-in_limits,
       three-passes (goal.at.returns c).Else-differ,
       twelve-passes (goal.at.returns c).Else-too_large,
@@ -136,4 +179,8 @@ returns c =
       fifteen-passes (goal.at.returns c).Else-less,
     ) refl) (c.write_swept.ensures.place ∙ call_long a.d a.v a.s a.h a.table.now (ready (goal.at.returns c).Else-not-is_sound).long 0)
     (c.write_swept.ensures.words ∙ placed_first (all_words a.d a.v a.s a.h a.table.now) a.out.now
-    ∙ ap (λ (l : List ℕ). l ++ drop (length l) a.out.now) (sym words))
+    ∙ ap (λ (l : List ℕ). l ++ drop (length l) a.out.now) (sym words)) in
+    record {
+      answer = r.0;
+      buffer = r.1;
+    }

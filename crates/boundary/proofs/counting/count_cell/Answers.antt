@@ -1,11 +1,11 @@
 -- The goals that the search leaves. Assumes nothing.
 use mathlib.Core.Path.{ap}
-use mathlib.Core.Logic.{⊎_elim}
 use Prim.Native.Nat.{◌-◌}
 use native.Mathlib.Omega.{arith}
 use lib.ListN.{length}
 use Rattle.boundary.proofs.Walking.{from_next, from_here, from_skip}
 use Rattle.boundary.proofs.counting.count_cell.Goals as goal
+use Rattle.boundary.proofs.counting.count_cell.Goals.{then-on_boundary, else-on_boundary}
 
 pub loop-a-init : goal.loop-a-init
 loop-a-init c = omega arith
@@ -13,12 +13,12 @@ loop-a-init c = omega arith
 pub loop-a-preserved : goal.loop-a-preserved
 loop-a-preserved c =
     let a = c.args in
-    ⊎_elim
-    (λ w.
-    omega (arith, ap length (from_here a.d a.s a.table.now c.requires.long a.p c.loop-a.a c.requires.number (omega arith) (cc))))
-    (λ w.
-    omega (arith, ap length (from_skip a.d a.s a.table.now c.requires.long a.p c.loop-a.a c.requires.number (omega arith) (cc))))
-    c.if-on_boundary.branch
+    elim c.if-on_boundary.branch [
+      | then-on_boundary w ↦
+          omega (arith, ap length (from_here a.d a.s a.table.now c.requires.long a.p c.loop-a.a c.requires.number (omega arith) (cc)))
+      | else-on_boundary w ↦
+          omega (arith, ap length (from_skip a.d a.s a.table.now c.requires.long a.p c.loop-a.a c.requires.number (omega arith) (cc)))
+    ]
 
 pub returns : goal.returns
 returns c =

@@ -30,7 +30,7 @@ try_table-requires c =
     let l = limits (goal.at.try_table-requires c).Start in
     let b = c.requires.lent.1 in record {
       le_d = (c.requires.lent.0.some, l.dimension, l.cells, long (goal.at.try_table-requires c).After-decode, c.requires.list_len.1);
-      d_in_bounds = (b.hash-room, b.next-room, b.heads, b.few-heads);
+      d_in_bounds = (b.hash_room, b.next_room, b.heads, b.few-heads);
       by_index = b.blank;
     }
 
@@ -44,11 +44,9 @@ uploaded_bytes-requires c =
 
 pub returns-then-try_table : goal.returns-then-try_table
 returns-then-try_table c =
-    let t = tried ((goal.at.returns-then-try_table c).Then-try_table) in
-    let s = start ((goal.at.returns-then-try_table c).After-decode) in
-    let a = s.args in
-    let made = t.try-table.ensures.0 c.if-try_table.true in
-    direct_writes a.d a.v a.s a.cells.now a.table.now a.uploaded.now _ _ _ _ s.requires.0.0.size (whole (goal.at.returns-then-try_table c).After-decode)
+    let a = c.args in
+    let made = c.try_table.ensures.made c.if-try_table.true in
+    direct_writes a.d a.v a.s a.cells.now a.table.now a.uploaded.now _ _ _ _ c.requires.lent.0.size (whole (goal.at.returns-then-try_table c).After-decode)
     made.0 made.1 c.encode.ensures c.uploaded_bytes.ensures
 
 pub returns : goal.returns

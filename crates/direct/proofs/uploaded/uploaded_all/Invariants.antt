@@ -9,7 +9,7 @@ use Rattle.direct.proofs.uploaded.uploaded_all.Given as goal
 
 abbrev pub invariant-loop-p : goal.invariant-loop-p
 invariant-loop-p l =
-    let all = tabulate l.s (λ l.p. bytes_of (uploaded_row l.d l.cells l.table l.p)) in
+    let all = tabulate l.s (λ p. bytes_of (uploaded_row l.d l.cells l.table p)) in
     Left 0 (concat all) l.initial.out l.next (concat (drop l.p all)) l.out
 
 abbrev pub decreases-loop-p : goal.decreases-loop-p

@@ -2,7 +2,7 @@
 use mathlib.Core.Path.{refl}
 use mathlib.Core.Bool.{Bool, not, ◌||◌}
 use mathlib.Core.List.{List}
-use Prim.Native.Nat.{ℕ, ◌-◌}
+use Prim.Native.Nat.{ℕ}
 use native.Mathlib.Omega.{arith}
 use lib.Dec.{eqb}
 use borrow.Author.Rules.{rules}
@@ -34,4 +34,5 @@ loop-p-preserved c =
     )
 
 pub returns : goal.returns
-returns c = any_ends no_sign 0 (sign_bytes (bytes (goal.at.returns c).At-loop-p)) _ c.loop-p.p (signs-length (bytes (goal.at.returns c).At-loop-p)) (omega arith) _ c.loop-p.invariant.1
+returns c = any_ends no_sign 0 (sign_bytes (bytes (goal.at.returns c).At-loop-p)) _ c.loop-p.p (signs-length (bytes (goal.at.returns c).At-loop-p))
+    (omega arith) _ c.loop-p.invariant.1

@@ -1,6 +1,6 @@
 -- The goals that the search leaves. Assumes nothing.
 use mathlib.Core.Path.{◌≡◌, sym, ap, ap₂, ◌∙◌}
-use Prim.Native.Nat.{suc, ◌≤◌, ◌<◌, ◌-◌, ◌+◌}
+use Prim.Native.Nat.{suc, ◌≤◌, ◌<◌, ◌+◌}
 use native.Mathlib.Numerals.{add-one}
 use native.Mathlib.Omega.{arith}
 use lib.ListN.{length}
@@ -54,34 +54,41 @@ loop-p-init c =
     )
 
 pub write_cell-requires : goal.write_cell-requires
-write_cell-requires c =
-    (omega (arith, (room (goal.at.write_cell-requires c).In-loop-p).0, ap cell_head (version-is (goal.at.write_cell-requires c).At-loop-p), dimension-is (goal.at.write_cell-requires c).At-loop-p), omega (arith, (room (goal.at.write_cell-requires c).In-loop-p).1, dimension-is (goal.at.write_cell-requires c).At-loop-p))
+write_cell-requires c = (
+  omega (
+    arith,
+    (room (goal.at.write_cell-requires c).In-loop-p).0,
+    ap cell_head (version-is (goal.at.write_cell-requires c).At-loop-p),
+    dimension-is (goal.at.write_cell-requires c).At-loop-p,
+  ),
+  omega (arith, (room (goal.at.write_cell-requires c).In-loop-p).1, dimension-is (goal.at.write_cell-requires c).At-loop-p),
+)
 
 pub overflow_add-at : goal.overflow_add-at
 overflow_add-at c =
-    record { fits = omega (arith, (room (goal.at.overflow_add-at c).In-loop-p).0, bytes-are (goal.at.overflow_add-at c).At-loop-p, c.good) }
+    record { fits = omega (arith, (room (goal.at.overflow_add-at c).In-loop-p).0, bytes-are (goal.at.overflow_add-at c).At-loop-p) }
 
 pub overflow_add-to : goal.overflow_add-to
 overflow_add-to c =
-    record { fits = omega (arith, (room (goal.at.overflow_add-to c).In-loop-p).1, words_are (goal.at.overflow_add-to c).At-loop-p, c.good.1.0.0) }
+    record { fits = omega (arith, (room (goal.at.overflow_add-to c).In-loop-p).1, words_are (goal.at.overflow_add-to c).At-loop-p) }
 
 pub loop-p-preserved : goal.loop-p-preserved
 loop-p-preserved c =
-    let l = c.before in
+    let l = (goal.at.loop-p-preserved c).At-loop-p in
     let b = c.args.b.now in
-    let p = l.loop.p in
+    let p = c.loop-p.p in
     let here : p < length (file_cells b) = omega (arith, cells-length b) in
     let m = c.dimension-d.result + 1 in
     let count : m ≡ suc (dimension_of b) = add-one _ ∙ ap suc (dimension-is l) in (
       omega arith,
-      omega (arith, l.loop.invariant.1, bytes-are l, cell_next b p),
-      left_item cell_words no_cell (file_cells b) p here l.loop.invariant.2 _ c.write_cell.new.out
+      omega (arith, c.loop-p.invariant.1, bytes-are l, cell_next b p),
+      left_item cell_words no_cell (file_cells b) p here c.loop-p.invariant.2 _ c.write_cell.new.out
           (record {
             place = omega (arith, one-length b c.requires.0 p (omega arith), words_are l);
             content = c.write_cell.ensures
-                ∙ ap (λ xs. placed l.loop.to xs l.loop.out)
-                (ap (λ k. cell_words_from k b l.loop.at m) (version-is l)
-                ∙ words_at b c.requires.0 p (omega arith) m count l.loop.at l.loop.invariant.1
+                ∙ ap (λ xs. placed c.loop-p.to xs c.loop-p.out)
+                (ap (λ k. cell_words_from k b c.loop-p.at m) (version-is l)
+                ∙ words_at b c.requires.0 p (omega arith) m count c.loop-p.at c.loop-p.invariant.1
                 ∙ ap cell_words (sym (file_cell_lem b c.requires.0 p (omega arith))));
           }),
     )

@@ -1,7 +1,7 @@
 -- The goals that the search leaves. Assumes nothing.
 use mathlib.Core.Path.{refl}
 use mathlib.Core.List.{List}
-use Prim.Native.Nat.{ℕ, ◌-◌}
+use Prim.Native.Nat.{ℕ}
 use native.Mathlib.Omega.{arith}
 use lib.Ieee.{nan}
 use borrow.Author.Rules.{rules}
@@ -32,4 +32,5 @@ returns-else-in_range c =
 
 pub returns : goal.returns
 returns c =
-    all_ends in_range nan (file_points (bytes (goal.at.returns c).At-loop-k)) _ c.loop-k.k (points-length (bytes (goal.at.returns c).At-loop-k)) (omega arith) _ c.loop-k.invariant.1
+    all_ends in_range nan (file_points (bytes (goal.at.returns c).At-loop-k)) _ c.loop-k.k (points-length (bytes (goal.at.returns c).At-loop-k))
+    (omega arith) _ c.loop-k.invariant.1

@@ -23,4 +23,4 @@ returns c =
     let all : c.cells_start-start.result + c.cell_count-count.result * c.cell_size-size.result ≡ file_length b =
     ap₂ ◌+◌ c.cells_start-start.ensures.0 (ap₂ ◌*◌ c.cell_count-count.ensures.0 (c.cell_size-size.ensures.0
     ∙ ap₂ cell_bytes c.version.ensures.0 c.dimension.ensures.0)) in
-    ap (λ n. not (eqb (length b) (goal.at.returns c).After-cell_count-count)) all
+    ap (λ n. not (eqb (length b) n)) all

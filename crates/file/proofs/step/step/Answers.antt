@@ -27,15 +27,16 @@ float_at-first-requires c = (omega (arith, c.requires.0), amount (goal.at.float_
 pub returns-then-kind-eq1 : goal.returns-then-kind-eq1
 returns-then-kind-eq1 c =
     let slide = slide_of c.args.b.now (sym c.byte_at-kind.ensures.0 ∙ c.if-kind-eq1.true) in
-    rw (c.byte_at-axis.ensures.0, c.Float-at.ensures) (sym slide)
+    rw (c.byte_at-axis.ensures.0, c.float_at-first.ensures) (sym slide)
 
 pub float_at-second-requires : goal.float_at-second-requires
 float_at-second-requires c = (omega (arith, c.requires.0), amount (goal.at.float_at-second-requires c).Start 1 (omega arith))
 
 pub returns-then-kind-eq2 : goal.returns-then-kind-eq2
 returns-then-kind-eq2 c =
-    let slant = slant_of c.args.b.now (not-slide (goal.at.returns-then-kind-eq2 c).Else-kind-eq1) (sym c.byte_at-kind.ensures.0 ∙ c.if-kind-eq2.true) in
-    rw (c.byte_at-axis.ensures.0, c.Float-at.ensures, c.byte_at.ensures.0, c.float_at-second.ensures) (sym slant)
+    let slant = slant_of c.args.b.now (not-slide (goal.at.returns-then-kind-eq2 c).Else-kind-eq1) (sym c.byte_at-kind.ensures.0 ∙ c.if-kind-eq2.true)
+    in
+    rw (c.byte_at-axis.ensures.0, c.float_at-first.ensures, c.byte_at.ensures.0, c.float_at-second.ensures) (sym slant)
 
 pub float_at-requires : goal.float_at-requires
 float_at-requires c = (omega (arith, c.requires.0), amount (goal.at.float_at-requires c).Start 2 (omega arith))
@@ -43,4 +44,4 @@ float_at-requires c = (omega (arith, c.requires.0), amount (goal.at.float_at-req
 pub returns : goal.returns
 returns c =
     let turn = turn_of_lem c.args.b.now (not-slide (goal.at.returns c).Else-kind-eq1) (λ e. c.if-kind-eq2.false (c.byte_at-kind.ensures.0 ∙ e)) in
-    rw (c.Float-at.ensures, c.float_at-second.ensures, c.float_at.ensures) (sym turn)
+    rw (c.float_at-first.ensures, c.float_at-second.ensures, c.float_at.ensures) (sym turn)

@@ -10,5 +10,5 @@ returns c =
       same = cells-still a.d a.s _ _ _ c.set_wing.ensures.cells c.set_wing-2.ensures.cells;
       there = c.set_wing-2.ensures.others a.q a.b c.requires.0.number c.requires.2 c.requires.5 ∙ c.set_wing.ensures.here;
       back = c.set_wing-2.ensures.here;
-      rest = λ i j hi hj (goal.at.returns c).After-set_wing two. c.set_wing-2.ensures.others i j hi hj (goal.at.returns c).After-set_wing-2 ∙ c.set_wing.ensures.others i j hi hj (goal.at.returns c).After-set_wing;
+      rest = λ i j hi hj one two. c.set_wing-2.ensures.others i j hi hj two ∙ c.set_wing.ensures.others i j hi hj one;
     }

@@ -1,14 +1,13 @@
 -- The goals that the search leaves. Assumes nothing.
 use mathlib.Core.Path.{◌≡◌, sym, subst, subst⁻¹, ◌∙◌}
-use mathlib.Core.Logic.{⊎_elim}
 use mathlib.Core.List.{List}
-use Prim.Native.Nat.{ℕ, ◌+◌, ◌-◌, ◌≤◌, ◌<◌}
+use Prim.Native.Nat.{ℕ, ◌+◌, ◌≤◌, ◌<◌}
 use native.Mathlib.Omega.{arith}
 use lib.ListN.{length-replicate, get_or-replicate}
 use Rattle.matching.specs.Inner.Classes.{key_digit, Parted, Seen}
 use Rattle.matching.proofs.Refining.{refine_start, refine_none, chain_start, chain, refine_more}
 use Rattle.matching.proofs.classes.refine.Goals as goal
-use Rattle.matching.proofs.classes.refine.Goals.{In-loop-c, Start}
+use Rattle.matching.proofs.classes.refine.Goals.{In-loop-c, Start, then-wide-c, else-wide-c}
 
 few : (s : Start) → s.args.n ≤ 32768
 few s = omega (arith, s.requires.worded.1, s.requires.worded.0.keyed.most)
@@ -42,9 +41,11 @@ part_class-requires c =
         c.requires.worded.0,
         c.requires.worded.1,
         c.loop-c-test.true,
-        chain_start a.n a.class.now (digits (goal.at.part_class-requires c).Start) (few (goal.at.part_class-requires c).Start) c.requires.worded.2 l.class l.c c.loop-c-test.true l.invariant.1 is,
+        chain_start a.n a.class.now (digits (goal.at.part_class-requires c).Start) (few (goal.at.part_class-requires c).Start) c.requires.worded.2
+            l.class l.c c.loop-c-test.true l.invariant.1 is,
       );
-      by_index = chain a.n a.class.now (digits (goal.at.part_class-requires c).Start) (few (goal.at.part_class-requires c).Start) c.requires.worded.2 l.class l.c c.loop-c-test.true l.invariant.1 is
+      by_index = chain a.n a.class.now (digits (goal.at.part_class-requires c).Start) (few (goal.at.part_class-requires c).Start) c.requires.worded.2
+          l.class l.c c.loop-c-test.true l.invariant.1 is
           a.prev.now c.requires.linked;
       class_len = (l.invariant.1.new_long, l.invariant.2);
     }
@@ -60,16 +61,20 @@ loop-c-preserved c =
     let P : List ℕ → Type 0 = Parted (λ b. b < l.c + 1) a.n a.class.now (digits (goal.at.loop-c-preserved c).Start) in
     let S : List ℕ → Type 0 = λ x. Seen x (l.c + 1) in (
       omega arith,
-      ⊎_elim
-          (λ h. subst⁻¹ P h.4 (refine_more a.n a.class.now (digits (goal.at.loop-c-preserved c).Start) few c.requires.worded.2 l.class l.c c.loop-c-test.true l.invariant.1
-          (sym c.wide.ensures.0 ∙ h.0.true) _ h.3.ensures.0))
-          (λ h. subst⁻¹ P h.1 (refine_none a.n a.class.now (digits (goal.at.loop-c-preserved c).Start) few c.requires.worded.2 l.class l.c c.loop-c-test.true l.invariant.1
-          (λ q. h.0.left (c.wide.ensures.0 ∙ q))))
-          c.if-wide-c.branch,
-      ⊎_elim
-          (λ h. subst⁻¹ S h.5 h.3.ensures.1)
-          (λ h. subst⁻¹ S h.2 (record { under = λ y b. omega (arith, l.invariant.2.under y b); seen_long = l.invariant.2.seen_long }))
-          c.if-wide-c.branch,
+      elim c.if-wide-c.branch [
+        | then-wide-c h ↦ subst⁻¹ P h.class-is
+            (refine_more a.n a.class.now (digits (goal.at.loop-c-preserved c).Start) few c.requires.worded.2 l.class l.c c.loop-c-test.true
+            l.invariant.1
+            (sym c.wide.ensures.0 ∙ h.if-wide-c.true) _ h.part_class.ensures.parted)
+        | else-wide-c h ↦ subst⁻¹ P h.class-is
+            (refine_none a.n a.class.now (digits (goal.at.loop-c-preserved c).Start) few c.requires.worded.2 l.class l.c c.loop-c-test.true
+            l.invariant.1
+            (λ q. h.if-wide-c.false (c.wide.ensures.0 ∙ q)))
+      ],
+      elim c.if-wide-c.branch [
+        | then-wide-c h ↦ subst⁻¹ S h.seen-is h.part_class.ensures.seen
+        | else-wide-c h ↦ subst⁻¹ S h.seen-is (record { under = λ y b. omega (arith, l.invariant.2.under y b); seen_long = l.invariant.2.seen_long })
+      ],
     )
 
 pub returns : goal.returns

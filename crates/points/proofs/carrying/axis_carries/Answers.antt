@@ -2,7 +2,6 @@
 use mathlib.Core.Path.{sym, ap, ◌∙◌}
 use mathlib.Core.Bool.{◌&&◌}
 use native.Mathlib.Omega.{arith}
-use borrow.Author.Tests.{not-true, not-false}
 use Rattle.words.proofs.Records.{record_fits}
 use Rattle.points.specs.Carrying.{first}
 use Rattle.points.specs.Inner.Sums.{column, climbs}
@@ -10,7 +9,7 @@ use Rattle.points.proofs.Adding.{column-first}
 use Rattle.points.proofs.carrying.axis_carries.Goals as goal
 
 pub returns-then-not-flat : goal.returns-then-not-flat
-returns-then-not-flat c = let uneven = sym c.flat.ensures ∙ not-true c.flat.result c.if-not-flat.true in sym (rw uneven)
+returns-then-not-flat c = let uneven = sym c.flat.ensures ∙ c.if-not-flat.true in sym (rw uneven)
 
 pub bounds-points-a : goal.bounds-points-a
 bounds-points-a c =
@@ -19,7 +18,7 @@ bounds-points-a c =
 pub returns : goal.returns
 returns c =
     let a = c.args in
-    let even = sym c.flat.ensures ∙ not-false c.flat.result c.if-not-flat.false in
+    let even = sym c.flat.ensures ∙ c.if-not-flat.false in
     let values = column a.n a.v a.a a.points.now in
     c.climbs.ensures
     ∙ ap (climbs a.amount a.h) (sym (column-first a.n a.v a.a a.points.now c.requires.1 c.requires.2))

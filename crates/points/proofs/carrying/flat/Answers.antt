@@ -1,11 +1,10 @@
 -- The goals that the search leaves. Assumes nothing.
 use mathlib.Core.Path.{◌≡◌, ap}
-use Prim.Native.Nat.{◌+◌, ◌*◌, ◌-◌, ◌<◌}
+use Prim.Native.Nat.{◌+◌, ◌*◌, ◌<◌}
 use native.Mathlib.Omega.{arith}
 use lib.Ieee.{nan, eq}
 use lib.ListN.{get_or}
 use borrow.Author.Rules.{rules}
-use borrow.Author.Tests.{not-true, not-false}
 use Rattle.words.specs.Records.{all_of}
 use Rattle.words.proofs.Loops.{all_goes, all_stops, all_ends}
 use Rattle.words.proofs.Records.{record_fits, tabulate-length}
@@ -51,14 +50,14 @@ pub returns-then-not-x-points : goal.returns-then-not-x-points
 returns-then-not-x-points c =
     let a = c.args in
     all_stops (eq _) nan (column a.n a.v a.a a.points.now) a.v c.loop-k.k (tabulate-length _ _) c.loop-k-test.true
-    _ (value (goal.at.returns-then-not-x-points c).In-loop-k) _ (not-true _ c.if-not-x-points.true) c.loop-k.invariant.1
+    _ (value (goal.at.returns-then-not-x-points c).In-loop-k) _ c.if-not-x-points.true c.loop-k.invariant.1
 
 pub loop-k-preserved : goal.loop-k-preserved
 loop-k-preserved c =
     let a = c.args in (
       omega arith,
       all_goes (eq _) nan (column a.n a.v a.a a.points.now) a.v c.loop-k.k (tabulate-length _ _) c.loop-k-test.true
-          _ (value (goal.at.loop-k-preserved c).In-loop-k) _ (not-false _ c.if-not-x-points.false) c.loop-k.invariant.1,
+          _ (value (goal.at.loop-k-preserved c).In-loop-k) _ c.if-not-x-points.false c.loop-k.invariant.1,
     )
 
 pub returns : goal.returns

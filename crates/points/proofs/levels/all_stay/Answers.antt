@@ -1,12 +1,11 @@
 -- The goals that the search leaves. Assumes nothing.
 use mathlib.Core.Path.{ap, refl, ◌∙◌, ◌≡◌}
 use mathlib.Core.List.{List, []}
-use Prim.Native.Nat.{◌-◌, ◌+◌, ℕ, ◌≤◌, ◌*◌}
+use Prim.Native.Nat.{◌+◌, ℕ, ◌≤◌, ◌*◌}
 use native.Mathlib.Nat.{add-sub_cancel_left}
 use native.Mathlib.Omega.{arith}
 use lib.Ieee.{Float}
 use borrow.Author.Rules.{rules}
-use borrow.Author.Tests.{not-true, not-false}
 use Rattle.words.specs.Records.{tabulate, part}
 use Rattle.words.proofs.Loops.{all_goes, all_stops, all_ends}
 use Rattle.points.specs.Inner.Stay.{stays_in}
@@ -53,7 +52,7 @@ returns-then-not-stays c =
     let a = c.args in
     let k = c.loop-k.k in
     all_stops (stays_in a.step a.n a.h) [] (each a.n a.v a.points.now) a.v k (tabulate-length _ _) c.loop-k-test.true
-    _ (tabulate_at _ _ k [] c.loop-k-test.true) _ (cc (answered (goal.at.returns-then-not-stays c).After-stays, not-true c.stays.result c.if-not-stays.true))
+    _ (tabulate_at _ _ k [] c.loop-k-test.true) _ (cc (answered (goal.at.returns-then-not-stays c).After-stays, c.if-not-stays.true))
     c.loop-k.invariant.1
 
 pub loop-k-preserved : goal.loop-k-preserved
@@ -62,7 +61,7 @@ loop-k-preserved c =
     let k = c.loop-k.k in (
       omega arith,
       all_goes (stays_in a.step a.n a.h) [] (each a.n a.v a.points.now) a.v k (tabulate-length _ _) c.loop-k-test.true
-          _ (tabulate_at _ _ k [] c.loop-k-test.true) _ (cc (answered (goal.at.loop-k-preserved c).After-stays, not-false c.stays.result c.if-not-stays.false))
+          _ (tabulate_at _ _ k [] c.loop-k-test.true) _ (cc (answered (goal.at.loop-k-preserved c).After-stays, c.if-not-stays.false))
           c.loop-k.invariant.1,
     )
 

@@ -7,7 +7,6 @@ use native.Mathlib.Omega.{arith}
 use lib.Ieee.{Float}
 use lib.ListN.{take, drop, length}
 use lib.Seq.{length_front, take_at, length-take-le}
-use borrow.Author.Tests.{not-true, not-false}
 use Rattle.words.specs.Records.{all_of}
 use Rattle.points.specs.Inner.Stay.{stays_in}
 use Rattle.points.specs.Step.{in_range, moved_point}
@@ -26,7 +25,7 @@ row c =
     let n = c.args.n in
     let q = c.loop-left.q in
     let last = c.move_point.new.p in
-    let kept : length last ≡ length (take n q) = c.move_point.auto.1.1.0 in
+    let kept : length last ≡ length (take n q) = c.move_point.auto.p in
     let room : n ≤ length q = omega arith in
     (length_front q last n kept ∙ c.loop-left.invariant.0, take_at last (drop n q) n (kept ∙ length-take-le n q room) ∙ c.move_point.ensures)
 
@@ -47,16 +46,21 @@ pub slice_bounds-q-end-in-loop-left : goal.slice_bounds-q-end-in-loop-left
 slice_bounds-q-end-in-loop-left c = omega (arith, row (goal.at.slice_bounds-q-end-in-loop-left c).After-move_point)
 
 pub slice_bounds-all_in_range-end : goal.slice_bounds-all_in_range-end
-slice_bounds-all_in_range-end c = sym (length-take-le _ (moved (goal.at.slice_bounds-all_in_range-end c).After-move_point) (omega (arith, row (goal.at.slice_bounds-all_in_range-end c).After-move_point)))
+slice_bounds-all_in_range-end c =
+    sym (length-take-le _ (moved (goal.at.slice_bounds-all_in_range-end c).After-move_point)
+    (omega (arith, row (goal.at.slice_bounds-all_in_range-end c).After-move_point)))
 
 pub returns-then-not-all_in_range : goal.returns-then-not-all_in_range
 returns-then-not-all_in_range c =
-    let out = sym c.all_in_range.ensures ∙ not-true c.all_in_range.result c.if-not-all_in_range.true in
+    let out = sym c.all_in_range.ensures ∙ c.if-not-all_in_range.true in
     sym (one (goal.at.returns-then-not-all_in_range c).After-move_point ∙ rw out refl)
 
 pub loop-left-preserved : goal.loop-left-preserved
-loop-left-preserved c =
-    ((row (goal.at.loop-left-preserved c).After-move_point).0, one (goal.at.loop-left-preserved c).After-move_point ∙ rw (sym c.all_in_range.ensures ∙ not-false c.all_in_range.result c.if-not-all_in_range.false) refl)
+loop-left-preserved c = (
+  (row (goal.at.loop-left-preserved c).After-move_point).0,
+  one (goal.at.loop-left-preserved c).After-move_point
+      ∙ rw (sym c.all_in_range.ensures ∙ c.if-not-all_in_range.false) refl,
+)
 
 pub returns : goal.returns
 returns c = let none : c.loop-left.left ≡ 0 = omega arith in sym (c.loop-left.invariant.1 ∙ rw none)

@@ -1,6 +1,5 @@
 -- `stays` answers `stays_in`. The invariant: what is asked of the point is what is left to ask of the moved one. Assumes nothing.
 use mathlib.Core.Path.{◌≡◌}
-use Prim.Native.Nat.{◌-◌}
 use lib.ListN.{take, length}
 use Rattle.points.specs.Inner.Stay.{stays_in}
 use Rattle.points.proofs.levels.stays.Given as goal

@@ -1,5 +1,5 @@
 -- The goals that the search leaves. Assumes nothing.
-use Prim.Native.Nat.{◌-◌, ◌+◌, suc, ◌≤◌, ◌*◌}
+use Prim.Native.Nat.{◌+◌, suc, ◌≤◌, ◌*◌}
 use native.Mathlib.Omega.{arith}
 use borrow.Author.Rules.{rules}
 use Rattle.points.proofs.Writing.{inside, climbing_starts, climbing_goes, climbing_ends}
@@ -7,9 +7,9 @@ use Rattle.points.proofs.levels.write_levels.Goals as goal
 use Rattle.points.proofs.levels.write_levels.Goals.{In-loop-i}
 
 -- the next level lies within the buffer
-next : (c : In-loop-i) → let a = (start ((goal.at.In-loop-i c).After-put)).args in let i = c.loop-i.i in
+next : (c : In-loop-i) → let a = c.args in let i = c.loop-i.i in
     (i * (a.v * a.n) + a.v * a.n ≤ (i + 1) * (a.v * a.n)) × ((i + 1) * (a.v * a.n) + a.v * a.n ≤ suc a.h * a.v * a.n)
-next c = let a = (start ((goal.at.In-loop-i c).After-put)).args in inside a.n a.v a.h c.loop-i.i c.loop-i-test.true
+next c = let a = c.args in inside a.n a.v a.h c.loop-i.i c.loop-i-test.true
 
 pub loop-i-init : goal.loop-i-init
 loop-i-init c =
@@ -27,21 +27,19 @@ overflow_mul-i-in-loop-i c = omega (arith, next c)
 
 pub write_level-requires : goal.write_level-requires
 write_level-requires c = record {
-  step_value = (start ((goal.at.write_level-requires c).After-put)).requires.0;
+  step_value = c.requires.step_value;
   n_bound = ((next (goal.at.write_level-requires c).In-loop-i).0, omega (arith, next (goal.at.write_level-requires c).In-loop-i));
 }
 
 pub loop-i-preserved : goal.loop-i-preserved
 loop-i-preserved c =
-    let s = start ((goal.at.loop-i-preserved c).After-put) in
-    let a = s.args in
-    let climbs = climbing_goes a.step a.n a.v a.h a.points.now a.out.now s.requires.1.0 s.requires.1.1 c.loop-i.i in
+    let a = c.args in
+    let climbs = climbing_goes a.step a.n a.v a.h a.points.now a.out.now c.requires.points_len.0 c.requires.points_len.1 c.loop-i.i in
     (omega arith, climbs _ c.loop-i.out _ c.loop-i-test.true c.loop-i.invariant.1 c.write_level.ensures)
 
 pub returns : goal.returns
 returns c =
-    let s = start ((goal.at.returns c).After-put) in
-    let a = s.args in
+    let a = c.args in
     let ends =
-    climbing_ends a.step a.n a.v a.h a.points.now a.out.now s.requires.1.0 s.requires.1.1 c.loop-i.i _ (omega arith) in
+    climbing_ends a.step a.n a.v a.h a.points.now a.out.now c.requires.points_len.0 c.requires.points_len.1 c.loop-i.i _ (omega arith) in
     ends (rw c.put.ensures at c.loop-i.invariant.1)

@@ -8,11 +8,8 @@ use lib.ListN.{get_or, length}
 use Rattle.soundness.specs.Inner.Hashing.{bucket_in}
 use Rattle.soundness.proofs.Chaining.{past_end, past_next, past_start}
 use Rattle.soundness.proofs.buckets.find.Goals as goal
+use Rattle.soundness.proofs.buckets.find.Invariants.{Other}
 use Rattle.soundness.proofs.buckets.find.Goals.{After-wide-j, At-loop-f, In-loop-f}
-
--- key j has another hash than key g
-abbrev Other : List ℕ → ℕ → ℕ → Type 0
-Other hash g j = get_or hash j 0 ≡ get_or hash g 0 → ⊥
 
 -- what is looked at is a key before g
 lower : (c : In-loop-f) → c.loop-f.f < c.args.g
@@ -21,11 +18,10 @@ lower c =
     (c.loop-f.invariant c.requires.0).0
 
 -- so it has a hash and a link
-here : (c : After-wide-j) → let t : In-loop-f = c.before in let a = c.args in
+here : (c : After-wide-j) → let a = c.args in
     (c.wide-j.result < 32768) × (c.wide-j.result < length a.hash.now) × (c.wide-j.result < length a.next.now)
 here c =
-    let t : In-loop-f = c.before in
-    let l = lower t in
+    let l = lower (goal.at.After-wide-j c).In-loop-f in
     omega (arith, l, c.wide-j.ensures, c.requires.1, c.requires.2, c.requires.3)
 
 -- at the end none has it
@@ -39,7 +35,7 @@ none c e j l z =
     (r.3 ∙ ap (bucket_in a.buckets) same) same
 
 pub loop-f-init : goal.loop-f-init
-loop-f-init c =
+loop-f-init c k =
     let a = c.args in
     past_start k.bk (Other a.hash.now a.g) _ a.g _ (omega (arith, c.requires.1)) k.last
 
@@ -71,7 +67,7 @@ pub bounds-next-j : goal.bounds-next-j
 bounds-next-j c = let h = here (goal.at.bounds-next-j c).After-wide-j in omega (arith, h.2)
 
 pub loop-f-preserved : goal.loop-f-preserved
-loop-f-preserved c =
+loop-f-preserved c k =
     let a = c.args in
     let f = c.loop-f.f in
     let past = c.loop-f.invariant k in
@@ -79,7 +75,8 @@ loop-f-preserved c =
     let own : k.bk f < a.buckets =
     ⊎_elim {C = k.bk f < a.buckets} (λ z. absurd (c.loop-f-test.true z)) (λ r. omega (arith, r.1, k.low)) past.0 in
     past_next k.bk (Other a.hash.now a.g) _ a.g f _ (omega (arith, c.requires.1)) past c.loop-f-test.true
-    (λ z. c.if-hash-j.false (ap (λ j. get_or a.hash.now j 0) e ∙ z)) (ap (λ j. get_or a.next.now j 0) e ∙ k.links f (lower (goal.at.loop-f-preserved c).In-loop-f) own)
+    (λ z. c.if-hash-j.false (ap (λ j. get_or a.hash.now j 0) e ∙ z)) (ap (λ j. get_or a.next.now j 0) e
+    ∙ k.links f (lower (goal.at.loop-f-preserved c).In-loop-f) own)
 
 pub returns : goal.returns
 returns c =

@@ -28,11 +28,12 @@ returns-then-f-eq65535 c =
 pub returns : goal.returns
 returns c =
     let a = c.args in
-    let r = c.find-f.result in (
-      (λ h. let l : r < a.g = below (dec_lt r a.g) (λ k. c.if-f-eq65535.false (h k)) in
-          chains_skip a.hash.now a.head.now a.next.now a.g c.requires.0 r l (c.find-f.ensures.found l)),
-      ((λ e. absurd (c.if-f-eq65535.false e)), (refl, refl)),
-    )
+    let r = c.find-f.result in record {
+      chains = (λ h. let l : r < a.g = below (dec_lt r a.g) (λ k. c.if-f-eq65535.false (h k)) in
+          chains_skip a.hash.now a.head.now a.next.now a.g c.requires.0 r l (c.find-f.ensures.found l));
+      none = (λ e. absurd (c.if-f-eq65535.false e));
+      long = (refl, refl);
+    }
   where
     below : {r g : ℕ} → Dec (r < g) → (g ≤ r → ⊥) → r < g
     below (yes l) h = l

@@ -17,7 +17,7 @@ pub returns-then-x-y : goal.returns-then-x-y
 returns-then-x-y c = λ e. absurd (false≢true e)
 
 pub returns : goal.returns
-returns c =
+returns c = λ e.
     let a = c.args in
     coded_met a.d a.s a.table.now a.hash.now a.code.now a.known.now c.requires.1 c.requires.0
     a.f a.g c.requires.2 c.requires.3 c.if-known-f.false c.if-known-g.false c.if-known-f-2.false c.if-x-y.false

@@ -26,16 +26,20 @@ some-wait c =
 
 pub put-f-requires : goal.put-f-requires
 put-f-requires c =
-    let l = c.requires.1 in
-    (c.requires.0.chains, omega (arith, l, few (goal.at.put-f-requires c).Start), omega (arith, l, c.requires.0.wide), omega (arith, l, c.requires.0.deep))
+    let l = c.requires.1 in (
+      c.requires.0.chains,
+      omega (arith, l, few (goal.at.put-f-requires c).Start),
+      omega (arith, l, c.requires.0.wide),
+      omega (arith, l, c.requires.0.deep),
+    )
 
 pub bounds-known-g : goal.bounds-known-g
-bounds-known-g c = omega (arith, c.requires.1, c.requires.2.room.known-room)
+bounds-known-g c = omega (arith, c.requires.1, c.requires.2.room.known_room)
 
 pub returns-then-known-g : goal.returns-then-known-g
-returns-then-known-g c =
+returns-then-known-g c = λ z.
     let a = c.args in
-    let e : wing_of a.d a.table.now a.g ≡ empty = sym (c.requires.2.told.wing-is a.g c.requires.1) ∙ c.if-known-g.true in
+    let e : wing_of a.d a.table.now a.g ≡ empty = sym (c.requires.2.told.wing_is a.g c.requires.1) ∙ c.if-known-g.true in
     pass_alone a.d a.s a.table.now a.hash.now a.head.now a.next.now _ _ a.g a.n c.requires.0 c.requires.1
     c.put-f.ensures.long.1 (c.put-f.ensures.chains (λ l. c.if-f-eq65535.true)) (c.put-f.ensures.none c.if-f-eq65535.true) e
 
@@ -43,7 +47,7 @@ pub overflow_add-result : goal.overflow_add-result
 overflow_add-result c = omega (arith, c.requires.0.low, c.requires.1, few (goal.at.overflow_add-result c).Start)
 
 pub returns-then-f-eq65535 : goal.returns-then-f-eq65535
-returns-then-f-eq65535 c =
+returns-then-f-eq65535 c = λ z.
     let a = c.args in
     pass_waits a.d a.s a.table.now a.hash.now a.head.now a.next.now _ _ a.g a.n c.requires.0 c.requires.1
     c.put-f.ensures.long.1 (c.put-f.ensures.chains (λ l. c.if-f-eq65535.true)) (c.put-f.ensures.none c.if-f-eq65535.true)
@@ -59,7 +63,7 @@ pub overflow_sub-result : goal.overflow_sub-result
 overflow_sub-result c = omega (arith, some-wait c)
 
 pub returns-then-is_met : goal.returns-then-is_met
-returns-then-is_met c =
+returns-then-is_met c = λ z.
     let a = c.args in
     let m = meeting c in
     (pass_met a.d a.s a.table.now a.hash.now a.head.now a.next.now _ _ a.g a.n c.requires.0 c.requires.1

@@ -46,7 +46,7 @@ pub put_all-requires : goal.put_all-requires
 put_all-requires c = arm (goal.at.put_all-requires c).Start 1 4096 c.if-d-eq1.true refl (lit≤ tt) (omega arith)
 
 pub returns-then-d-eq1 : goal.returns-then-d-eq1
-returns-then-d-eq1 c = rw c.if-d-eq1.true c.put_all_lem.ensures
+returns-then-d-eq1 c = rw c.if-d-eq1.true c.put_all.ensures
 
 pub put_all-requires-then-d-eq2 : goal.put_all-requires-then-d-eq2
 put_all-requires-then-d-eq2 c = arm (goal.at.put_all-requires-then-d-eq2 c).Start 2 4096 c.if-d-eq2.true refl (lit≤ tt) (omega arith)

@@ -1,7 +1,6 @@
 -- The room's arrays are long enough. Assumes nothing.
 use mathlib.Core.Bool.{false≢true}
 use native.Mathlib.Omega.{arith}
-use borrow.Author.Tests.{not-false}
 use Rattle.soundness.proofs.Places.{arrays_made}
 use Rattle.soundness.proofs.rooms.in_32768.Goals as goal
 
@@ -10,5 +9,5 @@ returns-then-not-all_fine c = λ e. absurd (false≢true e)
 
 pub in_arrays-requires : goal.in_arrays-requires
 in_arrays-requires c =
-    let fine = c.all_fine.ensures (not-false _ c.if-not-all_fine.false) in
+    let fine = c.all_fine.ensures c.if-not-all_fine.false in
     (c.requires.0, c.requires.1, c.requires.3, fine, arrays_made _ 32768 49152 c.requires.2 (omega arith) (omega arith))

@@ -17,13 +17,13 @@ use Rattle.solids.specs.Table.{sound}
 use Rattle.soundness.specs.Inner.Coding.{base_of}
 use Rattle.soundness.proofs.Places.{few_keys}
 use Rattle.soundness.proofs.rooms.is_certified.Goals as goal
-use Rattle.soundness.proofs.rooms.is_certified.Goals.{After-table_words, Else-differ, Else-not-within, Start, Then-n-v}
+use Rattle.soundness.proofs.rooms.is_certified.Goals.{Else-differ, Else-not-within, Start, Then-n-v}
 
-inside : (c : Else-not-within) → let a = c.args in not (shape_ok max_dimension a.d a.v a.s) ≡ false
-inside c = ap not (sym c.within.ensures) ∙ c.if-not-within.false
+inside : (c : Else-not-within) → let a = c.args in shape_ok max_dimension a.d a.v a.s ≡ true
+inside c = sym c.within.ensures ∙ c.if-not-within.false
 
 limits : (c : Else-not-within) → let a = c.args in Limits max_dimension a.d a.v a.s
-limits c = limits_are _ _ _ _ (inside c)
+limits c = limits_are _ _ _ _ (ap not (inside c))
 
 -- what a room for m places asks
 abbrev Fits : Start → ℕ → ℕ → Type 0
@@ -31,25 +31,24 @@ Fits s m d =
     let a = s.args in
     Table d a.s a.table.now × (1 ≤ d) × (a.s * suc d ≤ m) × (shape_ok max_dimension d a.v a.s ≡ true)
 
-fits : (m : ℕ) (c : Else-differ) → let s = start (tested c).before in s.args.s * suc s.args.d ≤ m → Fits s m s.args.d
+fits : (m : ℕ) (c : Else-differ) → c.args.s * suc c.args.d ≤ m → Fits (goal.at.Else-differ c).Start m c.args.d
 fits m c few =
-    let i = tested c in
-    let a = (start i.before).args in
-    let l = limits i in
-    let n : After-table_words = search rules in (
+    let i = (goal.at.Else-differ c).Else-not-within in
+    let a = c.args in
+    let l = limits i in (
       record {
         dimension = l.dimension;
         cells = l.cells;
         long = eqb-true (length a.table.now) (table_length a.d a.s)
             (not-false _
-            (ap (λ x. not (eqb (length a.table.now) x)) (sym n.table-words.ensures) ∙ sym c.before.differ.ensures ∙ c.if2.false));
+            (ap (λ x. not (eqb (length a.table.now) x)) (sym c.table_words.ensures) ∙ sym c.differ.ensures ∙ c.if-differ.false));
       },
-      (start i.before).requires,
+      c.requires,
       few,
-      not-false _ (inside i),
+      inside i,
     )
 
-few : (c : Else-differ) → let a = (start c.before).args in a.s * suc a.d ≤ 32768
+few : (c : Else-differ) → let a = c.args in a.s * suc a.d ≤ 32768
 few c = let l = limits (goal.at.Else-differ c).Else-not-within in few_keys _ _ l.dimension l.cells
 
 -- by codes: what a room for m places asks
@@ -97,7 +96,8 @@ pub coded_256-requires : goal.coded_256-requires
 coded_256-requires c = coded (goal.at.coded_256-requires c).Then-n-v 256 c.if-n-le256.true
 
 pub coded_1024-requires : goal.coded_1024-requires
-coded_1024-requires c = at (goal.at.coded_1024-requires c).Start 1024 1 (coded (goal.at.coded_1024-requires c).Then-n-v 1024 c.if-n-le1024.true) c.if-d-eq1.true
+coded_1024-requires c =
+    at (goal.at.coded_1024-requires c).Start 1024 1 (coded (goal.at.coded_1024-requires c).Then-n-v 1024 c.if-n-le1024.true) c.if-d-eq1.true
 
 pub returns-then-d-eq1 : goal.returns-then-d-eq1
 returns-then-d-eq1 c = λ e. back (goal.at.returns-then-d-eq1 c).Start 1 c.if-d-eq1.true (c.coded_1024.ensures e)
@@ -106,7 +106,8 @@ pub coded_1024-requires-then-n-le1024 : goal.coded_1024-requires-then-n-le1024
 coded_1024-requires-then-n-le1024 c = coded (goal.at.coded_1024-requires-then-n-le1024 c).Then-n-v 1024 c.if-n-le1024.true
 
 pub coded_2048-requires : goal.coded_2048-requires
-coded_2048-requires c = at (goal.at.coded_2048-requires c).Start 2048 1 (coded (goal.at.coded_2048-requires c).Then-n-v 2048 c.if-n-le2048.true) c.if-d-eq1-2.true
+coded_2048-requires c =
+    at (goal.at.coded_2048-requires c).Start 2048 1 (coded (goal.at.coded_2048-requires c).Then-n-v 2048 c.if-n-le2048.true) c.if-d-eq1-2.true
 
 pub returns-then-d-eq1-2 : goal.returns-then-d-eq1-2
 returns-then-d-eq1-2 c = λ e. back (goal.at.returns-then-d-eq1-2 c).Start 1 c.if-d-eq1-2.true (c.coded_2048.ensures e)
@@ -115,7 +116,8 @@ pub coded_2048-requires-then-n-le2048 : goal.coded_2048-requires-then-n-le2048
 coded_2048-requires-then-n-le2048 c = coded (goal.at.coded_2048-requires-then-n-le2048 c).Then-n-v 2048 c.if-n-le2048.true
 
 pub coded_4096-requires : goal.coded_4096-requires
-coded_4096-requires c = at (goal.at.coded_4096-requires c).Start 4096 1 (coded (goal.at.coded_4096-requires c).Then-n-v 4096 c.if-n-le4096.true) c.if-d-eq1-3.true
+coded_4096-requires c =
+    at (goal.at.coded_4096-requires c).Start 4096 1 (coded (goal.at.coded_4096-requires c).Then-n-v 4096 c.if-n-le4096.true) c.if-d-eq1-3.true
 
 pub returns-then-d-eq1-3 : goal.returns-then-d-eq1-3
 returns-then-d-eq1-3 c = λ e. back (goal.at.returns-then-d-eq1-3 c).Start 1 c.if-d-eq1-3.true (c.coded_4096.ensures e)
@@ -124,7 +126,8 @@ pub coded_4096-requires-then-n-le4096 : goal.coded_4096-requires-then-n-le4096
 coded_4096-requires-then-n-le4096 c = coded (goal.at.coded_4096-requires-then-n-le4096 c).Then-n-v 4096 c.if-n-le4096.true
 
 pub coded_8192-requires : goal.coded_8192-requires
-coded_8192-requires c = at (goal.at.coded_8192-requires c).Start 8192 1 (coded (goal.at.coded_8192-requires c).Then-n-v 8192 c.if-n-le8192.true) c.if-d-eq1-4.true
+coded_8192-requires c =
+    at (goal.at.coded_8192-requires c).Start 8192 1 (coded (goal.at.coded_8192-requires c).Then-n-v 8192 c.if-n-le8192.true) c.if-d-eq1-4.true
 
 pub returns-then-d-eq1-4 : goal.returns-then-d-eq1-4
 returns-then-d-eq1-4 c = λ e. back (goal.at.returns-then-d-eq1-4 c).Start 1 c.if-d-eq1-4.true (c.coded_8192.ensures e)
@@ -133,16 +136,21 @@ pub coded_8192-requires-then-n-le8192 : goal.coded_8192-requires-then-n-le8192
 coded_8192-requires-then-n-le8192 c = coded (goal.at.coded_8192-requires-then-n-le8192 c).Then-n-v 8192 c.if-n-le8192.true
 
 pub coded_16384-requires : goal.coded_16384-requires
-coded_16384-requires c = at (goal.at.coded_16384-requires c).Start 16384 3 (coded (goal.at.coded_16384-requires c).Then-n-v 16384 (few-places (goal.at.coded_16384-requires c).Then-n-v).0) c.if-d-eq3.true
+coded_16384-requires c =
+    at (goal.at.coded_16384-requires c).Start 16384 3
+    (coded (goal.at.coded_16384-requires c).Then-n-v 16384 (few-places (goal.at.coded_16384-requires c).Then-n-v).0) c.if-d-eq3.true
 
 pub returns-then-d-eq3 : goal.returns-then-d-eq3
 returns-then-d-eq3 c = λ e. back (goal.at.returns-then-d-eq3 c).Start 3 c.if-d-eq3.true (c.coded_16384.ensures e)
 
 pub coded_16384-requires-then-n-v : goal.coded_16384-requires-then-n-v
-coded_16384-requires-then-n-v c = coded (goal.at.coded_16384-requires-then-n-v c).Then-n-v 16384 (few-places (goal.at.coded_16384-requires-then-n-v c).Then-n-v).0
+coded_16384-requires-then-n-v c =
+    coded (goal.at.coded_16384-requires-then-n-v c).Then-n-v 16384 (few-places (goal.at.coded_16384-requires-then-n-v c).Then-n-v).0
 
 pub in_32768-requires : goal.in_32768-requires
-in_32768-requires c = subst (Fits (start c.before) 32768) c.if-d-eq4.true (fits 32768 (goal.at.in_32768-requires c).Else-differ (few (goal.at.in_32768-requires c).Else-differ))
+in_32768-requires c =
+    subst (Fits (goal.at.in_32768-requires c).Start 32768) c.if-d-eq4.true
+    (fits 32768 (goal.at.in_32768-requires c).Else-differ (few (goal.at.in_32768-requires c).Else-differ))
 
 pub returns-then-d-eq4 : goal.returns-then-d-eq4
 returns-then-d-eq4 c = λ e. back (goal.at.returns-then-d-eq4 c).Start 4 c.if-d-eq4.true (c.in_32768.ensures e)

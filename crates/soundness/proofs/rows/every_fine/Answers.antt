@@ -4,7 +4,6 @@ use Prim.Native.Nat.{◌-◌}
 use native.Mathlib.Nat.{not-suc-le-zero}
 use native.Mathlib.Omega.{arith}
 use borrow.Author.Count.{below_more}
-use borrow.Author.Tests.{not-false}
 use Rattle.soundness.proofs.rows.every_fine.Goals as goal
 
 pub loop-p-init : goal.loop-p-init
@@ -19,7 +18,7 @@ returns-then-not-is_fine c = λ e. absurd (false≢true e)
 
 pub loop-p-preserved : goal.loop-p-preserved
 loop-p-preserved c =
-    (omega arith, below_more _ _ c.loop-p.invariant.1 (c.is_fine.ensures (not-false _ c.if-not-is_fine.false)))
+    (omega arith, below_more _ _ c.loop-p.invariant.1 (c.is_fine.ensures c.if-not-is_fine.false))
 
 pub returns : goal.returns
 returns c = λ e p l. c.loop-p.invariant.1 p (omega arith)

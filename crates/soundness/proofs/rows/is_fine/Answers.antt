@@ -13,10 +13,10 @@ pub returns-then-v-wide : goal.returns-then-v-wide
 returns-then-v-wide c = λ e. absurd (false≢true e)
 
 pub returns : goal.returns
-returns c =
+returns c = λ e.
     record {
       sign = omega (arith, c.if-sign-gt1.false, c.sign.ensures);
       material = omega (arith, c.if-material-gt-MAX_MATERIAL.false, c.material.ensures);
       low = omega (arith, c.if-v-wide.false, c.vertex.ensures, c.wide.ensures);
-      c = c.ascends.ensures e;
+      up = c.ascends.ensures e;
     }

@@ -21,5 +21,5 @@ meets-requires c =
     )
 
 pub returns : goal.returns
-returns c =
+returns c = λ e.
     rw (add-one c.args.d) at (c.meets.ensures e)

@@ -8,7 +8,7 @@ use Rattle.sweeping.proofs.faces.put_faces.Given as goal
 abbrev pub invariant-loop-a : goal.invariant-loop-a
 invariant-loop-a l =
     let words = prism_words l.d l.v l.s l.h l.table l.i l.p in
-    Kept l.at words l.initial.out l.out × ((l b : ℕ) → l < l.d → b < l.a → Right l.at words l.out (side_at l.d b l))
+    Kept l.at words l.initial.out l.out × ((m b : ℕ) → m < l.d → b < l.a → Right l.at words l.out (side_at l.d b m))
 
 abbrev pub decreases-loop-a : goal.decreases-loop-a
 decreases-loop-a l = l.d + 1 - l.a

@@ -14,7 +14,11 @@ pub write_level-behind-requires : goal.write_level-behind-requires
 write_level-behind-requires c =
     let a = c.args in
     let long = level-long a.d a.v a.s a.h a.table.now c.requires.ready.long 0 in
-    (c.requires.ready, (omega (arith, c.requires.at.0), omega (arith, long, c.requires.at.1, c.requires.room)))
+    record {
+      ready = c.requires.ready;
+      at = omega (arith, c.requires.at.0);
+      room = omega (arith, long, c.requires.at.1, c.requires.room);
+    }
 
 pub returns-then-i-eq0 : goal.returns-then-i-eq0
 returns-then-i-eq0 c =

@@ -17,11 +17,16 @@ loop-p-init c =
 pub write_prism-next-requires : goal.write_prism-next-requires
 write_prism-next-requires c =
     let more = c.loop-p-test.true in
-    (c.requires.ready, ((c.requires.at, more), left_record_fits _ _ (prisms (goal.at.write_prism-next-requires c).Start) more c.loop-p.invariant))
+    record {
+      ready = c.requires.ready;
+      at = (c.requires.at, more);
+      room = left_record_fits _ _ (prisms (goal.at.write_prism-next-requires c).Start) more c.loop-p.invariant;
+    }
 
 pub loop-p-preserved : goal.loop-p-preserved
 loop-p-preserved c =
-    left_record _ _ (prisms (goal.at.loop-p-preserved c).Start) c.loop-p-test.true c.loop-p.invariant _ _ (record { place = c.write_prism-next.ensures.place; content = c.write_prism-next.ensures.words })
+    left_record _ _ (prisms (goal.at.loop-p-preserved c).Start) c.loop-p-test.true c.loop-p.invariant _ _
+    (record { place = c.write_prism-next.ensures.place; content = c.write_prism-next.ensures.words })
 
 pub returns : goal.returns
 returns c =

@@ -60,7 +60,12 @@ ended c =
 
 pub returns-then-h-eq0 : goal.returns-then-h-eq0
 returns-then-h-eq0 c =
-    done (goal.at.returns-then-h-eq0 c).Start 0 0 c.args.out.now (omega (arith, c.if-h-eq0.true)) (none (goal.at.returns-then-h-eq0 c).Start)
+    let s = (goal.at.returns-then-h-eq0 c).Start in
+    let all = done s 0 0 c.args.out.now (omega (arith, c.if-h-eq0.true)) (none s) in
+    record {
+      place = all.0;
+      words = all.1;
+    }
 
 pub level_size-n-requires : goal.level_size-n-requires
 level_size-n-requires c =
@@ -82,7 +87,8 @@ next_level-requires c =
     let fits = left_record_fits _ i (levels (goal.at.next_level-requires c).Start) few left in record {
       ready = c.requires.ready;
       at = (few, size);
-      below = (λ x e hx he. read (goal.at.next_level-requires c).Start n i x (i * n) e c.loop-i.out size (omega (arith, few)) (record_fits n i x hx) left he);
+      below = (λ x e hx he. read (goal.at.next_level-requires c).Start n i x (i * n) e c.loop-i.out size (omega (arith, few)) (record_fits n i x hx)
+          left he);
       room = omega (arith, fits, size, level-size (goal.at.next_level-requires c).Start i);
     }
 
@@ -105,7 +111,7 @@ shape_of-out c = c.loop-i.invariant.1.same
 
 pub returns : goal.returns
 returns c =
-    let all = done (begun ((goal.at.returns c).After-level_size-n)) c.loop-i.i _ _ c.loop-i-test.false c.loop-i.invariant.1 in
+    let all = done (goal.at.returns c).Start c.loop-i.i _ _ c.loop-i-test.false c.loop-i.invariant.1 in
     record {
       place = ended c ∙ all.0;
       words = all.1;

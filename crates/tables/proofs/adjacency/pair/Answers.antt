@@ -28,15 +28,16 @@ loop-g-init c = (omega arith, refl, omega arith, omega arith, pairing_none _ _ _
 
 pub pair_at-found-requires : goal.pair_at-found-requires
 pair_at-found-requires c =
-    let l = c.loop-g in (
-      (c.requires.0, c.requires.1, l.invariant.1, c.requires.2),
-      (
+    let l = c.loop-g in
+    record {
+      k_nonzero = (c.requires.0, c.requires.1, l.invariant.1, c.requires.2);
+      a_lt_k = (
         l.invariant.2,
         l.invariant.3,
         c.loop-g-test.true,
         pairing_long _ _ _ _ _ _ _ _ l.found.crowded l.found.repeated l.found.equal l.invariant.4 ∙ c.requires.3,
-      ),
-    )
+      );
+    }
 
 pub next-here-requires : goal.next-here-requires
 next-here-requires c =

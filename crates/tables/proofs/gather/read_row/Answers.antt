@@ -1,9 +1,9 @@
 -- The goals that the search leaves. Assumes nothing.
-use mathlib.Core.Logic.{⊎_elim}
 use Prim.Native.Nat.{◌-◌}
 use native.Mathlib.Omega.{arith}
 use Rattle.tables.proofs.Reading.{read_all, read_more, read_no_more, read_none}
 use Rattle.tables.proofs.gather.read_row.Goals as goal
+use Rattle.tables.proofs.gather.read_row.Goals.{then-j-n, else-j-n}
 
 pub loop-j-init : goal.loop-j-init
 loop-j-init c = (omega arith, read_none _ c.args.at c.args.words.now)
@@ -34,8 +34,10 @@ loop-j-preserved c =
     let l = c.loop-j in
     let a = c.args in (
       omega arith,
-      ⊎_elim (λ w. read_more _ a.at a.words.now _ l.row c.if-j-n.row l.invariant.1 c.loop-j-test.true w.0.true w.2)
-          (λ w. read_no_more _ a.at a.words.now _ l.row c.if-j-n.row l.invariant.1 w.0.left w.1) c.if-j-n.branch,
+      elim c.if-j-n.branch [
+        | then-j-n w ↦ read_more _ a.at a.words.now _ l.row c.if-j-n.row l.invariant.1 c.loop-j-test.true w.if-j-n.true w.row-is
+        | else-j-n w ↦ read_no_more _ a.at a.words.now _ l.row c.if-j-n.row l.invariant.1 w.if-j-n.false w.row-is
+      ],
     )
 
 pub returns : goal.returns

@@ -7,7 +7,7 @@ use Rattle.tables.proofs.Reading.{store_more}
 use Rattle.tables.proofs.gather.store_row.Goals as goal
 
 pub loop-j-init : goal.loop-j-init
-loop-j-init c = (omega arith, paste-zero _ (c.args.p * 8) c.args.t1)
+loop-j-init c = (omega arith, paste-zero _ (c.args.p * 8) c.args.row)
 
 pub loop-j-preserved : goal.loop-j-preserved
 loop-j-preserved c =
@@ -18,4 +18,4 @@ pub returns : goal.returns
 returns c =
     let a = c.args in
     let all : c.loop-j.j ≡ 8 = omega arith in
-    c.loop-j.invariant.1 ∙ ap (λ (m : ℕ). paste a.rows.now (a.p * 8) a.t1 m) all
+    c.loop-j.invariant.1 ∙ ap (λ (m : ℕ). paste a.rows.now (a.p * 8) a.row m) all

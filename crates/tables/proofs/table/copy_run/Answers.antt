@@ -1,6 +1,5 @@
 -- The goals that the search leaves. Assumes nothing.
 use mathlib.Core.List.{List}
-use mathlib.Core.Logic.{⊎_elim}
 use mathlib.Core.Path.{sym, ap, ◌∙◌}
 use Prim.Native.Nat.{ℕ, ◌+◌, ◌-◌}
 use native.Mathlib.Omega.{arith}
@@ -12,6 +11,7 @@ use Rattle.words.proofs.Records.{tabulate-length}
 use Rattle.tables.specs.Inner.Held.{run}
 use Rattle.tables.proofs.Filling.{run_more, run_no_more}
 use Rattle.tables.proofs.table.copy_run.Goals as goal
+use Rattle.tables.proofs.table.copy_run.Goals.{then-j-n, else-j-n}
 
 pub loop-j-init : goal.loop-j-init
 loop-j-init c = (omega arith, omega arith, sym (placed-none _ _))
@@ -45,10 +45,14 @@ loop-j-preserved c =
     let l = c.loop-j in
     let a = c.args in (
       omega arith,
-      ⊎_elim (λ w. ap length w.2 ∙ length-set l.table _ _ ∙ l.invariant.1) (λ w. ap length w.1 ∙ l.invariant.1) c.if-j-n.branch,
-      ⊎_elim (λ w. run_more _ a.from _ _ a.words.now a.table.now _ c.if-j-n.table c.requires.2 l.invariant.2 w.0.true w.2)
-          (λ w. run_no_more _ a.from _ _ a.words.now a.table.now
-          _ c.if-j-n.table c.requires.2 l.invariant.2 w.0.left w.1) c.if-j-n.branch,
+      elim c.if-j-n.branch [
+        | then-j-n w ↦ ap length w.table-is ∙ length-set l.table _ _ ∙ l.invariant.1
+        | else-j-n w ↦ ap length w.table-is ∙ l.invariant.1
+      ],
+      elim c.if-j-n.branch [
+        | then-j-n w ↦ run_more _ a.from _ _ a.words.now a.table.now _ c.if-j-n.table c.requires.2 l.invariant.2 w.if-j-n.true w.table-is
+        | else-j-n w ↦ run_no_more _ a.from _ _ a.words.now a.table.now _ c.if-j-n.table c.requires.2 l.invariant.2 w.if-j-n.false w.table-is
+      ],
     )
 
 pub shape_of-table : goal.shape_of-table

@@ -4,7 +4,6 @@ use Prim.Native.Nat.{ℕ, ◌+◌, ◌*◌, ◌-◌, ◌≤◌}
 use native.Mathlib.Omega.{arith}
 use lib.ListN.{length, get_or}
 use borrow.Author.Count.{below_none, below_more}
-use borrow.Author.Tests.{not-true, not-false}
 use Rattle.words.proofs.Records.{record_fits, record_next}
 use Rattle.simplex.proofs.Rows.{same_row_true}
 use Rattle.simplex.specs.Cell.{same_row}
@@ -41,7 +40,7 @@ returns-then-not-same_record c =
     let a = c.args in
     sym (table_other _ a.rows.now a.signs.now (material_at (record_size a.d) a.table.now) a.wings.now _ a.table.now c.requires.2 _
     c.loop-p-test.true
-    (sym (found (goal.at.returns-then-not-same_record c).After-same_record) ∙ not-true _ c.if-not-same_record.true))
+    (sym (found (goal.at.returns-then-not-same_record c).After-same_record) ∙ c.if-not-same_record.true))
 
 pub overflow_add-at : goal.overflow_add-at
 overflow_add-at c = omega (arith, fits (goal.at.overflow_add-at c).In-loop-p)
@@ -59,7 +58,7 @@ loop-p-preserved c =
       omega arith,
       omega (arith, record_next (record_size a.d) l.p),
       below_more _ _ l.invariant.2 (same_row_true (run (record_size a.d) _ a.table.now) (record_held _ _ _ _ _ _)
-          (sym (found (goal.at.loop-p-preserved c).After-same_record) ∙ not-false _ c.if-not-same_record.false)),
+          (sym (found (goal.at.loop-p-preserved c).After-same_record) ∙ c.if-not-same_record.false)),
     )
 
 pub returns : goal.returns

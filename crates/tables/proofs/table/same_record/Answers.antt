@@ -29,7 +29,7 @@ bounds-signs-p c = omega arith
 pub returns-then-table-at : goal.returns-then-table-at
 returns-then-table-at c =
     sym (record_same c.args.d _ _ _ _ _ _ c.args.table.now refl
-    ∙ rw (ne_eqb _ _ (λ e. c.if-table-at.true (e ∙ sym c.sign_word_lem.ensures))) refl)
+    ∙ rw (ne_eqb _ _ (λ e. c.if-table-at.true (e ∙ sym c.sign_word.ensures))) refl)
 
 pub overflow_mul-p : goal.overflow_mul-p
 overflow_mul-p c = omega arith
@@ -53,13 +53,13 @@ returns-then-same_run c =
     ∙ ap (λ (w : ℕ). same_row (run (a.d + 1) (a.at + w) a.table.now) (run (a.d + 1) (a.p * (a.d + 1)) a.wings.now))
     c.first_wing.ensures
     ∙ sym (record_same a.d _ _ _ _ _ _ a.table.now refl ∙ rw (
-      eq-eqb _ _ (c.if-table-at.false ∙ c.sign_word_lem.ensures),
+      eq-eqb _ _ (c.if-table-at.false ∙ c.sign_word.ensures),
       sym c.same_run.ensures ∙ c.if-same_run.true,
     ) refl)
 
 pub returns : goal.returns
 returns c =
     sym (record_same c.args.d _ _ _ _ _ _ c.args.table.now refl ∙ rw (
-      eq-eqb _ _ (c.if-table-at.false ∙ c.sign_word_lem.ensures),
+      eq-eqb _ _ (c.if-table-at.false ∙ c.sign_word.ensures),
       sym c.same_run.ensures ∙ c.if-same_run.false,
     ) refl)

@@ -1,5 +1,4 @@
 -- A record is written in its four parts. Assumes nothing.
-use mathlib.Core.Path.{ap, ◌∙◌}
 use Prim.Native.Nat.{◌+◌, ◌*◌, ◌≤◌}
 use native.Mathlib.Nat.{mul-le-mul_right}
 use native.Mathlib.Omega.{arith}
@@ -36,7 +35,7 @@ offset_bounds-table-at-2 c = omega arith
 pub bounds-table-at-2 : goal.bounds-table-at-2
 bounds-table-at-2 c =
     let a = (c.args) in
-    omega (arith, length-set a.table.now a.at c.sign_word_lem.result)
+    omega (arith, length-set a.table.now a.at c.sign_word.result)
 
 pub overflow_mul-p : goal.overflow_mul-p
 overflow_mul-p c = omega arith
@@ -47,8 +46,8 @@ overflow_add-at c = omega arith
 pub copy_run-requires : goal.copy_run-requires
 copy_run-requires c =
     let a = (c.args) in
-    let one = length-set a.table.now a.at c.sign_word_lem.result in
-    let two = length-set (set a.table.now a.at c.sign_word_lem.result) (a.at + material_place) a.material in
+    let one = length-set a.table.now a.at c.sign_word.result in
+    let two = length-set (set a.table.now a.at c.sign_word.result) (a.at + material_place) a.material in
     (omega arith, omega arith, omega (arith, one, two))
 
 pub overflow_mul-p-2 : goal.overflow_mul-p-2
@@ -60,17 +59,11 @@ overflow_add-at-2 c = omega arith
 pub copy_run-requires-2 : goal.copy_run-requires-2
 copy_run-requires-2 c =
     let a = c.args in
-    let long = part_room _ a.rows.now a.signs.now a.wings.now _ _ _ _ a.table.now _ c.requires.2 c.sign_word_lem.ensures
+    let long = part_room _ a.rows.now a.signs.now a.wings.now _ _ _ _ a.table.now _ c.requires.2 c.sign_word.ensures
     c.copy_run.ensures in
     (omega arith, omega (arith, held (goal.at.copy_run-requires-2 c).Start), omega (arith, long, c.first_wing.ensures))
 
-pub shape_of-table : goal.shape_of-table
-shape_of-table c =
-    let a = c.args in
-    ap length (returns c) ∙ placed-length a.at (record_held a.d a.rows.now a.signs.now a.wings.now a.material a.p)
-    a.table.now (omega (arith, record_long a.d a.rows.now a.signs.now a.wings.now a.material a.p))
-
 pub returns : goal.returns
 returns c =
-    record_placed _ _ _ _ _ _ _ _ _ _ c.requires.2 c.sign_word_lem.ensures c.copy_run.ensures _ _
+    record_placed _ _ _ _ _ _ _ _ _ _ c.requires.2 c.sign_word.ensures c.copy_run.ensures _ _
     c.first_wing.ensures c.copy_run-2.ensures

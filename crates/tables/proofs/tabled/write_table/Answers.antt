@@ -13,8 +13,9 @@ use Rattle.solids.proofs.Tests.{or_false}
 use Rattle.records.specs.Layout.{list_size, table_length, wings_length}
 use Rattle.tables.specs.Inner.Held.{record_list}
 use Rattle.tables.proofs.SoundCases.{fresh_blank}
-use Rattle.tables.proofs.Tabling.{refuses, no_room}
+use Rattle.tables.proofs.Tabling.{refuses, no_room, accepts}
 use Rattle.tables.proofs.tabled.write_table.Goals as goal
+use Rattle.tables.proofs.Taking.{taken_written}
 use Rattle.tables.proofs.tabled.write_table.Goals.{After-take-verdict, Else-too_short, In_default}
 
 -- what is answered of rows 6 to 8, 18 and 9 to 11
@@ -27,27 +28,40 @@ answered c =
 -- these rows pass
 none : (c : In_default) → let a = c.args in
     0 ≡ first_refusal solid_rules (record_list (list_size a.d) a.d a.v a.s a.cells.now)
-none c = sym (ap verdict_of c.enum_told-1.given.1) ∙ answered (goal.at.In_default c).After-take-verdict
+none c = sym (ap verdict_of c.in_default.is) ∙ answered (goal.at.In_default c).After-take-verdict
 
 fits : (c : Else-too_short) → let a = c.args in
     (ltb (length a.table.now) (table_length a.d a.s) || ltb a.further (wings_length a.d a.s)) ≡ false
 fits c = sym c.too_short.ensures ∙ c.if-too_short.false
 
 pub take-verdict-requires : goal.take-verdict-requires
-take-verdict-requires c = (
-  (omega arith, omega arith, omega arith, omega arith, rw c.list_size-size.ensures (omega arith)),
-  (length-replicate {A = ℕ} 32768 0, length-replicate {A = Bool} 4096 false, fresh_blank),
-)
+take-verdict-requires c =
+    record {
+      d_bound = (omega arith, omega arith, omega arith, omega arith, rw c.list_size-size.ensures (omega arith));
+      rows_len = (length-replicate {A = ℕ} 32768 0, length-replicate {A = Bool} 4096 false, fresh_blank);
+    }
 
 pub returns-in-Refuse : goal.returns-in-Refuse
 returns-in-Refuse c =
-    let v = c.verdict-1.given in
-    refuses _ _ _ _ _ _ c.requires.2 v.0.0 (sym (ap verdict_of v.1) ∙ answered (goal.at.returns-in-Refuse c).After-take-verdict)
+    let r = refuses _ _ _ _ c.args.further _ c.requires.2 c.in-Refuse.why (sym (ap verdict_of c.in-Refuse.is)
+    ∙ answered (goal.at.returns-in-Refuse c).After-take-verdict) in
+    record { answer = r.0; table = r.1 }
 
 pub returns-then-too_short : goal.returns-then-too_short
 returns-then-too_short c =
-    no_room _ _ _ _ _ _ c.requires.2 (none (goal.at.returns-then-too_short c).In_default) (sym c.too_short.ensures ∙ c.if-too_short.true)
+    let r = no_room _ _ _ _ _ _ c.requires.2 (none (goal.at.returns-then-too_short c).In_default) (sym c.too_short.ensures ∙ c.if-too_short.true) in
+    record { answer = r.0; table = r.1 }
 
 pub fill-requires : goal.fill-requires
 fill-requires c =
     (omega arith, omega arith, c.requires.2, ltb-false _ _ (or_false _ _ (fits (goal.at.fill-requires c).Else-too_short)).0)
+
+pub returns : goal.returns
+returns c =
+    let a = c.args in
+    let t = (goal.at.returns c).In_default in
+    let r = accepts _ _ _ _ _ _ c.requires.2 (none t) _ _ (fits (goal.at.returns c).Else-too_short) c.table_words.ensures
+    (c.fill.ensures
+    ∙ taken_written a.d a.v a.s a.cells.now _ _ _ _ a.table.now (omega arith)
+    (omega arith) c.requires.2 (rw c.list_size-size.ensures at (c.take-verdict.ensures.taken (ap verdict_of c.in_default.is)))) in
+    record { answer = r.0; table = r.1 }

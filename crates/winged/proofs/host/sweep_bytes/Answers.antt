@@ -31,7 +31,7 @@ relay c =
     record {
       room = (m (goal.at.After-words-1 c).After-room-m).1;
       same = c.words-1.given.0 ∙ length-take-le c.room-m.result a.words.now (m (goal.at.After-words-1 c).After-room-m).0;
-      long = λ (goal.at.After-words-1 c).After-sweep_decoded-a e. sweep_long a.d a.v a.s a.h a.table.now _ (goal.at.After-words-1 c).After-sweep_decoded-a (sym call.ensures.0 ∙ e);
+      long = λ k e. sweep_long a.d a.v a.s a.h a.table.now _ k (sym call.ensures.0 ∙ e);
       content = call.ensures.1;
     }
 

@@ -7,12 +7,12 @@ use Rattle.points.proofs.step.Step.fits.Goals as goal
 
 pub returns-in-Slide : goal.returns-in-Slide
 unfolding step_fits
-returns-in-Slide c = rw c.self-1.given.1 refl
+returns-in-Slide c = rw c.in-Slide.is refl
 
 pub returns-in-Slant : goal.returns-in-Slant
 unfolding step_fits
-returns-in-Slant c = rw c.self-in-Slant-1.given.1 refl
+returns-in-Slant c = rw c.in-Slant.is refl
 
 pub returns-in-Turn : goal.returns-in-Turn
 unfolding step_fits
-returns-in-Turn c = rw c.self-in-Turn-1.given.1 (ap (λ b. leb 3 c.args.n && b) c.on_circle.ensures)
+returns-in-Turn c = rw c.in-Turn.is (ap (λ b. leb 3 c.args.n && b) c.on_circle.ensures)
