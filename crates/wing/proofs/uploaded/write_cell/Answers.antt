@@ -1,5 +1,5 @@
 -- The goals that the search leaves. Assumes nothing.
-use Prim.Native.Nat.{ℕ, ◌-◌}
+use Prim.Native.Nat.{ℕ}
 use native.Mathlib.Nat.{add-zero}
 use native.Mathlib.Omega.{arith}
 use Rattle.words.proofs.Writing.{left_starts, left_value, left_values}
