@@ -76,7 +76,8 @@ pub overflow_add-out-in-loop-p : goal.overflow_add-out-in-loop-p
 overflow_add-out-in-loop-p c = let x = places_of (goal.at.overflow_add-out-in-loop-p c).In-loop-p in omega (arith, x.high, x.high-inside)
 
 pub offset_bounds-out-first-in-loop-p : goal.offset_bounds-out-first-in-loop-p
-offset_bounds-out-first-in-loop-p c = let x = places_of (goal.at.offset_bounds-out-first-in-loop-p c).In-loop-p in omega (arith, x.high, x.high-inside)
+offset_bounds-out-first-in-loop-p c = let x = places_of (goal.at.offset_bounds-out-first-in-loop-p c).In-loop-p in
+    omega (arith, x.high, x.high-inside)
 
 pub bounds-out-first-in-loop-p : goal.bounds-out-first-in-loop-p
 bounds-out-first-in-loop-p c =

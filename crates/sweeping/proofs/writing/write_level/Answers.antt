@@ -25,7 +25,8 @@ write_prism-next-requires c =
 
 pub loop-p-preserved : goal.loop-p-preserved
 loop-p-preserved c =
-    left_record _ _ (prisms (goal.at.loop-p-preserved c).Start) c.loop-p-test.true c.loop-p.invariant _ _ (record { place = c.write_prism-next.ensures.place; content = c.write_prism-next.ensures.words })
+    left_record _ _ (prisms (goal.at.loop-p-preserved c).Start) c.loop-p-test.true c.loop-p.invariant _ _
+    (record { place = c.write_prism-next.ensures.place; content = c.write_prism-next.ensures.words })
 
 pub returns : goal.returns
 returns c =

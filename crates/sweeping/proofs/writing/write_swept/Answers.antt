@@ -87,7 +87,8 @@ next_level-requires c =
     let fits = left_record_fits _ i (levels (goal.at.next_level-requires c).Start) few left in record {
       ready = c.requires.ready;
       at = (few, size);
-      below = (λ x e hx he. read (goal.at.next_level-requires c).Start n i x (i * n) e c.loop-i.out size (omega (arith, few)) (record_fits n i x hx) left he);
+      below = (λ x e hx he. read (goal.at.next_level-requires c).Start n i x (i * n) e c.loop-i.out size (omega (arith, few)) (record_fits n i x hx)
+          left he);
       room = omega (arith, fits, size, level-size (goal.at.next_level-requires c).Start i);
     }
 
