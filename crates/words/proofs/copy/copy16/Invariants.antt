@@ -1,5 +1,5 @@
 -- `copy16` stores the numbers: in each turn one more of those that are left is stored. Assumes nothing.
-use Prim.Native.Nat.{◌≤◌, ◌-◌, ◌+◌, ◌*◌}
+use Prim.Native.Nat.{◌≤◌, ◌+◌, ◌*◌}
 use lib.ListN.{length}
 use Rattle.words.specs.Bytes.{words_from}
 use Rattle.words.proofs.Writing.{Left}
