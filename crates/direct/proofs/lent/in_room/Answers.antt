@@ -68,10 +68,10 @@ back c table uploaded r e k =
     )
 
 pub returns-then-d-eq0 : goal.returns-then-d-eq0
-returns-then-d-eq0 c = kept (goal.at.returns-then-d-eq0 c).Start
+returns-then-d-eq0 c = let k = kept (goal.at.returns-then-d-eq0 c).Start in record { lent = k.0; direct = k.1 }
 
 pub returns-then-not-within : goal.returns-then-not-within
-returns-then-not-within c = kept (goal.at.returns-then-not-within c).Start
+returns-then-not-within c = let k = kept (goal.at.returns-then-not-within c).Start in record { lent = k.0; direct = k.1 }
 
 pub list_words-requires : goal.list_words-requires
 list_words-requires c = let l = limits c in (l.dimension, l.cells)
@@ -80,19 +80,19 @@ pub overflow_mul-list_words : goal.overflow_mul-list_words
 overflow_mul-list_words c = let l = limits (goal.at.overflow_mul-list_words c).Else-not-within in omega (arith, c.list_words.ensures, list_fits _ _ l.dimension l.cells)
 
 pub returns-then-cells-list_words : goal.returns-then-cells-list_words
-returns-then-cells-list_words c = kept (goal.at.returns-then-cells-list_words c).Start
+returns-then-cells-list_words c = let k = kept (goal.at.returns-then-cells-list_words c).Start in record { lent = k.0; direct = k.1 }
 
 pub table_words-requires : goal.table_words-requires
 table_words-requires c = let l = limits (goal.at.table_words-requires c).Else-not-within in (l.dimension, l.cells)
 
 pub returns-then-table-table_words : goal.returns-then-table-table_words
-returns-then-table-table_words c = kept (goal.at.returns-then-table-table_words c).Start
+returns-then-table-table_words c = let k = kept (goal.at.returns-then-table-table_words c).Start in record { lent = k.0; direct = k.1 }
 
 pub wings_words-n-requires : goal.wings_words-n-requires
 wings_words-n-requires c = let l = limits (goal.at.wings_words-n-requires c).Else-not-within in (l.dimension, l.cells)
 
 pub returns-then-uploaded-n : goal.returns-then-uploaded-n
-returns-then-uploaded-n c = kept (goal.at.returns-then-uploaded-n c).Start
+returns-then-uploaded-n c = let k = kept (goal.at.returns-then-uploaded-n c).Start in record { lent = k.0; direct = k.1 }
 
 pub in_512-requires : goal.in_512-requires
 in_512-requires c =
@@ -100,7 +100,7 @@ in_512-requires c =
 
 pub returns-then-d-eq1 : goal.returns-then-d-eq1
 returns-then-d-eq1 c =
-    back (goal.at.returns-then-d-eq1 c).Else-uploaded-n _ _ _ c.if-d-eq1.true c.in_512.ensures
+    let k = back (goal.at.returns-then-d-eq1 c).Else-uploaded-n _ _ _ c.if-d-eq1.true c.in_512.ensures in record { lent = k.0; direct = k.1 }
 
 pub in_512-requires-then-n-le512 : goal.in_512-requires-then-n-le512
 in_512-requires-then-n-le512 c = (lent (goal.at.in_512-requires-then-n-le512 c).Else-uploaded-n, omega (arith, places (goal.at.in_512-requires-then-n-le512 c).Else-uploaded-n, c.if-n-le512.true))
@@ -117,7 +117,7 @@ in_1024-requires c =
 
 pub returns-then-d-eq1-2 : goal.returns-then-d-eq1-2
 returns-then-d-eq1-2 c =
-    back (goal.at.returns-then-d-eq1-2 c).Else-uploaded-n _ _ _ c.if-d-eq1-2.true c.in_1024.ensures
+    let k = back (goal.at.returns-then-d-eq1-2 c).Else-uploaded-n _ _ _ c.if-d-eq1-2.true c.in_1024.ensures in record { lent = k.0; direct = k.1 }
 
 pub in_1024-requires-then-n-le1024 : goal.in_1024-requires-then-n-le1024
 in_1024-requires-then-n-le1024 c = (lent (goal.at.in_1024-requires-then-n-le1024 c).Else-uploaded-n, omega (arith, places (goal.at.in_1024-requires-then-n-le1024 c).Else-uploaded-n, c.if-n-le1024.true))
@@ -134,7 +134,7 @@ in_2048-requires c =
 
 pub returns-then-d-eq1-3 : goal.returns-then-d-eq1-3
 returns-then-d-eq1-3 c =
-    back (goal.at.returns-then-d-eq1-3 c).Else-uploaded-n _ _ _ c.if-d-eq1-3.true c.in_2048.ensures
+    let k = back (goal.at.returns-then-d-eq1-3 c).Else-uploaded-n _ _ _ c.if-d-eq1-3.true c.in_2048.ensures in record { lent = k.0; direct = k.1 }
 
 pub in_2048-requires-then-n-le2048 : goal.in_2048-requires-then-n-le2048
 in_2048-requires-then-n-le2048 c = (lent (goal.at.in_2048-requires-then-n-le2048 c).Else-uploaded-n, omega (arith, places (goal.at.in_2048-requires-then-n-le2048 c).Else-uploaded-n, c.if-n-le2048.true))
@@ -151,7 +151,7 @@ in_4096-requires c =
 
 pub returns-then-d-eq1-4 : goal.returns-then-d-eq1-4
 returns-then-d-eq1-4 c =
-    back (goal.at.returns-then-d-eq1-4 c).Else-uploaded-n _ _ _ c.if-d-eq1-4.true c.in_4096.ensures
+    let k = back (goal.at.returns-then-d-eq1-4 c).Else-uploaded-n _ _ _ c.if-d-eq1-4.true c.in_4096.ensures in record { lent = k.0; direct = k.1 }
 
 pub in_4096-requires-then-n-le4096 : goal.in_4096-requires-then-n-le4096
 in_4096-requires-then-n-le4096 c = (lent (goal.at.in_4096-requires-then-n-le4096 c).Else-uploaded-n, omega (arith, places (goal.at.in_4096-requires-then-n-le4096 c).Else-uploaded-n, c.if-n-le4096.true))
@@ -168,7 +168,7 @@ in_8192-requires c =
 
 pub returns-then-d-eq1-5 : goal.returns-then-d-eq1-5
 returns-then-d-eq1-5 c =
-    back (goal.at.returns-then-d-eq1-5 c).Else-uploaded-n _ _ _ c.if-d-eq1-5.true c.in_8192.ensures
+    let k = back (goal.at.returns-then-d-eq1-5 c).Else-uploaded-n _ _ _ c.if-d-eq1-5.true c.in_8192.ensures in record { lent = k.0; direct = k.1 }
 
 pub in_8192-requires-then-n-le8192 : goal.in_8192-requires-then-n-le8192
 in_8192-requires-then-n-le8192 c = (lent (goal.at.in_8192-requires-then-n-le8192 c).Else-uploaded-n, omega (arith, places (goal.at.in_8192-requires-then-n-le8192 c).Else-uploaded-n, c.if-n-le8192.true))
@@ -185,7 +185,7 @@ in_16384-requires c =
 
 pub returns-then-d-eq1-6 : goal.returns-then-d-eq1-6
 returns-then-d-eq1-6 c =
-    back (goal.at.returns-then-d-eq1-6 c).Else-uploaded-n _ _ _ c.if-d-eq1-6.true c.in_16384.ensures
+    let k = back (goal.at.returns-then-d-eq1-6 c).Else-uploaded-n _ _ _ c.if-d-eq1-6.true c.in_16384.ensures in record { lent = k.0; direct = k.1 }
 
 pub in_16384-requires-then-n-le16384 : goal.in_16384-requires-then-n-le16384
 in_16384-requires-then-n-le16384 c = (lent (goal.at.in_16384-requires-then-n-le16384 c).Else-uploaded-n, omega (arith, places (goal.at.in_16384-requires-then-n-le16384 c).Else-uploaded-n, c.if-n-le16384.true))
@@ -201,7 +201,7 @@ in_32768-requires c = one 32768 (goal.at.in_32768-requires c).Else-uploaded-n (f
 
 pub returns-then-d-eq1-7 : goal.returns-then-d-eq1-7
 returns-then-d-eq1-7 c =
-    back (goal.at.returns-then-d-eq1-7 c).Else-uploaded-n _ _ _ c.if-d-eq1-7.true c.in_32768.ensures
+    let k = back (goal.at.returns-then-d-eq1-7 c).Else-uploaded-n _ _ _ c.if-d-eq1-7.true c.in_32768.ensures in record { lent = k.0; direct = k.1 }
 
 pub in_32768-requires-2 : goal.in_32768-requires-2
 in_32768-requires-2 c = (lent (goal.at.in_32768-requires-2 c).Else-uploaded-n, few (goal.at.in_32768-requires-2 c).Else-uploaded-n)

@@ -1,6 +1,6 @@
 -- The goals that the search leaves. Assumes nothing.
 use mathlib.Core.Path.{◌≡◌, subst, subst⁻¹}
-use mathlib.Core.Logic.{⊎_elim, ◌⊎◌, inl, inr}
+use mathlib.Core.Logic.{⊎_elim, inl, inr}
 use Prim.Native.Nat.{ℕ, ◌+◌, ◌<◌, ◌≤◌}
 use native.Mathlib.Nat.{lt_trans}
 use native.Mathlib.Omega.{arith}
