@@ -28,8 +28,12 @@ loop-p-init c =
 
 pub write_cell-requires : goal.write_cell-requires
 write_cell-requires c =
-    let t = c.requires.0 in
-    (record { dimension = t.dimension; long = t.long; number = c.loop-p-test.true }, c.requires.1, t.cells, fits (goal.at.write_cell-requires c).In-loop-p)
+    let t = c.requires.0 in (
+      record { dimension = t.dimension; long = t.long; number = c.loop-p-test.true },
+      c.requires.1,
+      t.cells,
+      fits (goal.at.write_cell-requires c).In-loop-p,
+    )
 
 pub overflow_add-at : goal.overflow_add-at
 overflow_add-at c =
