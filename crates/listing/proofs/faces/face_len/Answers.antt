@@ -24,7 +24,7 @@ few : (c : After-fill_fields-n) → c.fill_fields-n.result ≤ 8
 few c = omega (arith, c.fill_fields-n.ensures.upper_bound, c.requires.0.dimension)
 
 inside : (c : After-fill_fields-n) → c.fill_fields-n.result ≤ length (row c)
-inside c = omega (arith, few c, c.fill_fields-n.auto.1.1.1.1.1.1.0, length-replicate {A = ℕ} 8 0)
+inside c = omega (arith, few c, c.fill_fields-n.auto.row, length-replicate {A = ℕ} 8 0)
 
 long : (c : After-fill_fields-n) → length (take c.fill_fields-n.result (row c)) ≡ c.fill_fields-n.result
 long c = length-take-le c.fill_fields-n.result (row c) (inside c)
@@ -51,4 +51,4 @@ pub overflow_add-result : goal.overflow_add-result
 overflow_add-result c = omega (arith, (size c).1)
 
 pub returns : goal.returns
-returns c = size c
+returns c = let s = size c in record { value = s.0; upper_bound = s.1 }

@@ -15,7 +15,7 @@ abbrev filled : After-fill_row → List ℕ
 filled c = c.fill_row.new.row
 
 long : (c : After-fill_row) → length (filled c) ≡ length c.args.row.now
-long c = c.fill_row.auto.1.1.1.1.1.0
+long c = c.fill_row.auto.row
 
 abbrev face : Start → Cell
 face s = let a = s.args in face_at a.d a.table.now a.p a.a

@@ -21,7 +21,7 @@ few : (c : After-fill_fields-n) → c.fill_fields-n.result ≤ 8
 few c = omega (arith, c.fill_fields-n.ensures.upper_bound, c.requires.0.dimension)
 
 inside : (c : After-fill_fields-n) → c.fill_fields-n.result ≤ length c.fill_fields-n.new.row
-inside c = omega (arith, few c, c.fill_fields-n.auto.1.1.1.1.1.1.0, length-replicate {A = ℕ} 8 0)
+inside c = omega (arith, few c, c.fill_fields-n.auto.row, length-replicate {A = ℕ} 8 0)
 
 long : (c : After-fill_fields-n) → length (row c) ≡ c.fill_fields-n.result
 long c = length-take-le c.fill_fields-n.result _ (inside c)
