@@ -1,6 +1,5 @@
 -- The goals that the search leaves. Assumes nothing.
 use mathlib.Core.List.{List}
-use mathlib.Core.Logic.{⊎_elim}
 use mathlib.Core.Path.{◌≡◌, sym, ap, ◌∙◌}
 use Prim.Native.Nat.{ℕ, ◌-◌}
 use native.Mathlib.Omega.{arith}
@@ -10,10 +9,10 @@ use Rattle.words.specs.Inner.Placed.{placed}
 use Rattle.words.proofs.Placed.{placed-none}
 use Rattle.gathering.proofs.Blanks.{list_more, list_no_more}
 use Rattle.gathering.proofs.blank.store.Goals as goal
-use Rattle.gathering.proofs.blank.store.Goals.{Start}
+use Rattle.gathering.proofs.blank.store.Goals.{Start, else-j-n, then-j-n}
 
-long : (s : Start) → length (take s.args.n s.args.t2) ≡ s.args.n
-long s = length-take-le s.args.n s.args.t2 (omega arith)
+long : (s : Start) → length (take s.args.n s.args.row) ≡ s.args.n
+long s = length-take-le s.args.n s.args.row (omega arith)
 
 pub loop-j-init : goal.loop-j-init
 loop-j-init c = (omega arith, omega arith, sym (placed-none _ _))
@@ -44,11 +43,19 @@ loop-j-preserved c =
     let l = c.loop-j in
     let a = c.args in (
       omega arith,
-      ⊎_elim (λ w. ap length w.1 ∙ length-set l.table _ _ ∙ l.invariant.1) (λ w. ap length w.1 ∙ l.invariant.1) c.if-j-n.branch,
-      ⊎_elim (λ w. list_more a.n a.to l.j (take a.n a.t2) a.table.now l.table c.if-j-n.table (long (goal.at.loop-j-preserved c).Start) c.requires.2
-          l.invariant.2 _ (sym (get_or-take a.n a.t2 l.j 0 w.0.true)) w.0.true w.1)
-          (λ w. list_no_more a.n a.to l.j (take a.n a.t2) a.table.now l.table c.if-j-n.table (long (goal.at.loop-j-preserved c).Start) c.requires.2
-          l.invariant.2 w.0.left w.1) c.if-j-n.branch,
+      elim c.if-j-n.branch [
+        | then-j-n w ↦ ap length w.table-is ∙ length-set l.table _ _ ∙ l.invariant.1
+        | else-j-n w ↦ ap length w.table-is
+            ∙ l.invariant.1
+      ],
+      elim c.if-j-n.branch [
+        | then-j-n w ↦ list_more a.n a.to l.j (take a.n a.row) a.table.now l.table c.if-j-n.table (long (goal.at.loop-j-preserved c).Start)
+            c.requires.2
+            l.invariant.2 _ (sym (get_or-take a.n a.row l.j 0 w.if-j-n.true)) w.if-j-n.true w.table-is
+        | else-j-n w ↦ list_no_more a.n a.to l.j (take a.n a.row) a.table.now l.table c.if-j-n.table (long (goal.at.loop-j-preserved c).Start)
+            c.requires.2
+            l.invariant.2 w.if-j-n.false w.table-is
+      ],
     )
 
 pub shape_of-table : goal.shape_of-table
@@ -58,4 +65,5 @@ pub returns : goal.returns
 returns c =
     let l = c.loop-j in
     let a = c.args in
-    l.invariant.2 ∙ ap (λ (t : List ℕ). placed a.to t a.table.now) (take_all l.j (take a.n a.t2) (omega (arith, long (goal.at.returns c).Start, c.requires.0)))
+    l.invariant.2 ∙ ap (λ (t : List ℕ). placed a.to t a.table.now)
+    (take_all l.j (take a.n a.row) (omega (arith, long (goal.at.returns c).Start, c.requires.0)))

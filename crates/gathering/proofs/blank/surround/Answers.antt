@@ -22,7 +22,7 @@ offset_bounds-table-at-2 c = omega arith
 pub bounds-table-at-2 : goal.bounds-table-at-2
 bounds-table-at-2 c =
     let a = (c.args) in
-    omega (arith, length-set a.table.now a.at c.sign_word_lem.result)
+    omega (arith, length-set a.table.now a.at c.sign_word.result)
 
 pub overflow_add-d : goal.overflow_add-d
 overflow_add-d c = omega arith
@@ -33,17 +33,12 @@ overflow_add-at c = omega arith
 pub clear-requires : goal.clear-requires
 clear-requires c =
     let a = c.args in
-    let one = length-set a.table.now a.at c.sign_word_lem.result in
-    let two = length-set (set a.table.now a.at c.sign_word_lem.result) (a.at + material_place) a.material in
+    let one = length-set a.table.now a.at c.sign_word.result in
+    let two = length-set (set a.table.now a.at c.sign_word.result) (a.at + material_place) a.material in
     (omega arith, omega (arith, one, two, c.requires.1, c.first_wing.ensures))
-
-pub shape_of-table : goal.shape_of-table
-shape_of-table c =
-    let a = c.args in
-    ap length (returns c) ∙ around_long a.d a.sign a.material a.at a.table.now c.requires.1
 
 pub returns : goal.returns
 returns c =
     let a = c.args in
-    around a.d a.sign a.material a.at a.table.now c.requires.1 _ _ _ c.sign_word_lem.ensures c.first_wing.ensures
+    around a.d a.sign a.material a.at a.table.now c.requires.1 _ _ _ c.sign_word.ensures c.first_wing.ensures
     c.clear.ensures

@@ -34,10 +34,10 @@ loop-p-init c =
 pub gather_cell-fine-requires : goal.gather_cell-fine-requires
 gather_cell-fine-requires c =
     let a = c.args in
-    let l = c.loop-p in (
-      (omega arith, omega arith, omega (arith, c.requires.2, record_fits (list_size a.d) a.s l.p c.loop-p-test.true)),
-      omega (arith, c.requires.3, l.invariant.1.same, record_fits (record_size a.d) a.s l.p c.loop-p-test.true),
-    )
+    let l = c.loop-p in record {
+      d_bound = (omega arith, omega arith, omega (arith, c.requires.2, record_fits (list_size a.d) a.s l.p c.loop-p-test.true));
+      d_in_bounds = omega (arith, c.requires.3, l.invariant.1.same, record_fits (record_size a.d) a.s l.p c.loop-p-test.true);
+    }
 
 pub overflow_add-p : goal.overflow_add-p
 overflow_add-p c = omega arith

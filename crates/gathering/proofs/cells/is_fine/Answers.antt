@@ -1,9 +1,9 @@
 -- The goals that the search leaves. Assumes nothing.
-use mathlib.Core.Logic.{⊎_elim}
 use Prim.Native.Nat.{◌-◌}
 use native.Mathlib.Omega.{arith}
 use Rattle.gathering.proofs.FineCells.{climbed_more, climbed_no_more, climbed_none, fine_row}
 use Rattle.gathering.proofs.cells.is_fine.Goals as goal
+use Rattle.gathering.proofs.cells.is_fine.Goals.{else-j-d, then-j-d}
 
 pub bounds-row-0 : goal.bounds-row-0
 bounds-row-0 c = omega arith
@@ -46,12 +46,14 @@ loop-j-preserved c =
     let l = c.loop-j in
     let a = c.args in (
       omega arith,
-      ⊎_elim (λ w. climbed_more a.d l.j a.t3 _ _ _ _ l.invariant.1 w.0.true w.1 w.2)
-          (λ w. climbed_no_more a.d l.j a.t3 _ _ _ _ l.invariant.1 w.0.left w.1 w.2) c.if-j-d.branch,
+      elim c.if-j-d.branch [
+        | then-j-d w ↦ climbed_more a.d l.j a.row _ _ _ _ l.invariant.1 w.if-j-d.true w.up-is w.last-is
+        | else-j-d w ↦ climbed_no_more a.d l.j a.row _ _ _ _ l.invariant.1 w.if-j-d.false w.up-is w.last-is
+      ],
     )
 
 pub returns : goal.returns
-returns c =
+returns c = λ e.
     let a = c.args in
     let l = c.loop-j in
-    fine_row a.d a.v a.material l.j a.t3 l.up l.last c.wide.result l.invariant.1 (omega arith) c.wide.ensures e
+    fine_row a.d a.v a.material l.j a.row l.up l.last c.wide.result l.invariant.1 (omega arith) c.wide.ensures e
