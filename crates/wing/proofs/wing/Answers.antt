@@ -21,7 +21,8 @@ buffer c = c.wing_table.new.table
 
 left : (c : In-Written) → TableLeft (told (goal.at.In-Written c).After-wing_table) c.in-Written.n (buffer c)
 left c =
-    table_left (told (goal.at.In-Written c).After-wing_table) _ (buffer c) _ c.in-Written.n c.wing_table.ensures.answer c.wing_table.ensures.table (ap outcome_of c.in-Written.is)
+    table_left (told (goal.at.In-Written c).After-wing_table) _ (buffer c) _ c.in-Written.n c.wing_table.ensures.answer
+    c.wing_table.ensures.table (ap outcome_of c.in-Written.is)
 
 pub slice_bounds-write_uploaded-end : goal.slice_bounds-write_uploaded-end
 slice_bounds-write_uploaded-end c = (left (goal.at.slice_bounds-write_uploaded-end c).In-Written).fits
@@ -35,10 +36,11 @@ write_uploaded-requires c = let l = left (goal.at.write_uploaded-requires c).In-
 pub returns-in-Written : goal.returns-in-Written
 returns-in-Written c =
     let i = told (goal.at.returns-in-Written c).After-wing_table in
+    let l = left (goal.at.returns-in-Written c).In-Written in
     record {
-      answer = sym (left (goal.at.returns-in-Written c).In-Written).told;
+      answer = sym l.told;
       table = c.wing_table.ensures.table;
-      uploaded = uploaded_put i _ _ _ _ (left (goal.at.returns-in-Written c).In-Written).told (left (goal.at.returns-in-Written c).In-Written).front c.write_uploaded.ensures;
+      uploaded = uploaded_put i _ _ _ _ l.told l.front c.write_uploaded.ensures;
     }
 
 pub returns-in-Refused : goal.returns-in-Refused

@@ -45,7 +45,9 @@ list_words-requires c = let l = limits c in (l.dimension, l.cells)
 pub returns-then-differ : goal.returns-then-differ
 unfolding wing_rules
 returns-then-differ c =
-    let r = refuses _ _ 3 (rw (two-passes (goal.at.returns-then-differ c).Else-not-within, three (goal.at.returns-then-differ c).After-differ ∙ c.if-differ.true) refl) in
+    let two = two-passes (goal.at.returns-then-differ c).Else-not-within in
+    let three = three (goal.at.returns-then-differ c).After-differ ∙ c.if-differ.true in
+    let r = refuses _ _ 3 (rw (two, three) refl) in
     record { answer = r.0; table = r.1 }
 
 pub write_table-requires : goal.write_table-requires
@@ -55,5 +57,7 @@ write_table-requires c =
 
 pub returns : goal.returns
 returns c =
-    let r = passes _ _ _ _ _ _ (two-passes (goal.at.returns c).Else-not-within) (three-passes (goal.at.returns c).Else-differ) _ _ c.write_table.ensures.answer c.write_table.ensures.table in
+    let two = two-passes (goal.at.returns c).Else-not-within in
+    let three = three-passes (goal.at.returns c).Else-differ in
+    let r = passes _ _ _ _ _ _ two three _ _ c.write_table.ensures.answer c.write_table.ensures.table in
     record { answer = r.0; table = r.1 }

@@ -1,5 +1,5 @@
 -- The goals that the search leaves. Assumes nothing.
-use Rattle.std.proofs.Common.{◌≡◌, ℕ, ◌+◌, ◌-◌, ◌<◌, length, sym, ap, ◌∙◌, ap₂, not-suc-le-zero, arith}
+use Rattle.std.proofs.Common.{◌≡◌, ℕ, ◌+◌, ◌<◌, length, sym, ap, ◌∙◌, ap₂, not-suc-le-zero, arith}
 use Rattle.sweeping.specs.Inner.Across.{face_first, face_back, side_word}
 use Rattle.sweeping.specs.Inner.PrismPlaces.{side_at}
 use Rattle.sweeping.specs.Inner.SweptWords.{prism_words, solid_wing}

@@ -1,5 +1,5 @@
 -- The goals that the search leaves. Assumes nothing.
-use Rattle.std.proofs.Common.{ℕ, ◌-◌, not-suc-le-zero, arith}
+use Rattle.std.proofs.Common.{ℕ, not-suc-le-zero, arith}
 use Rattle.sweeping.specs.Inner.PrismPlaces.{side_at}
 use Rattle.sweeping.specs.Inner.SweptWords.{prism_words}
 use Rattle.sweeping.proofs.Filling.{kept-none, kept_then, rights_more}

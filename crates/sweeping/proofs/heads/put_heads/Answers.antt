@@ -1,5 +1,5 @@
 -- The goals that the search leaves. Assumes nothing.
-use Rattle.std.proofs.Common.{◌-◌, not-suc-le-zero, arith}
+use Rattle.std.proofs.Common.{not-suc-le-zero, arith}
 use Rattle.sweeping.proofs.Filling.{kept-none, kept_then}
 use Rattle.sweeping.proofs.PrismWords.{heads_more}
 use Rattle.sweeping.proofs.heads.put_heads.Goals as goal

@@ -1,5 +1,5 @@
 -- The goals that the search leaves. Assumes nothing.
-use Rattle.std.proofs.Common.{◌≡◌, ◌+◌, ◌-◌, ◌*◌, ◌<◌, ◌≤◌, length, zero-mul, arith, length-set}
+use Rattle.std.proofs.Common.{◌≡◌, ◌+◌, ◌*◌, ◌<◌, ◌≤◌, length, zero-mul, arith, length-set}
 use Rattle.words.proofs.Records.{record_next, record_fits}
 use Rattle.sweeping.specs.Inner.Raising.{prism_size}
 use Rattle.sweeping.proofs.Joining.{joined-none, joined_more, bottom, top, bottom-inside, top-inside}

@@ -1,5 +1,5 @@
 -- The goals that the search leaves. Assumes nothing.
-use Rattle.std.proofs.Common.{◌≡◌, ◌+◌, ◌-◌, ◌<◌, ap, ◌∙◌, add-one, arith}
+use Rattle.std.proofs.Common.{◌≡◌, ◌+◌, ◌<◌, ap, ◌∙◌, add-one, arith}
 use Rattle.prism.specs.Cells.{at_level}
 use Rattle.sweeping.specs.Inner.SweptWords.{solid_vertex}
 use Rattle.sweeping.proofs.Columns.{column-low, column_high, columns_all, columns_more, columns_none}

@@ -1,5 +1,5 @@
 -- The goals that the search leaves. Assumes nothing.
-use Rattle.std.proofs.Common.{ℕ, ◌-◌, List, length, ap, arith}
+use Rattle.std.proofs.Common.{ℕ, List, length, ap, arith}
 use Rattle.words.proofs.Writing.{left_starts, left_record, left_record_fits, left_records}
 use Rattle.sweeping.specs.Inner.SweptWords.{prism_words}
 use Rattle.sweeping.proofs.SweptWords.{level_is}

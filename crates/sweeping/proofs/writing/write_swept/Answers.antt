@@ -1,5 +1,5 @@
 -- The goals that the search leaves. Assumes nothing.
-use Rattle.std.proofs.Common.{◌≡◌, ℕ, suc, ◌+◌, ◌-◌, ◌*◌, ◌<◌, ◌≤◌, List, length, get_or, drop, sym, refl, ap, ◌∙◌, mul-le-mul_right, zero-mul, arith}
+use Rattle.std.proofs.Common.{◌≡◌, ℕ, suc, ◌+◌, ◌*◌, ◌<◌, ◌≤◌, List, length, get_or, drop, sym, refl, ap, ◌∙◌, mul-le-mul_right, zero-mul, arith}
 use Rattle.words.specs.Records.{tabulate, concat, part}
 use Rattle.words.specs.Inner.Placed.{placed}
 use Rattle.words.proofs.Records.{part_tabulated, record_next, record_fits}

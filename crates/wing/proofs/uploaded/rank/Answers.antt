@@ -1,6 +1,5 @@
 -- The goals that the search leaves. Assumes nothing.
 use mathlib.Core.Path.{◌∙◌}
-use Prim.Native.Nat.{◌-◌}
 use native.Mathlib.Omega.{arith}
 use Rattle.wing.proofs.Ranks.{rank_all, rank_behind, rank_over, rank_under}
 use Rattle.wing.proofs.uploaded.rank.Goals as goal
