@@ -20,7 +20,8 @@ link_all-requires c =
     let e = c.gather.ensures.table in (
       begins a.d a.s _ _ a.head.now a.next.now
           (record { dimension = c.requires.le_d.1; cells = c.requires.le_d.2; long = c.gather.auto.table ∙ c.requires.le_d.4 })
-          (omega (arith, c.hashes.ensures.long, c.requires.d_in_bounds.0)) c.requires.d_in_bounds.1 c.requires.d_in_bounds.2 c.requires.d_in_bounds.3 c.hashes.ensures.hashed
+          (omega (arith, c.hashes.ensures.long, c.requires.d_in_bounds.0)) c.requires.d_in_bounds.1 c.requires.d_in_bounds.2 c.requires.d_in_bounds.3
+          c.hashes.ensures.hashed
           c.requires.by_index
           (λ p b hp hb. ap (λ ws. wing_in a.d ws p b) e ∙ blank_wing a.d a.s a.cells.now c.requires.le_d.3 p hp b hb),
       c.wings_words.ensures,

@@ -77,7 +77,8 @@ pub list_words-requires : goal.list_words-requires
 list_words-requires c = let l = limits c in (l.dimension, l.cells)
 
 pub overflow_mul-list_words : goal.overflow_mul-list_words
-overflow_mul-list_words c = let l = limits (goal.at.overflow_mul-list_words c).Else-not-within in omega (arith, c.list_words.ensures, list_fits _ _ l.dimension l.cells)
+overflow_mul-list_words c = let l = limits (goal.at.overflow_mul-list_words c).Else-not-within in
+    omega (arith, c.list_words.ensures, list_fits _ _ l.dimension l.cells)
 
 pub returns-then-cells-list_words : goal.returns-then-cells-list_words
 returns-then-cells-list_words c = let k = kept (goal.at.returns-then-cells-list_words c).Start in record { lent = k.0; direct = k.1 }
@@ -96,14 +97,18 @@ returns-then-uploaded-n c = let k = kept (goal.at.returns-then-uploaded-n c).Sta
 
 pub in_512-requires : goal.in_512-requires
 in_512-requires c =
-    one 512 (goal.at.in_512-requires c).Else-uploaded-n (omega (arith, places (goal.at.in_512-requires c).Else-uploaded-n, c.if-n-le512.true)) c.if-d-eq1.true
+    one 512 (goal.at.in_512-requires c).Else-uploaded-n (omega (arith, places (goal.at.in_512-requires c).Else-uploaded-n, c.if-n-le512.true))
+    c.if-d-eq1.true
 
 pub returns-then-d-eq1 : goal.returns-then-d-eq1
 returns-then-d-eq1 c =
     let k = back (goal.at.returns-then-d-eq1 c).Else-uploaded-n _ _ _ c.if-d-eq1.true c.in_512.ensures in record { lent = k.0; direct = k.1 }
 
 pub in_512-requires-then-n-le512 : goal.in_512-requires-then-n-le512
-in_512-requires-then-n-le512 c = (lent (goal.at.in_512-requires-then-n-le512 c).Else-uploaded-n, omega (arith, places (goal.at.in_512-requires-then-n-le512 c).Else-uploaded-n, c.if-n-le512.true))
+in_512-requires-then-n-le512 c = (
+  lent (goal.at.in_512-requires-then-n-le512 c).Else-uploaded-n,
+  omega (arith, places (goal.at.in_512-requires-then-n-le512 c).Else-uploaded-n, c.if-n-le512.true),
+)
 
 pub returns-then-n-le512 : goal.returns-then-n-le512
 returns-then-n-le512 c = record {
@@ -113,14 +118,18 @@ returns-then-n-le512 c = record {
 
 pub in_1024-requires : goal.in_1024-requires
 in_1024-requires c =
-    one 1024 (goal.at.in_1024-requires c).Else-uploaded-n (omega (arith, places (goal.at.in_1024-requires c).Else-uploaded-n, c.if-n-le1024.true)) c.if-d-eq1-2.true
+    one 1024 (goal.at.in_1024-requires c).Else-uploaded-n (omega (arith, places (goal.at.in_1024-requires c).Else-uploaded-n, c.if-n-le1024.true))
+    c.if-d-eq1-2.true
 
 pub returns-then-d-eq1-2 : goal.returns-then-d-eq1-2
 returns-then-d-eq1-2 c =
     let k = back (goal.at.returns-then-d-eq1-2 c).Else-uploaded-n _ _ _ c.if-d-eq1-2.true c.in_1024.ensures in record { lent = k.0; direct = k.1 }
 
 pub in_1024-requires-then-n-le1024 : goal.in_1024-requires-then-n-le1024
-in_1024-requires-then-n-le1024 c = (lent (goal.at.in_1024-requires-then-n-le1024 c).Else-uploaded-n, omega (arith, places (goal.at.in_1024-requires-then-n-le1024 c).Else-uploaded-n, c.if-n-le1024.true))
+in_1024-requires-then-n-le1024 c = (
+  lent (goal.at.in_1024-requires-then-n-le1024 c).Else-uploaded-n,
+  omega (arith, places (goal.at.in_1024-requires-then-n-le1024 c).Else-uploaded-n, c.if-n-le1024.true),
+)
 
 pub returns-then-n-le1024 : goal.returns-then-n-le1024
 returns-then-n-le1024 c = record {
@@ -130,14 +139,18 @@ returns-then-n-le1024 c = record {
 
 pub in_2048-requires : goal.in_2048-requires
 in_2048-requires c =
-    one 2048 (goal.at.in_2048-requires c).Else-uploaded-n (omega (arith, places (goal.at.in_2048-requires c).Else-uploaded-n, c.if-n-le2048.true)) c.if-d-eq1-3.true
+    one 2048 (goal.at.in_2048-requires c).Else-uploaded-n (omega (arith, places (goal.at.in_2048-requires c).Else-uploaded-n, c.if-n-le2048.true))
+    c.if-d-eq1-3.true
 
 pub returns-then-d-eq1-3 : goal.returns-then-d-eq1-3
 returns-then-d-eq1-3 c =
     let k = back (goal.at.returns-then-d-eq1-3 c).Else-uploaded-n _ _ _ c.if-d-eq1-3.true c.in_2048.ensures in record { lent = k.0; direct = k.1 }
 
 pub in_2048-requires-then-n-le2048 : goal.in_2048-requires-then-n-le2048
-in_2048-requires-then-n-le2048 c = (lent (goal.at.in_2048-requires-then-n-le2048 c).Else-uploaded-n, omega (arith, places (goal.at.in_2048-requires-then-n-le2048 c).Else-uploaded-n, c.if-n-le2048.true))
+in_2048-requires-then-n-le2048 c = (
+  lent (goal.at.in_2048-requires-then-n-le2048 c).Else-uploaded-n,
+  omega (arith, places (goal.at.in_2048-requires-then-n-le2048 c).Else-uploaded-n, c.if-n-le2048.true),
+)
 
 pub returns-then-n-le2048 : goal.returns-then-n-le2048
 returns-then-n-le2048 c = record {
@@ -147,14 +160,18 @@ returns-then-n-le2048 c = record {
 
 pub in_4096-requires : goal.in_4096-requires
 in_4096-requires c =
-    one 4096 (goal.at.in_4096-requires c).Else-uploaded-n (omega (arith, places (goal.at.in_4096-requires c).Else-uploaded-n, c.if-n-le4096.true)) c.if-d-eq1-4.true
+    one 4096 (goal.at.in_4096-requires c).Else-uploaded-n (omega (arith, places (goal.at.in_4096-requires c).Else-uploaded-n, c.if-n-le4096.true))
+    c.if-d-eq1-4.true
 
 pub returns-then-d-eq1-4 : goal.returns-then-d-eq1-4
 returns-then-d-eq1-4 c =
     let k = back (goal.at.returns-then-d-eq1-4 c).Else-uploaded-n _ _ _ c.if-d-eq1-4.true c.in_4096.ensures in record { lent = k.0; direct = k.1 }
 
 pub in_4096-requires-then-n-le4096 : goal.in_4096-requires-then-n-le4096
-in_4096-requires-then-n-le4096 c = (lent (goal.at.in_4096-requires-then-n-le4096 c).Else-uploaded-n, omega (arith, places (goal.at.in_4096-requires-then-n-le4096 c).Else-uploaded-n, c.if-n-le4096.true))
+in_4096-requires-then-n-le4096 c = (
+  lent (goal.at.in_4096-requires-then-n-le4096 c).Else-uploaded-n,
+  omega (arith, places (goal.at.in_4096-requires-then-n-le4096 c).Else-uploaded-n, c.if-n-le4096.true),
+)
 
 pub returns-then-n-le4096 : goal.returns-then-n-le4096
 returns-then-n-le4096 c = record {
@@ -164,14 +181,18 @@ returns-then-n-le4096 c = record {
 
 pub in_8192-requires : goal.in_8192-requires
 in_8192-requires c =
-    one 8192 (goal.at.in_8192-requires c).Else-uploaded-n (omega (arith, places (goal.at.in_8192-requires c).Else-uploaded-n, c.if-n-le8192.true)) c.if-d-eq1-5.true
+    one 8192 (goal.at.in_8192-requires c).Else-uploaded-n (omega (arith, places (goal.at.in_8192-requires c).Else-uploaded-n, c.if-n-le8192.true))
+    c.if-d-eq1-5.true
 
 pub returns-then-d-eq1-5 : goal.returns-then-d-eq1-5
 returns-then-d-eq1-5 c =
     let k = back (goal.at.returns-then-d-eq1-5 c).Else-uploaded-n _ _ _ c.if-d-eq1-5.true c.in_8192.ensures in record { lent = k.0; direct = k.1 }
 
 pub in_8192-requires-then-n-le8192 : goal.in_8192-requires-then-n-le8192
-in_8192-requires-then-n-le8192 c = (lent (goal.at.in_8192-requires-then-n-le8192 c).Else-uploaded-n, omega (arith, places (goal.at.in_8192-requires-then-n-le8192 c).Else-uploaded-n, c.if-n-le8192.true))
+in_8192-requires-then-n-le8192 c = (
+  lent (goal.at.in_8192-requires-then-n-le8192 c).Else-uploaded-n,
+  omega (arith, places (goal.at.in_8192-requires-then-n-le8192 c).Else-uploaded-n, c.if-n-le8192.true),
+)
 
 pub returns-then-n-le8192 : goal.returns-then-n-le8192
 returns-then-n-le8192 c = record {
@@ -181,14 +202,18 @@ returns-then-n-le8192 c = record {
 
 pub in_16384-requires : goal.in_16384-requires
 in_16384-requires c =
-    one 16384 (goal.at.in_16384-requires c).Else-uploaded-n (omega (arith, places (goal.at.in_16384-requires c).Else-uploaded-n, c.if-n-le16384.true)) c.if-d-eq1-6.true
+    one 16384 (goal.at.in_16384-requires c).Else-uploaded-n (omega (arith, places (goal.at.in_16384-requires c).Else-uploaded-n, c.if-n-le16384.true))
+    c.if-d-eq1-6.true
 
 pub returns-then-d-eq1-6 : goal.returns-then-d-eq1-6
 returns-then-d-eq1-6 c =
     let k = back (goal.at.returns-then-d-eq1-6 c).Else-uploaded-n _ _ _ c.if-d-eq1-6.true c.in_16384.ensures in record { lent = k.0; direct = k.1 }
 
 pub in_16384-requires-then-n-le16384 : goal.in_16384-requires-then-n-le16384
-in_16384-requires-then-n-le16384 c = (lent (goal.at.in_16384-requires-then-n-le16384 c).Else-uploaded-n, omega (arith, places (goal.at.in_16384-requires-then-n-le16384 c).Else-uploaded-n, c.if-n-le16384.true))
+in_16384-requires-then-n-le16384 c = (
+  lent (goal.at.in_16384-requires-then-n-le16384 c).Else-uploaded-n,
+  omega (arith, places (goal.at.in_16384-requires-then-n-le16384 c).Else-uploaded-n, c.if-n-le16384.true),
+)
 
 pub returns-then-n-le16384 : goal.returns-then-n-le16384
 returns-then-n-le16384 c = record {

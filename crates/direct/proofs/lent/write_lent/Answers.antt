@@ -46,7 +46,8 @@ pub returns-then-try_table : goal.returns-then-try_table
 returns-then-try_table c =
     let a = c.args in
     let made = c.try_table.ensures.made c.if-try_table.true in
-    direct_writes a.d a.v a.s a.cells.now a.table.now a.uploaded.now _ _ _ _ c.requires.lent.0.size (whole (goal.at.returns-then-try_table c).After-decode)
+    direct_writes a.d a.v a.s a.cells.now a.table.now a.uploaded.now _ _ _ _ c.requires.lent.0.size
+    (whole (goal.at.returns-then-try_table c).After-decode)
     made.0 made.1 c.encode.ensures c.uploaded_bytes.ensures
 
 pub returns : goal.returns

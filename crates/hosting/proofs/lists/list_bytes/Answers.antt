@@ -23,7 +23,8 @@ four c = ap not (sym c.all_in_range.ensures ∙ c.if-not-all_in_range.false)
 pub returns-then-not-numbers_fit : goal.returns-then-not-numbers_fit
 returns-then-not-numbers_fit c =
     let a = c.args in
-    let both = list_2 a.version a.d a.n a.v a.s a.table.now a.points.now a.text.now (ap not (sym c.numbers_fit.ensures ∙ c.if-not-numbers_fit.true)) in
+    let both = list_2 a.version a.d a.n a.v a.s a.table.now a.points.now a.text.now (ap not (sym c.numbers_fit.ensures ∙ c.if-not-numbers_fit.true))
+    in
     record { answer = both.0; buffer = both.1 }
 
 pub lengths_fit-requires : goal.lengths_fit-requires
@@ -49,7 +50,8 @@ pub list_decoded-requires : goal.list_decoded-requires
 list_decoded-requires c =
     let a = c.args in
     list_small a.version a.d a.n a.v a.s a.table.now a.points.now
-    (two (goal.at.list_decoded-requires c).Else-not-numbers_fit) (three (goal.at.list_decoded-requires c).Else-not-lengths_fit) (four (goal.at.list_decoded-requires c).Else-not-all_in_range)
+    (two (goal.at.list_decoded-requires c).Else-not-numbers_fit) (three (goal.at.list_decoded-requires c).Else-not-lengths_fit)
+    (four (goal.at.list_decoded-requires c).Else-not-all_in_range)
 
 pub returns : goal.returns
 returns c =

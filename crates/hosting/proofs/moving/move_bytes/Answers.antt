@@ -11,7 +11,8 @@ use Rattle.hosting.specs.Inner.Rooms.{float_room}
 use Rattle.hosting.specs.Moves.{MoveTold, move_told, host_move_rules}
 use Rattle.hosting.proofs.MoveRows.{row2, row3, row4, row5, row12, refuses, limits, ranged, move_small, move_right}
 use Rattle.hosting.proofs.moving.move_bytes.Goals as goal
-use Rattle.hosting.proofs.moving.move_bytes.Goals.{After-less, Else-differ, Else-less, Else-not-floats_fit, Else-not-numbers_fit, Else-step_unfit, Start}
+use Rattle.hosting.proofs.moving.move_bytes.Goals.{After-less, Else-differ, Else-less, Else-not-floats_fit, Else-not-numbers_fit, Else-step_unfit}
+use Rattle.hosting.proofs.moving.move_bytes.Goals.{Start}
 
 abbrev told : Start → MoveTold
 told s = let a = s.args in move_told a.n a.v a.h a.t a.points.now (length a.levels.now / 8)
@@ -63,7 +64,12 @@ pub returns-then-not-floats_fit : goal.returns-then-not-floats_fit
 unfolding host_move_rules
 returns-then-not-floats_fit c =
     let both = refuses (told (goal.at.returns-then-not-floats_fit c).Start) c.args.levels.now 4
-    (rw (two (goal.at.returns-then-not-floats_fit c).Else-not-numbers_fit, three (goal.at.returns-then-not-floats_fit c).Else-differ, sym c.floats_fit.ensures, c.if-not-floats_fit.true)) in
+    (rw (
+      two (goal.at.returns-then-not-floats_fit c).Else-not-numbers_fit,
+      three (goal.at.returns-then-not-floats_fit c).Else-differ,
+      sym c.floats_fit.ensures,
+      c.if-not-floats_fit.true,
+    )) in
     record { answer = both.0; buffer = both.1 }
 
 pub step_unfit-requires : goal.step_unfit-requires
@@ -73,17 +79,31 @@ pub returns-then-step_unfit : goal.returns-then-step_unfit
 unfolding host_move_rules
 returns-then-step_unfit c =
     let both = refuses (told (goal.at.returns-then-step_unfit c).Start) c.args.levels.now 5
-    (rw (two (goal.at.returns-then-step_unfit c).Else-not-numbers_fit, three (goal.at.returns-then-step_unfit c).Else-differ, four (goal.at.returns-then-step_unfit c).Else-not-floats_fit, sym c.step_unfit.ensures, c.if-step_unfit.true)) in
+    (rw (
+      two (goal.at.returns-then-step_unfit c).Else-not-numbers_fit,
+      three (goal.at.returns-then-step_unfit c).Else-differ,
+      four (goal.at.returns-then-step_unfit c).Else-not-floats_fit,
+      sym c.step_unfit.ensures,
+      c.if-step_unfit.true,
+    )) in
     record { answer = both.0; buffer = both.1 }
 
 pub swept_vertices-requires : goal.swept_vertices-requires
-swept_vertices-requires c = let l = limits (told (goal.at.swept_vertices-requires c).Start) (two (goal.at.swept_vertices-requires c).Else-not-numbers_fit) in (l.vertices, l.steps)
+swept_vertices-requires c = let l =
+    limits (told (goal.at.swept_vertices-requires c).Start) (two (goal.at.swept_vertices-requires c).Else-not-numbers_fit) in (l.vertices, l.steps)
 
 pub returns-then-less : goal.returns-then-less
 unfolding host_move_rules
 returns-then-less c =
     let both = refuses (told (goal.at.returns-then-less c).Start) c.args.levels.now 12
-    (rw (two (goal.at.returns-then-less c).Else-not-numbers_fit, three (goal.at.returns-then-less c).Else-differ, four (goal.at.returns-then-less c).Else-not-floats_fit, five (goal.at.returns-then-less c).Else-step_unfit, swept (goal.at.returns-then-less c).After-less, c.if-less.true)) in
+    (rw (
+      two (goal.at.returns-then-less c).Else-not-numbers_fit,
+      three (goal.at.returns-then-less c).Else-differ,
+      four (goal.at.returns-then-less c).Else-not-floats_fit,
+      five (goal.at.returns-then-less c).Else-step_unfit,
+      swept (goal.at.returns-then-less c).After-less,
+      c.if-less.true,
+    )) in
     record { answer = both.0; buffer = both.1 }
 
 pub step_of-requires : goal.step_of-requires
@@ -91,7 +111,9 @@ step_of-requires c = (ranged (told (goal.at.step_of-requires c).Start) (four (go
 
 pub move_sent-requires : goal.move_sent-requires
 move_sent-requires c =
-    move_small (told (goal.at.move_sent-requires c).Start) (two (goal.at.move_sent-requires c).Else-not-numbers_fit) (three (goal.at.move_sent-requires c).Else-differ) (four (goal.at.move_sent-requires c).Else-not-floats_fit) (five (goal.at.move_sent-requires c).Else-step_unfit) (twelve (goal.at.move_sent-requires c).Else-less)
+    move_small (told (goal.at.move_sent-requires c).Start) (two (goal.at.move_sent-requires c).Else-not-numbers_fit)
+    (three (goal.at.move_sent-requires c).Else-differ) (four (goal.at.move_sent-requires c).Else-not-floats_fit)
+    (five (goal.at.move_sent-requires c).Else-step_unfit) (twelve (goal.at.move_sent-requires c).Else-less)
 
 pub returns : goal.returns
 returns c =

@@ -27,7 +27,8 @@ long : (c : After-fill_fields-n) → length (row c) ≡ c.fill_fields-n.result
 long c = length-take-le c.fill_fields-n.result _ (inside c)
 
 -- the line that is put
-whole : (c : After-fill_fields-n) → let a = c.args in face_line a.version (face_at a.d a.table.now a.p a.a) ≡ line (c.sign_byte.result ∷ []) (map digits (row c))
+whole : (c : After-fill_fields-n) → let a = c.args in
+    face_line a.version (face_at a.d a.table.now a.p a.a) ≡ line (c.sign_byte.result ∷ []) (map digits (row c))
 whole c =
     let a = c.args in
     let f = face_at a.d a.table.now a.p a.a in
