@@ -8,6 +8,7 @@ Last line: 'N passed, M failed'.
 
 import os
 import pathlib
+import re
 import resource
 import shutil
 import subprocess
@@ -20,24 +21,28 @@ from common import K1, NOTHING, ROOT, SIX, SQUARE, check, key_of, run, tally
 COMMAND = ROOT / "key"
 REASONS = dict(line.split("\t") for line in (ROOT / "docs" / "refusals.txt").read_text().splitlines())
 # the list of crates beside a program of the tests' own, which needs three of the four
-CRATES = "words:\nrules: words\nother: words rules\nkey: rules io libc\n"
+CRATES = "words:\nrules: words\nother: words rules\nkey: rules io\n"
 
-# what a toolchain says and does: crates proved, one of them before, and, once the file 'go' is there, the program built
+# what a toolchain says and does: two crates proved, and, once the file 'go' is there, the program proved and built
 RT = """#!/bin/sh
-echo once >>runs
-echo 'rt: words proved (unchanged since it was last proved)'
+echo once >>../../runs
+echo 'fn words::word: proved'
+echo 'crate words: modules loaded=236 checked=3'
+echo 'logic=proved functions=8'
 echo 'a note of the prover'
-echo 'rt: rules proved (3 s)'
-until [ -e go ]; do sleep 0.1; done
-mkdir -p target/bin target/stamp
-printf '#!/bin/sh\\necho refused 9\\n' >target/bin/key
-chmod +x target/bin/key
-echo 'rt: key proved (40 s)'
-touch target/stamp/key
+echo 'library words: modules loaded=236 checked=0'
+echo 'crate rules: modules loaded=0 checked=34'
+echo 'logic=proved functions=9'
+until [ -e ../../go ]; do sleep 0.1; done
+mkdir -p out
+printf '#!/bin/sh\\necho refused 9\\n' >out/key
+chmod +x out/key
+echo 'crate key: modules loaded=0 checked=54'
+echo 'logic=proved functions=3'
 """
 RT_FAILS = """#!/bin/sh
-echo 'the prover refused it'
-echo 'rt: words NOT PROVED (exit 1, 2 s)'
+echo 'fn words::word: not proved'
+echo 'rt: the library words did not build, so nothing above it was checked' >&2
 exit 1
 """
 
@@ -130,12 +135,12 @@ def beside(folder, program=None):
     (folder / "docs").mkdir()
     shutil.copy(ROOT / "docs" / "refusals.txt", folder / "docs")
     (folder / "crates.txt").write_text(CRATES)
-    (folder / "crates").mkdir()
-    for part in ("bin", "stamp"):
-        (folder / "target" / part).mkdir(parents=True)
+    (folder / "crates" / "key").mkdir(parents=True)
+    for part in (folder / "target" / "bin", folder / "tools"):
+        part.mkdir(parents=True)
+    shutil.copy(ROOT / "tools" / "build", folder / "tools")
     if program:
         script(folder / "target" / "bin" / "key", program)
-        (folder / "target" / "stamp" / "key").touch()
     return folder / "key"
 
 
@@ -185,16 +190,16 @@ def check_build(folder):
     script(folder / "rt", RT_FAILS)
     env = {**os.environ, "PATH": f"{folder}:{os.environ['PATH']}"}
     log = str(folder / "target" / "key.log").encode()
-    answers("a build that fails", run([command, K1], env=env), 3, b"", b"words NOT PROVED", b"could not be built; " + log)
+    answers("a build that fails", run([command, K1], env=env), 3, b"", b"the library words did not build", b"could not be built; " + log)
     script(folder / "rt", RT)
-    first = started(command, env, folder / "first", "proved 2 of")
+    first = started(command, env, folder / "first", "proved rules")
     second = started(command, env, folder / "second", "waiting for another key that builds")
     (folder / "go").touch()
     check("both print what the program prints", [child.communicate(timeout=20)[0] for child in (first, second)] == [b"refused 9\n"] * 2)
     lines = (folder / "first").read_text().splitlines()
-    check(f"a build tells each crate that it proves: {lines}", lines[:-2] == [
+    check(f"a build tells each crate that it proves: {lines}", [re.sub(r"\d+ s", "N s", line) for line in lines[:-2]] == [
         "key: building the program; its 3 crates are proved first, which takes some minutes, once",
-        "key: proved 2 of 3: rules (3 s)", "key: proved 3 of 3: key (40 s)"])
+        "key: proved words (N s)", "key: proved rules (N s)", "key: proved key (N s)"])
     check("and how long it took", lines[-2].startswith("key: built in 0 min "))
     check("they built once", (folder / "runs").read_text() == "once\n")
     check("the log has all that was said", "a note of the prover\n" in (folder / "target" / "key.log").read_text())

@@ -56,7 +56,8 @@ module _ (nv : ℕ) (all : List Cell) (s : Solid nv all) (two : All (λ v. 2 ≤
       go true e = sym (eq-eqb (total w (all_faces all)) 1
           (omega (arith, count, neighbour-empty p 0 w all (omega arith) (eqb-true (neighbour_from p 0 w all) 65535 e))))
       go false e = sym
-          (ne_eqb (total w (all_faces all)) 1 (λ z. omega (arith, count, far (neighbour_is p 0 w all (eqb-false (neighbour_from p 0 w all) 65535 e)))))
+          (ne_eqb (total w (all_faces all)) 1
+          (λ z. omega (arith, count, far (neighbour_is p 0 w all (eqb-false (neighbour_from p 0 w all) 65535 e)))))
 
   bd_from : (p : ℕ) (cs : List Cell) → All (λ v. 2 ≤ length v) cs →
       p + length cs ≤ length all → ((n : ℕ) → n < length cs → row_at cs n ≡ row_at all (p + n)) →

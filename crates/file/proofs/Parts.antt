@@ -126,4 +126,5 @@ module _ (b : List ℕ) where
       words_at at e =
           ap (λ x. cell_words_from (version_of b) b x m) e
           ∙ ap₂ {C = List ℕ} (λ x w. sign_word (eqb x 43) ∷ material_from (version_of b) b (cell_place b p) ∷ w) (sym (first_byte p)) row_from
-          ∙ ap {B = List ℕ} (λ n. sign_word (eqb (get_or (cell_part b p) 0 0) 43) ∷ n ∷ words16 (drop (head b) (cell_part b p))) (sym (material_at_lem p))
+          ∙ ap {B = List ℕ} (λ n. sign_word (eqb (get_or (cell_part b p) 0 0) 43) ∷ n ∷ words16 (drop (head b) (cell_part b p)))
+          (sym (material_at_lem p))

@@ -11,7 +11,8 @@ use Rattle.rules.specs.Shapes.{shape_ok}
 use Rattle.simplex.specs.Cell.{same_row}
 use Rattle.records.specs.Layout.{list_size, cell_words}
 use Rattle.points.specs.Step.{in_range}
-use Rattle.file.specs.File.{mark, version_of, header_size, dimension_of, axes_of, vertex_count_of, cell_count_of, steps_of, kind_of, amount_of, file_points}
+use Rattle.file.specs.File.{mark, version_of, header_size, dimension_of, axes_of, vertex_count_of, cell_count_of, steps_of, kind_of, amount_of}
+use Rattle.file.specs.File.{file_points}
 use Rattle.file.specs.File.{file_cells}
 
 -- 1: under 40 bytes, or mark or version wrong

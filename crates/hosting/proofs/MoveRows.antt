@@ -9,7 +9,7 @@
 --   sent_short, sent_fits     row 15 behind an accepted move
 --   sent-refused              and a refused one
 -- Assumes nothing.
-use mathlib.Core.Path.{◌≡◌, refl, sym, ap, ◌∙◌}
+use mathlib.Core.Path.{◌≡◌, refl, sym, ap, ◌∙◌, subst}
 use mathlib.Core.Bool.{Bool, true, false, not, ◌&&◌, ◌||◌}
 use mathlib.Core.List.{List}
 use Prim.Native.Nat.{ℕ, ◌*◌, ◌≤◌, ◌<◌}
@@ -116,7 +116,9 @@ module _ (i : MoveTold) where
         (o ≡ host_move_outcome i) × (w ≡ host_move_buffer i out)
     unfolding host_move_buffer moved_levels
     move_right out step q o w g =
-        let h = rw q at g in
+        let h = subst (λ (s : Step).
+        let m = move_input i.n i.v i.h s (floats64 i.points) float_room in
+        (o ≡ in_room i.room (move_outcome m)) × (w ≡ after o (float_bytes (moved_levels m)) out)) q g in
         (h.0 ∙ sym same, h.1 ∙ ap (λ (r : Outcome ℕ). after r (float_bytes (moved_levels roomy)) out) (h.0 ∙ sym same))
 
 -- floats that were decoded to the front of an array

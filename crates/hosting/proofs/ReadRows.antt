@@ -64,7 +64,8 @@ module _ (b : List ℕ) where
       let rest = (axes_ok (axes_of b) && leb (suc (dimension_of b)) (axes_of b)) && (steps_ok (steps_of b) && within 1 3 (kind_of b)) in
       let numbers = and_parts (shape_ok max_source (dimension_of b) (vertex_count_of b) (cell_count_of b)) rest (not-false (numbers_ok b) (by 2)) in
       let l = limits_are max_source (dimension_of b) (vertex_count_of b) (cell_count_of b) (ap not numbers.0) in
-      let both = and_parts (axes_ok (axes_of b) && leb (suc (dimension_of b)) (axes_of b)) (steps_ok (steps_of b) && within 1 3 (kind_of b)) numbers.1 in
+      let both = and_parts (axes_ok (axes_of b) && leb (suc (dimension_of b)) (axes_of b)) (steps_ok (steps_of b) && within 1 3 (kind_of b)) numbers.1
+      in
       let axes =
       and_parts (leb 1 (axes_of b)) (leb (axes_of b) max_axes) (and_parts (axes_ok (axes_of b)) (leb (suc (dimension_of b)) (axes_of b)) both.0).0 in
       record {

@@ -50,7 +50,8 @@ module _ (t : StepBits) where
     pub slant_is : told_step t ≡ S.Slant t.axis (of_bits binary64 t.a) t.other (of_bits binary64 t.b)
     slant_is = rw (ne_eqb t.kind 1 n, eq-eqb t.kind 2 e) refl
 
-    pub in_slant : all_of in_range (of_bits binary64 t.a ∷ of_bits binary64 t.b ∷ of_bits binary64 0 ∷ []) ≡ all_of in_range (step_floats (told_step t))
+    pub in_slant : all_of in_range (of_bits binary64 t.a ∷ of_bits binary64 t.b ∷ of_bits binary64 0 ∷ [])
+        ≡ all_of in_range (step_floats (told_step t))
     in_slant = rw (ne_eqb t.kind 1 n, eq-eqb t.kind 2 e, zero_in) refl
 
     pub slant_held : all_of in_range (step_floats (told_step t)) ≡ true → Held t.a t.b 0

@@ -2,13 +2,13 @@
 #![tactic(auto)]
 
 ghost use Rattle.std.specs.Prelude.{◌≡◌, length, take};
+ghost use Rattle.std.specs.Io.{ReadsAtMost};
 ghost use Rattle.io.specs.Counts.{IsPrefixLen};
-ghost use Rattle.libc.specs.Io.{Moved};
 ghost use Rattle.page.specs.Key.{byte_room, printed};
 
-use libc::{STDERR_FILENO, STDIN_FILENO, STDOUT_FILENO};
 use page::key::key_text;
 use rules::refusal::Answer;
+use std::io::{Read, Result, Stdin};
 
 // Writes what is printed for the input from the start of the text, and answers the count of its bytes.
 fn print_to(input: &[u8], text: &mut [u8]) -> usize
@@ -22,38 +22,32 @@ fn print_to(input: &[u8], text: &mut [u8]) -> usize
     }
 }
 
-// Reads until the input ends or the buffer is full, and answers the count of bytes; -1 where a read fails, for whatever
+// Reads until the input ends or the buffer is full, and answers the count of bytes; an error where a read fails, for whatever
 // reason, an interruption too.
-fn read_all(input: &mut [u8]) -> isize
-    ensures { Moved (length input.old) result }
+fn read_all(mut from: Stdin, input: &mut [u8]) -> Result<usize>
+    ensures { ReadsAtMost result input.new }
 {
     let mut done = 0;
     while done < input.len() {
-        let got = libc::read(STDIN_FILENO, &mut input[done..]);
-        if got < 0 {
-            return -1;
-        }
-        let more = io::count(got, &input[done..]);
+        let more = from.read(&mut input[done..])?;
         if more == 0 {
-            return done as isize;
+            return Ok(done);
         }
         done += more;
     }
-    done as isize
+    Ok(done)
 }
 
-// A failed read prints no key; a text that is not taken whole is told. What C's calls read and write no contract can say.
-fn main() {
+// A failed read prints no key; a text that is not taken whole is told. What the system reads and writes no contract can say.
+fn main(rt: HostRuntime) {
     let mut input = [0u8; 65537];
-    let got = read_all(&mut input);
-    if got < 0 {
-        io::write_all(STDERR_FILENO, b"key: the input could not be read\n");
+    let Ok(n) = read_all(rt.stdin(), &mut input) else {
+        let _ = rt.eprintln("key: the input could not be read");
         return;
-    }
-    let n = io::count(got, &input);
+    };
     let mut text = [0u8; 65536];
     let m = print_to(&input[..n], &mut text);
-    if !io::write_all(STDOUT_FILENO, &text[..m]) {
-        io::write_all(STDERR_FILENO, b"key: the text could not be written\n");
+    if rt.write_all(&text[..m]).is_err() {
+        let _ = rt.eprintln("key: the text could not be written");
     }
 }

@@ -68,7 +68,8 @@ module _ (d s : ℕ) (ws : List ℕ) (p a x : ℕ) (long : length ws ≡ table_l
     cell = λ q hq. ap cell_of (front_same q hq);
   }
 
-  wing_word : (q b : ℕ) (xs : List ℕ) → q < s → b ≤ d → length xs ≡ table_length d s → wing_in d xs q b ≡ get_or xs (q * record_size d + wing_place d b) 0
+  wing_word : (q b : ℕ) (xs : List ℕ) → q < s → b ≤ d → length xs ≡ table_length d s
+      → wing_in d xs q b ≡ get_or xs (q * record_size d + wing_place d b) 0
   wing_word q b xs hq hb e =
       wing_at_lem d (part (record_size d) q xs) (record_long d s q xs hq e) b hb ∙ part_at (record_size d) q (wing_place d b) xs 0 (omega arith)
 

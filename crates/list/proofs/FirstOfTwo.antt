@@ -48,7 +48,8 @@ unfolding computing points-computing digits thousandths coordinate first_line ve
 sound-before-room = refl
 
 pub untouched : length (list_buffer (told 0 (0 ∷ 0 ∷ 0 ∷ 0 ∷ []) origin) []) ≡ 0
-unfolding computing points-computing digits thousandths coordinate first_line vertex_line face_line key_text list_text list_rules list_outcome list_buffer
+unfolding computing points-computing digits thousandths coordinate first_line vertex_line face_line key_text list_text list_rules list_outcome
+    list_buffer
 untouched = refl
 
 -- the text of one point

@@ -80,4 +80,5 @@ module _ (n p : ℕ) (ps : List Float) where
       subst (λ (xs : List Float). all_of in_range xs ≡ true) point-here
       (all_of_true in_range nan (part n p ps) (λ k h.
       let l = subst (λ (m : ℕ). k < m) (part_length nan n p ps within) h in
-      ap in_range (get_or-take n (drop (p * n) ps) k nan l ∙ get_or-drop (p * n) ps k nan) ∙ all_at in_range nan ps (p * n + k) e (omega (arith, within))))
+      ap in_range (get_or-take n (drop (p * n) ps) k nan l ∙ get_or-drop (p * n) ps k nan)
+      ∙ all_at in_range nan ps (p * n + k) e (omega (arith, within))))

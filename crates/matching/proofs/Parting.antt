@@ -53,7 +53,8 @@ module _ (n : ℕ) (old : List ℕ) (digit : ℕ → ℕ) (few : n ≤ 32768) wh
         go : (f : ℕ) → f < n → get_or old f 0 ≡ c → (g ≡ f) ⊎ (g < f) → T f
         go f lf b (inl q) =
             subst T q (
-              subst⁻¹ (λ (r : ℕ). (g ≤ r) × (r < n) × (get_or old r 0 ≡ get_or old g 0) × (digit r ≡ digit g) × (get_or (set new g g) r 0 ≡ r)) (store g)
+              subst⁻¹ (λ (r : ℕ). (g ≤ r) × (r < n) × (get_or old r 0 ≡ get_or old g 0) × (digit r ≡ digit g) × (get_or (set new g g) r 0 ≡ r))
+                  (store g)
                   (omega arith, l, refl, refl, store g),
               put ∙ ap (λ (i : ℕ). tag c + i) (sym (store g)),
             )
@@ -101,7 +102,8 @@ module _ (n : ℕ) (old : List ℕ) (digit : ℕ → ℕ) (few : n ≤ 32768) wh
         go f lf b (inl q) =
             let u = v.mine (digit g) small h in
             subst T q (
-              subst⁻¹ (λ (r : ℕ). (g ≤ r) × (r < n) × (get_or old r 0 ≡ get_or old g 0) × (digit r ≡ digit g) × (get_or (set new g s) r 0 ≡ r)) (store s)
+              subst⁻¹ (λ (r : ℕ). (g ≤ r) × (r < n) × (get_or old r 0 ≡ get_or old g 0) × (digit r ≡ digit g) × (get_or (set new g s) r 0 ≡ r))
+                  (store s)
                   (omega (arith, u.0), u.1, u.2 ∙ sym e, u.3, get_or-set_other new g s s 0 (λ q. omega (arith, u.0)) ∙ u.4),
               omega (arith, store s),
             )

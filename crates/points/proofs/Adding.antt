@@ -71,7 +71,8 @@ module _ (step : Step) (n a : ℕ) (m : Float) (adds : Adds step n a m) where
   climbed_adds (suc i) p long = adds (climbed step n i p) (climbed_long i p long) ∙ ap (λ (z : Float). add binary64 z m) (climbed_adds i p long)
 
   module _ (v h : ℕ) (ps : List Float) (long : length ps ≡ v * n) where
-    value_at : (i k : ℕ) → i < suc h → k < v → get_or (part n k (part (v * n) i (levels step n v h ps))) a nan ≡ sum_of m i (get_or (part n k ps) a nan)
+    value_at : (i k : ℕ) → i < suc h → k < v
+        → get_or (part n k (part (v * n) i (levels step n v h ps))) a nan ≡ sum_of m i (get_or (part n k ps) a nan)
     value_at i k l g =
         ap (λ (q : List Float). get_or (part n k q) a nan)
         (part_tabulated (v * n) (suc h) i (level_of step n v ps) (λ j b. length-level step n v ps long j) l)

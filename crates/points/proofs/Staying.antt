@@ -28,7 +28,8 @@ climbed_first : (step : Step) (n i : ℕ) (p : List Float) → climbed step n i 
 climbed_first step n zero p = refl
 climbed_first step n (suc i) p = ap (moved_point step n) (climbed_first step n i p)
 
-stays_each : (step : Step) (n h : ℕ) (p : List Float) → stays_in step n h p ≡ true → (i : ℕ) → i < h → all_of in_range (climbed step n (suc i) p) ≡ true
+stays_each : (step : Step) (n h : ℕ) (p : List Float) → stays_in step n h p ≡ true → (i : ℕ) → i < h
+    → all_of in_range (climbed step n (suc i) p) ≡ true
 stays_each step n zero p e i l = absurd (not-suc-le-zero l)
 stays_each step n (suc h) p e i l =
     let q = moved_point step n p in
@@ -65,7 +66,8 @@ module _ (step : Step) (n v h : ℕ) (ps : List Float) (long : length ps ≡ v *
   all_then_stay : all_of in_range (levels step n v h ps) ≡ true → all_stay step n v h ps ≡ true
   all_then_stay e =
       let at : (i : ℕ) → i < suc h → all_of in_range (level_of step n v ps i) ≡ true =
-      all_of-tabulate_at (all_of in_range) (suc h) (level_of step n v ps) (sym (all_of-concat in_range (tabulate (suc h) (level_of step n v ps))) ∙ e) in
+      all_of-tabulate_at (all_of in_range) (suc h) (level_of step n v ps) (sym (all_of-concat in_range (tabulate (suc h) (level_of step n v ps))) ∙ e)
+      in
       all_of-tabulate (stays_in step n h) v (λ k. part n k ps) (λ k l.
       each_stays step n h (part n k ps) (λ i m.
       ap (all_of in_range) (sym (level-point i k l))

@@ -31,7 +31,8 @@ source n v at d = take (v * n) (drop at d)
 
 abbrev pub Moving : Step → ℕ → ℕ → ℕ → List Float → ℕ → List Float → Type 0
 Moving step n v at d k out =
-    Left at (moved_all step n v (source n v at d)) d (at + k * n) (concat (drop k (tabulate v (λ p. moved_point step n (part n p (source n v at d))))))
+    Left at (moved_all step n v (source n v at d)) d (at + k * n)
+    (concat (drop k (tabulate v (λ p. moved_point step n (part n p (source n v at d))))))
     out
 
 module _ (step : Step) (n v at : ℕ) (d : List Float) (room : at + v * n ≤ length d) where

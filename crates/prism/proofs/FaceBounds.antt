@@ -45,13 +45,16 @@ cell-count g lo hi b (x ∷ w) n =
     )
   where
     one_cell : (c : Bool) (l u : Row) →
-        sum_faces (λ c y. g y) c (raised lo l ++ raised hi u) ≡ count_faces (λ y. raised_row g lo hi y u) l + count_faces (λ y. raised_row g lo hi l y) u
+        sum_faces (λ c y. g y) c (raised lo l ++ raised hi u)
+        ≡ count_faces (λ y. raised_row g lo hi y u) l + count_faces (λ y. raised_row g lo hi l y) u
     one_cell c l u =
         sum_faces_count_faces g c (raised lo l ++ raised hi u) ∙ count_faces_append g (raised lo l) (raised hi u)
-        ∙ ap₂ (λ a b. a + b) (count_faces_map (λ y. g (y ++ raised hi u)) (λ n. n + lo) l) (count_faces_map (λ y. g (raised lo l ++ y)) (λ n. n + hi) u)
+        ∙ ap₂ (λ a b. a + b) (count_faces_map (λ y. g (y ++ raised hi u)) (λ n. n + lo) l)
+        (count_faces_map (λ y. g (raised lo l ++ y)) (λ n. n + hi) u)
 
     step : over_prism (sum_faces (λ c y. g y)) lo hi b (x ∷ w)
-        ≡ sum_prism (λ c l u. count_faces (λ y. raised_row g lo hi y u) l + count_faces (λ y. raised_row g lo hi l y) u) (dimension_sign (x ∷ w)) b (x ∷ w)
+        ≡ sum_prism (λ c l u. count_faces (λ y. raised_row g lo hi y u) l + count_faces (λ y. raised_row g lo hi l y) u) (dimension_sign (x ∷ w)) b
+        (x ∷ w)
     step = ap (λ (f : OnPairs). sum_prism f (dimension_sign (x ∷ w)) b (x ∷ w)) (fun_ext (λ c. fun_ext (λ l. fun_ext (λ u. one_cell c l u))))
 
 -- pull a test out

@@ -52,7 +52,8 @@ across_levels_after : (j m f h : ℕ) → j < h → across_levels j m f h ≡ ac
 across_levels_after j m f zero l = absurd (omega arith)
 across_levels_after j m f (suc h) l = go (ℕ_discrete j h) (λ n. across_levels_after j m f h (omega arith))
   where
-    go : Dec (j ≡ h) → ((j ≡ h → ⊥) → across_levels j m f h ≡ across_levels j m f j + m + f) → across_levels j m f (suc h) ≡ across_levels j m f j + m + f
+    go : Dec (j ≡ h) → ((j ≡ h → ⊥) → across_levels j m f h ≡ across_levels j m f j + m + f)
+        → across_levels j m f (suc h) ≡ across_levels j m f j + m + f
     go (yes e) ih = omega (arith, ap (across_levels j m f) e, cond_same j h m e, cond_same j h f e, cond_other j (suc h) f (λ e. omega arith))
     go (no n) ih = omega (arith, ih n, cond_other j h m n, cond_other j h f n, cond_other j (suc h) f (λ e. omega arith))
 
@@ -102,7 +103,8 @@ kind_of nv cs s a (y ∷ b) = go (doubled a (y ∷ b)) refl
     go : (t : Bool) → doubled a (y ∷ b) ≡ t → Kind cs a (y ∷ b)
     go true e =
         is_side e (omega (arith, sum_rows_le Asc (λ v. one (same_row v ((y ∷ b) ++ a))) (λ v. 0) cs s.asc (asc_not a (y ∷ b) e), sum_rows_zero cs))
-        (rw e (sym (sum_rows-all_faces (hits ((y ∷ b) ++ rest a)) cs) ∙ sym (total-keep filled ((y ∷ b) ++ rest a) (all_faces cs)))) (sum_rows_zero cs)
+        (rw e (sym (sum_rows-all_faces (hits ((y ∷ b) ++ rest a)) cs) ∙ sym (total-keep filled ((y ∷ b) ++ rest a) (all_faces cs))))
+        (sum_rows_zero cs)
     go false e = is_inner e (s.distinct ((y ∷ b) ++ a)) (rw e (sum_rows_count_faces_zero cs)) (sum_rows_zero cs)
 
 -- how many faces of swept cells stand on the row w: in all, where its level is the lowest, and where it is the highest

@@ -31,7 +31,11 @@ sum_prism_le_count_prism : (f : OnPairs) (g : Row → Row → ℕ) (e b : Bool) 
     ((c : Bool) (l u : Row) → f c l u ≤ g l u) → sum_prism f e b v ≤ count_prism g v
 sum_prism_le_count_prism f g e b [] h = omega arith
 sum_prism_le_count_prism f g e b (x ∷ w) h =
-    omega (arith, h b (x ∷ w) (x ∷ []), sum_prism_le_count_prism (λ c l u. f c l (x ∷ u)) (λ l u. g l (x ∷ u)) e (times e b) w (λ c l u. h c l (x ∷ u)))
+    omega (
+      arith,
+      h b (x ∷ w) (x ∷ []),
+      sum_prism_le_count_prism (λ c l u. f c l (x ∷ u)) (λ l u. g l (x ∷ u)) e (times e b) w (λ c l u. h c l (x ∷ u)),
+    )
 
 ind_le : (w : Row) (c : Bool) (y : Row) → plus_on w c y ≤ hits w y
 ind_le w true y = omega arith
@@ -143,7 +147,8 @@ module _ (nv : ℕ) (cs : List Cell) (s : Solid nv cs) where
       Balanced w (all_faces (sweep_of nv h cs))
   few h w n l = let z = eqb-false (total w (all_faces (sweep_of nv h cs))) 1 n in omega (arith, plus-minus w (all_faces (sweep_of nv h cs)))
 
-  pub no_side : (h : ℕ) (w : Row) (b : Bool) → side_count cs (lower_in nv w) (upper_in nv w) ≡ 0 → sum_chain (plus_on w) b (sweep_of nv h (all_faces cs)) ≡ 0
+  pub no_side : (h : ℕ) (w : Row) (b : Bool) → side_count cs (lower_in nv w) (upper_in nv w) ≡ 0
+      → sum_chain (plus_on w) b (sweep_of nv h (all_faces cs)) ≡ 0
   no_side h w b e = sweep_none nv h w b (all_faces cs) (all_faces-below nv cs s.rows) (sum_rows-all_faces (side_on nv w) cs ∙ e)
 
   no_copy : (i : ℕ) (w : Row) (b : Bool) → flat_count cs (lower_in nv w) (upper_in nv w) ≡ 0 → sum_chain (at_height (plus_on w) (i * nv)) b cs ≡ 0
@@ -159,16 +164,19 @@ module _ (nv : ℕ) (cs : List Cell) (s : Solid nv cs) where
   swept-paired h w n = go (kind_of nv cs s (lower_in nv w) (upper_in nv w))
     where
       go_flat : Dec (level_in nv w ≡ h) → Dec (level_in nv w ≡ 0) → side_count cs (lower_in nv w) (upper_in nv w) ≡ 0 →
-          inner_count cs (lower_in nv w) (upper_in nv w) ≡ 0 → flat_count cs (lower_in nv w) (upper_in nv w) ≤ 1 → Balanced w (all_faces (sweep_of nv h cs))
+          inner_count cs (lower_in nv w) (upper_in nv w) ≡ 0 → flat_count cs (lower_in nv w) (upper_in nv w) ≤ 1
+          → Balanced w (all_faces (sweep_of nv h cs))
       go_flat (yes e) _ k i f = few h w n (omega (arith, on_top nv cs s h w e))
       go_flat (no e) (yes z) k i f = few h w n (omega (arith, on_bottom nv cs s h w z))
       go_flat (no e) (no z) k i f =
           bal h w (λ b. off_level h w b e) (λ b. off_level 0 w b z) (no_side h w true k ∙ sym (no_side h w false k))
 
-      no_flat : flat_count cs (lower_in nv w) (upper_in nv w) ≡ 0 → Balanced w (sweep_of nv h (all_faces cs)) → Balanced w (all_faces (sweep_of nv h cs))
+      no_flat : flat_count cs (lower_in nv w) (upper_in nv w) ≡ 0 → Balanced w (sweep_of nv h (all_faces cs))
+          → Balanced w (all_faces (sweep_of nv h cs))
       no_flat f = bal h w (λ b. no_copy h w b f) (λ b. no_copy 0 w b f)
 
-      go_side : (t : Bool) → lone_in (facets cs) (base_in nv w) ≡ t → side_count cs (lower_in nv w) (upper_in nv w) ≡ total (base_in nv w) (facets cs) →
+      go_side : (t : Bool) → lone_in (facets cs) (base_in nv w) ≡ t → side_count cs (lower_in nv w) (upper_in nv w) ≡ total (base_in nv w) (facets cs)
+          →
           doubled (lower_in nv w) (upper_in nv w) ≡ true → inner_count cs (lower_in nv w) (upper_in nv w) ≡ 0 →
           flat_count cs (lower_in nv w) (upper_in nv w) ≡ 0 → Balanced w (all_faces (sweep_of nv h cs))
       go_side true e k y i f = few h w n (omega (arith, on_any nv cs s h w, eqb-true (total (base_in nv w) (facets cs)) 1 e))

@@ -20,12 +20,14 @@ abbrev pub sum_prism : OnPairs → Bool → Bool → Row → ℕ
 sum_prism f e b [] = 0
 sum_prism f e b (x ∷ w) = f b (x ∷ w) (x ∷ []) + sum_prism (λ c l u. f c l (x ∷ u)) e (times e b) w
 
-sum_faces_add : (f g : Functional) (s b : Bool) (v : Row) → sum_faces (λ c y. f c y + g (times s c) y) b v ≡ sum_faces f b v + sum_faces g (times s b) v
+sum_faces_add : (f g : Functional) (s b : Bool) (v : Row)
+    → sum_faces (λ c y. f c y + g (times s c) y) b v ≡ sum_faces f b v + sum_faces g (times s b) v
 sum_faces_add f g s b [] = refl
 sum_faces_add f g true b (x ∷ w) = omega (arith, sum_faces_add (λ c y. f c (x ∷ y)) (λ c y. g c (x ∷ y)) true (not b) w)
 sum_faces_add f g false b (x ∷ w) = omega (arith, sum_faces_add (λ c y. f c (x ∷ y)) (λ c y. g c (x ∷ y)) false (not b) w)
 
-sum_prism_add : (f g : OnPairs) (e b : Bool) (v : Row) → sum_prism (λ c l u. f c l u + g (not c) l u) e b v ≡ sum_prism f e b v + sum_prism g e (not b) v
+sum_prism_add : (f g : OnPairs) (e b : Bool) (v : Row)
+    → sum_prism (λ c l u. f c l u + g (not c) l u) e b v ≡ sum_prism f e b v + sum_prism g e (not b) v
 sum_prism_add f g e b [] = refl
 sum_prism_add f g true b (x ∷ w) = omega (arith, sum_prism_add (λ c l u. f c l (x ∷ u)) (λ c l u. g c l (x ∷ u)) true b w)
 sum_prism_add f g false b (x ∷ w) = omega (arith, sum_prism_add (λ c l u. f c l (x ∷ u)) (λ c l u. g c l (x ∷ u)) false (not b) w)

@@ -31,7 +31,12 @@ pub count_id : (g : Row → Row → ℕ) (v : Row) →
 count_id g [] = omega arith
 count_id g (x ∷ w) =
     let gx : Row → Row → ℕ = λ l u. g l (x ∷ u) in
-    omega (arith, count_id gx w, count_prism_add g (λ l u. count_faces (λ y. gx l y) u) w, count_faces_add (λ y. g (x ∷ y) (x ∷ [])) (count_prism gx) w)
+    omega (
+      arith,
+      count_id gx w,
+      count_prism_add g (λ l u. count_faces (λ y. gx l y) u) w,
+      count_faces_add (λ y. g (x ∷ y) (x ∷ [])) (count_prism gx) w,
+    )
 
 pub sum_prism_count_prism : (g : Row → Row → ℕ) (e b : Bool) (v : Row) → sum_prism (λ c l u. g l u) e b v ≡ count_prism g v
 sum_prism_count_prism g e b [] = refl
@@ -135,7 +140,8 @@ count_first_one a (y ∷ []) (x ∷ w) = go (eqb x y)
 count_first_one a (y ∷ z ∷ b) (x ∷ w) = go (eqb x y) (count_first_one a (z ∷ b) w)
   where
     go : (t : Bool) → count_first (hits_pair a (z ∷ b)) w ≤ one (same_row w ((z ∷ b) ++ a)) →
-        one ((t && false) && same_row w a) + count_first (λ l u. one ((t && same_row u (z ∷ b)) && same_row l a)) w ≤ one (t && same_row w ((z ∷ b) ++ a))
+        one ((t && false) && same_row w a) + count_first (λ l u. one ((t && same_row u (z ∷ b)) && same_row l a)) w ≤ one
+        (t && same_row w ((z ∷ b) ++ a))
     go true h = omega arith
     go false h = omega (arith, count_first_zero w)
 

@@ -6,7 +6,6 @@ use mathlib.Core.Path.{◌≡◌, refl, ap₂, ◌∙◌}
 use mathlib.Core.List.{List, [], ◌∷◌, ◌++◌}
 use Prim.Native.Nat.{ℕ, zero, suc}
 use lib.Dec.{eqb}
-use lib.ListN.{length}
 use Rattle.simplex.specs.Cell.{Cell}
 use Rattle.simplex.specs.Chain.{of_material}
 use Rattle.simplex.proofs.FaceCounts.{keep_append}

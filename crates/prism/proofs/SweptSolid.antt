@@ -18,7 +18,7 @@ use Rattle.simplex.proofs.Counts.{one_and, sum_chain_le, sum_chain_sum_rows, sum
 use Rattle.simplex.proofs.FaceCounts.{facets_le, facets-same}
 use Rattle.simplex.proofs.Rows.{Below, Filled, Good, Long, hits}
 use Rattle.solids.proofs.Solid.{Solid}
-use Rattle.prism.specs.Cells.{level, prism, prism_cell, sweep_of}
+use Rattle.prism.specs.Cells.{level, sweep_of}
 use Rattle.prism.proofs.Decode.{level_in}
 use Rattle.prism.proofs.FaceBounds.{base_in, across_levels, count_prism_bound, lower_in, raised_row, side_on, upper_in}
 use Rattle.prism.proofs.FaceKinds.{across_levels_le, swept_meet}

@@ -8,7 +8,7 @@ use native.Mathlib.Omega.{arith}
 use lib.Seq.{ext_get_or, get_or-append-add}
 use Rattle.words.specs.Records.{concat, tabulate}
 use Rattle.words.proofs.Records.{EachLong, concat-length, tabulate_at, tabulate_ext, tabulate-length}
-use Rattle.simplex.specs.Cell.{Cell, cell, no_cell}
+use Rattle.simplex.specs.Cell.{Cell, no_cell}
 use Rattle.simplex.specs.Faces.{without}
 use Rattle.simplex.proofs.Each.{All}
 use Rattle.simplex.proofs.Rows.{Long}
@@ -16,7 +16,6 @@ use Rattle.records.specs.Layout.{empty, Entry}
 use Rattle.solids.specs.Table.{entry_at, table_of, wing_at}
 use Rattle.solids.specs.Wings.{neighbour, wings_of}
 use Rattle.solids.proofs.Solid.{Solid, all_at, row_at}
-use Rattle.solids.proofs.Symmetric.{wing}
 use Rattle.solids.proofs.Tables.{cell_at, entries_length, table_at, table_wing, wings_tabulated}
 use Rattle.prism.specs.Cells.{prism_cell, sweep_of}
 use Rattle.prism.specs.Swept.{swept_entry, swept_table}

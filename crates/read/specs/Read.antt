@@ -9,7 +9,8 @@ use Rattle.rules.specs.Calls.{Rule, refuse, Outcome, accepted, refused, decide, 
 use Rattle.rules.specs.Numbers.{number_of}
 use Rattle.solids.specs.Accept.{vertex_beyond, vertex_twice, bad_material}
 use Rattle.points.specs.Step.{step_fits}
-use Rattle.file.specs.File.{version_of, dimension_of, axes_of, vertex_count_of, cell_count_of, steps_of, step_of, unused_set, point_count, file_length}
+use Rattle.file.specs.File.{version_of, dimension_of, axes_of, vertex_count_of, cell_count_of, steps_of, step_of, unused_set, point_count}
+use Rattle.file.specs.File.{file_length}
 use Rattle.file.specs.File.{file_points, sign_bytes, file_cells}
 use Rattle.file.specs.Tests.{not_ours, numbers_ok, floats_ok, cells_length, file_words}
 use Rattle.read.specs.declared.Header.{Header}

@@ -14,6 +14,8 @@ pub const VERTICES: usize = 2;
 pub const LIST_ROOM: usize = 40960;
 
 pub const TABLE_ROOM: usize = 73728;
+// Words of a small table; to clear room for the largest takes longer than to wing a few hundred cells.
+pub const SMALL_ROOM: usize = 16384;
 // Words of the largest table that can be swept: 4,096 swept points of dimension 0.
 pub const SOLID_ROOM: usize = 16384;
 

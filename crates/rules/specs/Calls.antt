@@ -6,7 +6,7 @@
 --   decide            accepted with the answer if no rule applies, else refused by the first that does
 --   after             a lent buffer after the call: the answer from its start, or as it was
 -- Rules are listed in the order in which they are tried.
-use Rattle.std.specs.Prelude.{Bool, true, false, cond, List, [], ◌∷◌, ◌++◌, ℕ, zero, suc, ltb, length, drop}
+use Rattle.std.specs.Prelude.{Bool, cond, List, [], ◌∷◌, ◌++◌, ℕ, zero, suc, ltb, length, drop}
 
 pub record Rule (A : Type 0) : Type 0 where
   pub number : ℕ

@@ -179,7 +179,8 @@ total-keep q w cs = omega (
     go false m n k e = refl
 
 -- what is 0 on the empty row does not see the difference
-pub sum_chain_facets : (f : Functional) (b : Bool) (cs : List Cell) → ((c : Bool) → f c [] ≡ 0) → sum_chain f b (facets cs) ≡ sum_chain f b (all_faces cs)
+pub sum_chain_facets : (f : Functional) (b : Bool) (cs : List Cell) → ((c : Bool) → f c [] ≡ 0)
+    → sum_chain f b (facets cs) ≡ sum_chain f b (all_faces cs)
 sum_chain_facets f b cs h =
     sum_chain_keep filled f b (all_faces cs) ∙ ap (λ (f : Functional). sum_chain f b (all_faces cs)) (fun_ext (λ c. fun_ext (λ y. go c y)))
   where

@@ -20,7 +20,8 @@ use Rattle.simplex.proofs.Sums.{sum_chain_faces}
 
 pub total-faces : (w : Row) (s : Bool) (m : ℕ) (v : Row) → total w (faces s m v) ≡ count_faces (hits w) v
 total-faces w s m v =
-    sym (sum_chain_sum_rows (hits w) true (faces s m v)) ∙ sum_chain_faces (λ c y. hits w y) s m true v ∙ sum_faces_count_faces (hits w) (times s true) v
+    sym (sum_chain_sum_rows (hits w) true (faces s m v)) ∙ sum_chain_faces (λ c y. hits w y) s m true v
+    ∙ sum_faces_count_faces (hits w) (times s true) v
 
 pub count_faces_face : (g : Row → ℕ) (j : ℕ) (v : Row) → j < length v → g (without j v) ≤ count_faces g v
 count_faces_face g j [] h = absurd (not-suc-le-zero h)

@@ -56,7 +56,8 @@ cells-back d cs long =
     ∙ tabulate_get_d no_cell cs
 
 pub list_length_lem : (d : ℕ) (cs : List Cell) → All (Long (suc d)) cs → length (concat (map cell_words cs)) ≡ length cs * list_size d
-list_length_lem d cs long = concat-length (list_size d) (map cell_words cs) (words_long d cs long) ∙ ap (λ n. n * list_size d) (length-map cs cell_words)
+list_length_lem d cs long =
+    concat-length (list_size d) (map cell_words cs) (words_long d cs long) ∙ ap (λ n. n * list_size d) (length-map cs cell_words)
 
 abbrev pub Sized : ℕ → List Entry → Type 0
 Sized d [] = Unit {0}

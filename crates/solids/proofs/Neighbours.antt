@@ -7,7 +7,7 @@ use mathlib.Core.Bool.{Bool, true, false, not, cond, ◌&&◌, false≢true}
 use mathlib.Core.List.{List, [], ◌∷◌}
 use Prim.Native.Nat.{ℕ, zero, suc, ◌+◌, ◌≤◌, ◌<◌}
 use native.Mathlib.Omega.{arith}
-use native.Mathlib.Nat.{add-zero, add-suc, suc-add, le_of_suc-le-suc, not-suc-le-zero}
+use native.Mathlib.Nat.{add-zero, le_of_suc-le-suc, not-suc-le-zero}
 use lib.Dec.{eqb, ltb}
 use lib.ListN.{length}
 use borrow.Author.Tests.{eqb-false, eq-eqb, ne_eqb, ltb-true, ltb-false, lt-ltb}
@@ -49,7 +49,8 @@ others_with_past : (p n : ℕ) (w : Row) (cs : List Cell) → p < n → others_w
 others_with_past p n w [] h = refl
 others_with_past p n w (c ∷ cs) h = ap₂ (λ a b. a + b) (rw (ne_eqb p n (λ e. omega arith)) refl) (others_with_past p (suc n) w cs (omega arith))
 
-pub others_with_pick : (p n : ℕ) (w : Row) (cs : List Cell) → p < length cs → others_with (n + p) n w cs + face_in w (row_at cs p) ≡ sum_rows (face_in w) cs
+pub others_with_pick : (p n : ℕ) (w : Row) (cs : List Cell) → p < length cs
+    → others_with (n + p) n w cs + face_in w (row_at cs p) ≡ sum_rows (face_in w) cs
 others_with_pick p n w [] h = absurd (not-suc-le-zero h)
 others_with_pick zero n w (c ∷ cs) h =
     rw (eq-eqb (n + 0) n (add-zero n)) (omega (arith, others_with_past (n + 0) (suc n) w cs (omega arith)))

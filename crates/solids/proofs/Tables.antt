@@ -12,7 +12,7 @@ use lib.Dec.{eqb}
 use borrow.Author.Tests.{eqb-false, eqb-true}
 use Rattle.words.specs.Records.{tabulate}
 use Rattle.words.proofs.Records.{tabulate_at, tabulate-length}
-use Rattle.simplex.specs.Cell.{Cell, Row, Sign, cell, no_cell}
+use Rattle.simplex.specs.Cell.{Cell, Row, Sign, no_cell}
 use Rattle.simplex.specs.Faces.{faces, prefixed, without}
 use Rattle.simplex.proofs.Each.{All}
 use Rattle.simplex.proofs.Rows.{Long}

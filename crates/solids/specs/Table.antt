@@ -8,7 +8,7 @@
 use Rattle.std.specs.Prelude.{Bool, ◌&&◌, List, [], ◌∷◌, ℕ, suc, eqb, length, get_or}
 use Rattle.rules.specs.Limits.{max_dimension}
 use Rattle.rules.specs.Shapes.{shape_ok}
-use Rattle.simplex.specs.Cell.{Cell, cell, same_row, no_cell}
+use Rattle.simplex.specs.Cell.{Cell, same_row, no_cell}
 use Rattle.records.specs.Layout.{empty, Entry, table_length, table_words, own_list}
 use Rattle.solids.specs.Accept.{Listed, solid_of, acceptable}
 use Rattle.solids.specs.Wings.{wings_of}

@@ -15,7 +15,8 @@ use Rattle.rules.specs.Shapes.{shape_ok}
 use Rattle.simplex.specs.Cell.{Cell, no_cell}
 use Rattle.simplex.specs.Faces.{without}
 use Rattle.simplex.specs.SignWords.{sign_of, sign_word}
-use Rattle.records.specs.Layout.{empty, Entry, cell_of, cell_words, entry_in, entry_of, entry_words, list_size, record_size, table_length, table_words}
+use Rattle.records.specs.Layout.{empty, Entry, cell_of, cell_words, entry_in, entry_of, entry_words, list_size, record_size, table_length}
+use Rattle.records.specs.Layout.{table_words}
 use Rattle.records.specs.Inner.Inside.{sign_in, wing_in}
 use Rattle.records.proofs.Places.{record_long, row-long, wings-long}
 use Rattle.solids.specs.Table.{entry_at, sound, table_of}

@@ -75,7 +75,8 @@ module _ (d b : ℕ) (ws : List ℕ) (p a g : ℕ) (e : g ≡ p * suc d + a) (ha
 
     -- three words more: word k of each key is as it was, and the new one's is y
     word : (at : ℕ → ℕ) (w q v k y : ℕ) → k < 3 → ((i : ℕ) → i < p * suc d + a → get_or known (i * 3 + k) 0 ≡ at i) →
-        get_or (three known g w q v) (g * 3 + k) 0 ≡ y → y ≡ at g → (i : ℕ) → i < p * suc d + (a + 1) → get_or (three known g w q v) (i * 3 + k) 0 ≡ at i
+        get_or (three known g w q v) (g * 3 + k) 0 ≡ y → y ≡ at g → (i : ℕ) → i < p * suc d + (a + 1)
+        → get_or (three known g w q v) (i * 3 + k) 0 ≡ at i
     word at w q v k y hk was put is i l = go (dec_lt i g)
       where
         go : Dec (i < g) → get_or (three known g w q v) (i * 3 + k) 0 ≡ at i
@@ -96,7 +97,8 @@ module _ (d b : ℕ) (ws : List ℕ) (p a g : ℕ) (e : g ≡ p * suc d + a) (ha
           code_is = one (λ i. code_of b (face_of d ws i) * 2 + sign_at d ws i) code c room.code_room old.code_is
               (at_key (λ i j. c ≡ code_of b (face_in d ws i j) * 2 + turned_sign (sign_in d ws i) j) ec);
           wing_is = λ i l. subst (λ j. get_or (three known g w q v) j 0 ≡ wing_of d ws i) (first i)
-              (word (λ i. wing_of d ws i) w q v 0 w (omega arith) (λ i k. subst⁻¹ (λ j. get_or known j 0 ≡ wing_of d ws i) (first i) (old.wing_is i k))
+              (word (λ i. wing_of d ws i) w q v 0 w (omega arith)
+              (λ i k. subst⁻¹ (λ j. get_or known j 0 ≡ wing_of d ws i) (first i) (old.wing_is i k))
               (subst⁻¹ (λ j. get_or (three known g w q v) j 0 ≡ w) (first g) put.0) (at_key (λ i j. w ≡ wing_in d ws i j) ew) i l);
           cell_is = word (λ i. i / suc d) w q v 1 q (omega arith) old.cell_is put.1 (at_key (λ i j. q ≡ i) eq);
           apex_is = word (λ i. apex_at d ws i) w q v 2 v (omega arith) old.apex_is put.2 (at_key (λ i j. v ≡ vertex_in d ws i j) ev);

@@ -111,7 +111,8 @@ module _ (d s : ℕ) (ws : List ℕ) (small : s ≤ 4096)
       go (yes k) j =
           absurd (leads_new (q * suc d + b) (key_inside d s q b hq hb) (to_place q b hb (λ x y. x < wing_in d ws x y) lq) (p * suc d + a) k same)
       go (no k) (yes j) =
-          absurd (leads_new (p * suc d + a) (key_inside d s p a hp ha) (to_place p a ha (λ x y. x < wing_in d ws x y) lp) (q * suc d + b) j (sym same))
+          absurd (leads_new (p * suc d + a) (key_inside d s p a hp ha) (to_place p a ha (λ x y. x < wing_in d ws x y) lp) (q * suc d + b) j
+          (sym same))
       go (no k) (no j) =
           let g : p * suc d + a ≡ q * suc d + b = omega arith in (
             sym (cell_of_key p a (suc d) (omega arith)) ∙ ap (λ i. i / suc d) g ∙ cell_of_key q b (suc d) (omega arith),

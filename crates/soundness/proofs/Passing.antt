@@ -2,6 +2,7 @@
 --   total_put, total_less, total-none     sums with one number put, and sums of nothing
 --   passed_alone, passed_waits, passed_met        one more key
 --   all_done              where none waits all keys are first or second
+--   as_alike, with_hashes     what is known of the hashes left out, and put back
 --   pass_none, pass_hashed, pass_coded, pass_alone, pass_waits, pass_met   no key, and one more, of a table with its keys in their buckets
 use mathlib.Core.Path.{◌≡◌, refl, sym, ap, ◌∙◌, subst}
 use mathlib.Core.Logic.{◌⊎◌, inl, inr}
@@ -19,7 +20,7 @@ use Rattle.simplex.specs.Sort.{Asc}
 use Rattle.records.specs.Layout.{empty}
 use Rattle.soundness.specs.Inner.Certified.{face_in, row_in}
 use Rattle.soundness.specs.Inner.Hashing.{Alike, Chains, Hashes, face_of}
-use Rattle.soundness.specs.Inner.Pairing.{First, MeetsAt, New, Paired, Passing, Second, total, wing_of}
+use Rattle.soundness.specs.Inner.Pairing.{First, MeetsAt, New, Paired, Passing, PassingAlike, Second, total, wing_of}
 use Rattle.records.specs.Inner.Inside.{Table}
 use Rattle.records.proofs.Places.{record_long, row-long}
 use Rattle.soundness.proofs.FaceRows.{one_cell}
@@ -152,7 +153,7 @@ all_done d ws m p g h = go (p.done g h)
     go (inr (k, l)) = absurd (omega (arith, l, total-none m g p.waits h (omega (arith, p.few))))
 
 pub pass_none : (d s : ℕ) (ws hash head next : List ℕ) → Table d s ws → ((p : ℕ) → p < s → Asc (row_in d ws p)) → s * suc d ≤ length hash →
-    s * suc d ≤ length next → Alike d ws hash (s * suc d) → Chains hash head next 0 → Passing d s ws hash head next 0 0
+    s * suc d ≤ length next → Alike d ws hash (s * suc d) → Chains hash head next 0 → PassingAlike d s ws hash head next 0 0
 pass_none d s ws hash head next t up wide deep alike chains = record {
   table = t;
   up = up;
@@ -165,20 +166,45 @@ pass_none d s ws hash head next t up wide deep alike chains = record {
 }
 
 -- the same, where the hashes are known
+pub as_alike : (d s : ℕ) (ws hash head next : List ℕ) (m n : ℕ) → Passing d s ws hash head next m n → PassingAlike d s ws hash head next m n
+as_alike d s ws hash head next m n p = record {
+  table = p.table;
+  up = p.up;
+  wide = p.wide;
+  deep = p.deep;
+  alike = hashes_alike d ws hash (s * suc d) p.hashed;
+  chains = p.chains;
+  paired = p.paired;
+  low = p.low;
+}
+
+pub with_hashes : (d s : ℕ) (ws hash head next : List ℕ) (m n : ℕ) → Hashes d ws hash (s * suc d) → PassingAlike d s ws hash head next m n →
+    Passing d s ws hash head next m n
+with_hashes d s ws hash head next m n hashed p = record {
+  table = p.table;
+  up = p.up;
+  wide = p.wide;
+  deep = p.deep;
+  hashed = hashed;
+  chains = p.chains;
+  paired = p.paired;
+  low = p.low;
+}
+
 pub pass_hashed : (d s : ℕ) (ws hash head next : List ℕ) → Table d s ws → ((p : ℕ) → p < s → Asc (row_in d ws p)) → s * suc d ≤ length hash →
     s * suc d ≤ length next → Hashes d ws hash (s * suc d) → Chains hash head next 0 → Passing d s ws hash head next 0 0
 pass_hashed d s ws hash head next t up wide deep hashed chains =
-    pass_none d s ws hash head next t up wide deep (hashes_alike d ws hash (s * suc d) hashed) chains
+    with_hashes d s ws hash head next 0 0 hashed (pass_none d s ws hash head next t up wide deep (hashes_alike d ws hash (s * suc d) hashed) chains)
 
--- and where the codes are
+-- where the codes are known
 pub pass_coded : (d s : ℕ) (ws hash code known head next : List ℕ) → Table d s ws → ((p : ℕ) → p < s → Asc (row_in d ws p)) →
-    s * suc d ≤ length next → Coded d s ws hash code known → Chains hash head next 0 → Passing d s ws hash head next 0 0
+    s * suc d ≤ length next → Coded d s ws hash code known → Chains hash head next 0 → PassingAlike d s ws hash head next 0 0
 pass_coded d s ws hash code known head next t up deep coded chains =
     pass_none d s ws hash head next t up coded.room.hash_room deep (coded_alike d s ws hash code known coded) chains
 
-module _ (d s : ℕ) (ws hash head next head' next' : List ℕ) (m n : ℕ) (old : Passing d s ws hash head next m n) (hm : m < s * suc d)
+module _ (d s : ℕ) (ws hash head next head' next' : List ℕ) (m n : ℕ) (old : PassingAlike d s ws hash head next m n) (hm : m < s * suc d)
     (long : length next' ≡ length next) (chains : Chains hash head' next' (m + 1)) where
-  with_key : (k : ℕ) → k ≤ m + 1 → Paired d ws (m + 1) k → Passing d s ws hash head' next' (m + 1) k
+  with_key : (k : ℕ) → k ≤ m + 1 → Paired d ws (m + 1) k → PassingAlike d s ws hash head' next' (m + 1) k
   with_key k h paired = record {
     table = old.table;
     up = old.up;
@@ -197,13 +223,13 @@ module _ (d s : ℕ) (ws hash head next head' next' : List ℕ) (m n : ℕ) (old
   new : Alone → New d ws m
   new none j l z = none j l (old.alike j m (omega arith) hm z)
 
-  pub pass_alone : Alone → wing_of d ws m ≡ empty → Passing d s ws hash head' next' (m + 1) n
+  pub pass_alone : Alone → wing_of d ws m ≡ empty → PassingAlike d s ws hash head' next' (m + 1) n
   pass_alone none e = with_key n (omega (arith, old.low)) (passed_alone d ws m n old.paired (new none) e)
 
-  pub pass_waits : Alone → Passing d s ws hash head' next' (m + 1) (n + 1)
+  pub pass_waits : Alone → PassingAlike d s ws hash head' next' (m + 1) (n + 1)
   pass_waits none = with_key (n + 1) (omega (arith, old.low)) (passed_waits d ws m n old.paired (new none))
 
-  pub pass_met : (f : ℕ) → f < m → MeetsAt d ws f m → (1 ≤ n) × Passing d s ws hash head' next' (m + 1) (n - 1)
+  pub pass_met : (f : ℕ) → f < m → MeetsAt d ws f m → (1 ≤ n) × PassingAlike d s ws hash head' next' (m + 1) (n - 1)
   pass_met f hf now =
       let size : (p : ℕ) → p < s → length (row_in d ws p) ≡ suc d = λ p h. row-long d _ (record_long d s p ws h old.table.long) in
       let r = passed_met d s ws old.table.cells size old.up m n f hm hf old.paired now in

@@ -3,7 +3,7 @@
 ghost use Rattle.std.specs.Prelude.{◌≡◌, ◌⊎◌, true, ℕ, suc, ◌+◌, ◌*◌, ◌<◌, length};
 ghost use Rattle.records.specs.Inner.Inside.{Table};
 ghost use Rattle.soundness.specs.Inner.Coding.{Coded};
-ghost use Rattle.soundness.specs.Inner.Pairing.{First, MeetsAt, Second, Passing};
+ghost use Rattle.soundness.specs.Inner.Pairing.{First, MeetsAt, Second, PassingAlike};
 
 use crate::buckets::put;
 use records::sizes::{EMPTY, wings_words};
@@ -56,9 +56,9 @@ fn pass(
     g: usize,
     n: usize,
 ) -> usize
-    requires { Passing d s table.now hash.now head.old next.old g n × (g < s * suc d)
+    requires { PassingAlike d s table.now hash.now head.old next.old g n × (g < s * suc d)
         × Coded d s table.now hash.now code.now known.now }
-    ensures { (result ≡ 65535 → ⊥) → Passing d s table.now hash.now head.new next.new (g + 1) result }
+    ensures { (result ≡ 65535 → ⊥) → PassingAlike d s table.now hash.now head.new next.new (g + 1) result }
 {
     let f = put(hash, head, next, g, 16);
     if f == 65535 {
@@ -87,7 +87,7 @@ pub(crate) fn all_coded(
     head: &mut [u16],
     next: &mut [u16],
 ) -> bool
-    requires { Passing d s table.now hash.now head.old next.old 0 0
+    requires { PassingAlike d s table.now hash.now head.old next.old 0 0
         × Coded d s table.now hash.now code.now known.now }
     ensures right { result ≡ true → (g : ℕ) → g < s * suc d → First d table.now (s * suc d) g ⊎ Second d table.now g }
     ensures long { (length head.new ≡ length head.old) × (length next.new ≡ length next.old) }

@@ -6,7 +6,8 @@
 --   rights_from, rights_more      one right word more
 --   filled                        with all words right the list is placed
 -- Assumes nothing.
-use Rattle.std.proofs.Common.{◌≡◌, ℕ, ◌+◌, ◌-◌, ◌<◌, ◌≤◌, Bool, true, false, eqb, List, length, get_or, drop, set, sym, refl, ap, ◌∙◌, arith, length-set, get_or-drop, get_or-set_other, get_or-take, get_or-set_same, ext_get_or, eqb-true}
+use Rattle.std.proofs.Common.{◌≡◌, ℕ, ◌+◌, ◌-◌, ◌<◌, ◌≤◌, Bool, true, false, eqb, List, length, get_or, drop, set, sym, refl, ap, ◌∙◌, arith}
+use Rattle.std.proofs.Common.{length-set, get_or-drop, get_or-set_other, get_or-take, get_or-set_same, ext_get_or, eqb-true}
 use native.Mathlib.Decide.{dec_lt}
 use borrow.Author.Tests.{eqb-false}
 use Rattle.words.specs.Inner.Placed.{placed}

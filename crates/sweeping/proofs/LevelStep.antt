@@ -4,7 +4,8 @@
 --   step_at               word r of a record, at two levels
 --   by_record             its place in the level
 -- Assumes nothing.
-use Rattle.std.proofs.Common.{◌≡◌, ℕ, suc, ◌+◌, ◌-◌, ◌*◌, ◌<◌, ◌≤◌, Bool, true, false, eqb, List, get_or, sym, refl, ap, ◌∙◌, mul_assoc, suc-mul, add-mul, add-one, arith, le-ltb, lt-ltb, ne_eqb, eqb-true, le-leb}
+use Rattle.std.proofs.Common.{◌≡◌, ℕ, suc, ◌+◌, ◌-◌, ◌*◌, ◌<◌, ◌≤◌, Bool, true, false, eqb, List, get_or, sym, refl, ap, ◌∙◌, mul_assoc, suc-mul}
+use Rattle.std.proofs.Common.{add-mul, add-one, arith, le-ltb, lt-ltb, ne_eqb, eqb-true, le-leb}
 use native.Mathlib.Decide.{dec_lt, dec_le}
 use borrow.Author.Tests.{eqb-false, lt-leb}
 use Rattle.words.proofs.Records.{record_next}

@@ -3,7 +3,8 @@
 --   ahead_is              what goes on from a and b is z
 --   steps_at              word r of a record, at three levels
 -- Assumes nothing.
-use Rattle.std.proofs.Common.{◌≡◌, ℕ, suc, ◌+◌, ◌-◌, ◌*◌, ◌<◌, ◌≤◌, Bool, true, false, eqb, List, get_or, sym, refl, ap, ◌∙◌, suc-mul, arith, lt-ltb, ne_eqb, eqb-true, le-leb}
+use Rattle.std.proofs.Common.{◌≡◌, ℕ, suc, ◌+◌, ◌-◌, ◌*◌, ◌<◌, ◌≤◌, Bool, true, false, eqb, List, get_or, sym, refl, ap, ◌∙◌, suc-mul, arith}
+use Rattle.std.proofs.Common.{lt-ltb, ne_eqb, eqb-true, le-leb}
 use native.Mathlib.Decide.{dec_lt, dec_le}
 use borrow.Author.Tests.{eqb-false, lt-leb}
 use Rattle.words.proofs.Records.{record_next}

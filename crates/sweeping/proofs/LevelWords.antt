@@ -5,7 +5,8 @@
 --   word_at               and is that word
 --   word_bottom, word_top     the wings that join levels
 -- Assumes nothing.
-use Rattle.std.proofs.Common.{◌≡◌, ℕ, zero, suc, ◌+◌, ◌-◌, ◌*◌, ◌<◌, ◌≤◌, List, length, get_or, sym, refl, ap, ◌∙◌, suc-mul, zero-mul, arith, eq-eqb, ne_eqb}
+use Rattle.std.proofs.Common.{◌≡◌, ℕ, zero, suc, ◌+◌, ◌-◌, ◌*◌, ◌<◌, ◌≤◌, List, length, get_or, sym, refl, ap, ◌∙◌, suc-mul, zero-mul, arith}
+use Rattle.std.proofs.Common.{eq-eqb, ne_eqb}
 use native.Mathlib.Decide.{dec_lt}
 use Rattle.words.proofs.Records.{part_tabulated}
 use Rattle.records.specs.Layout.{record_size, wing_place, table_length}

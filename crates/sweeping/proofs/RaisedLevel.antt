@@ -2,7 +2,8 @@
 --   joined-level          where the words but those of the joining wings are right
 --   raised_level, stepped_level      raised from the two below; from the one below
 -- Assumes nothing.
-use Rattle.std.proofs.Common.{◌≡◌, ℕ, suc, ◌+◌, ◌*◌, ◌<◌, ◌≤◌, Bool, true, false, eqb, List, length, get_or, sym, refl, ap, ◌∙◌, zero-mul, arith, eqb-true}
+use Rattle.std.proofs.Common.{◌≡◌, ℕ, suc, ◌+◌, ◌*◌, ◌<◌, ◌≤◌, Bool, true, false, eqb, List, length, get_or, sym, refl, ap, ◌∙◌, zero-mul, arith}
+use Rattle.std.proofs.Common.{eqb-true}
 use borrow.Author.Tests.{eqb-false}
 use Rattle.words.specs.Inner.Placed.{placed}
 use Rattle.records.specs.Layout.{record_size, wing_place}

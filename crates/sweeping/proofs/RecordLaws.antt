@@ -2,7 +2,9 @@
 --   record_long                           it has the words of a table record of dimension d + 1:
 --   word_sign, word_material, word_vertex, word_wing      the sign word, the material of the cell below, d + 2 vertices, d + 2 wings
 -- Assumes nothing.
-use Rattle.std.proofs.Common.{◌≡◌, ℕ, zero, suc, ◌+◌, ◌-◌, ◌*◌, ◌<◌, ◌≤◌, List, [], ◌∷◌, ◌++◌, map, length, get_or, take, drop, refl, ap, ◌∙◌, le_of_suc-le-suc, not-suc-le-zero, arith, length-append, length-drop, length-take-le, get_or-drop, get_or-take, get_or-append-add, le-leb}
+use Rattle.std.proofs.Common.{◌≡◌, ℕ, zero, suc, ◌+◌, ◌-◌, ◌*◌, ◌<◌, ◌≤◌, List, [], ◌∷◌, ◌++◌, map, length, get_or, take, drop, refl, ap, ◌∙◌}
+use Rattle.std.proofs.Common.{le_of_suc-le-suc, not-suc-le-zero, arith, length-append, length-drop, length-take-le, get_or-drop, get_or-take}
+use Rattle.std.proofs.Common.{get_or-append-add, le-leb}
 use native.Mathlib.Decide.{dec_le}
 use lib.ListN.{length-map, get_or-append}
 use borrow.Author.Tests.{lt-leb}

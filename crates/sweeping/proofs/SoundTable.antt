@@ -2,7 +2,8 @@
 --   sound-solid           the solid of a sound table
 --   sound_ready           what the writer of a sweep goes by
 -- Assumes nothing.
-use Rattle.std.proofs.Common.{◌≡◌, ℕ, zero, suc, ◌*◌, ◌<◌, ◌≤◌, true, not, ◌&&◌, eqb, List, [], ◌∷◌, length, get_or, take, sym, ap, ◌∙◌, le_of_suc-le-suc, not-suc-le-zero, arith, length-take-le, eqb-true}
+use Rattle.std.proofs.Common.{◌≡◌, ℕ, zero, suc, ◌*◌, ◌<◌, ◌≤◌, true, not, ◌&&◌, eqb, List, [], ◌∷◌, length, get_or, take, sym, ap, ◌∙◌}
+use Rattle.std.proofs.Common.{le_of_suc-le-suc, not-suc-le-zero, arith, length-take-le, eqb-true}
 use Rattle.words.specs.Records.{part}
 use Rattle.rules.specs.Limits.{max_source, max_vertices, max_cells, max_dimension, swept_vertices}
 use Rattle.rules.specs.Shapes.{shape_ok}
@@ -60,7 +61,8 @@ sound-solid d v s ws e =
 
     parts : (shape_ok max_dimension d v s ≡ true)
         × ((eqb (length ws) (table_length d s) && (acceptable l && same_row ws (table_words (table_of cs)))) ≡ true)
-    parts = and_parts (shape_ok max_dimension d v s) (eqb (length ws) (table_length d s) && (acceptable l && same_row ws (table_words (table_of cs)))) e
+    parts = and_parts (shape_ok max_dimension d v s) (eqb (length ws) (table_length d s) && (acceptable l && same_row ws (table_words (table_of cs))))
+        e
 
     rest : (eqb (length ws) (table_length d s) ≡ true) × ((acceptable l && same_row ws (table_words (table_of cs))) ≡ true)
     rest = and_parts (eqb (length ws) (table_length d s)) (acceptable l && same_row ws (table_words (table_of cs))) parts.1

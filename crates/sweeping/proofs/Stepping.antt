@@ -2,11 +2,11 @@
 --   set_more, set_here    one more word is as it should be
 --   records_none, records_more    no record is stepped; one more is
 -- Assumes nothing.
-use Rattle.std.proofs.Common.{◌≡◌, ℕ, suc, ◌+◌, ◌*◌, ◌<◌, ◌≤◌, List, length, get_or, set, sym, ◌∙◌, not-suc-le-zero, arith, get_or-set_other, get_or-set_same}
+use Rattle.std.proofs.Common.{◌≡◌, ℕ, suc, ◌+◌, ◌*◌, ◌<◌, List, length, get_or, set, sym, ◌∙◌, not-suc-le-zero, arith, get_or-set_other}
+use Rattle.std.proofs.Common.{get_or-set_same}
 use native.Mathlib.Decide.{dec_lt}
 use Rattle.words.proofs.Records.{record_fits}
 use Rattle.records.specs.Layout.{record_size}
-use Rattle.sweeping.specs.Inner.Filling.{Outside}
 use Rattle.sweeping.specs.Inner.Raising.{step_of, Stepped, SteppedLevel, SteppedTo}
 use Rattle.sweeping.proofs.Filling.{outside-none}
 

@@ -113,7 +113,8 @@ module _ (d s : ℕ) (rows : List ℕ) (signs : List Sign) (made : ℕ → ℕ) 
           sym (ap (λ (c : Cell). c.sign) r.1
           ∙ ap (λ (c : Cell). times (alternating (g % suc d)) c.sign) (held_at (g / suc d) (subst (λ n. g / suc d < n) held_length r.0)))
 
-      pub faces-equal : equal_signs (facets (held_cells d s rows signs made)) ≡ any_below (face_count d s) (seen_like (face_count d s) P (key_sign k signs))
+      pub faces-equal : equal_signs (facets (held_cells d s rows signs made))
+          ≡ any_below (face_count d s) (seen_like (face_count d s) P (key_sign k signs))
       faces-equal =
           equal_seen (facets cs) P few seen meet (key_sign (suc d) signs) signs_of
           ∙ ap (λ n. any_below n (seen_like n P (key_sign (suc d) signs))) count

@@ -33,7 +33,8 @@ module _ (d s : ℕ) (rows : List ℕ) (signs : List Sign) (made : ℕ → ℕ) 
     crowded : crowded_face (facets (held_cells d s rows signs made)) ≡ any_below n (seen_twice n Q)
     crowded = faces_crowded d s rows signs made hd hs wide Q (d + 1) (add-one d) some ∙ ap (λ n. any_below n (seen_twice n Q)) (sym count)
 
-    pub found_10 : cell_twice (held_cells d s rows signs made) ≡ false → any_below n (seen_twice n Q) ≡ true → 10 ≡ faults (held_cells d s rows signs made)
+    pub found_10 : cell_twice (held_cells d s rows signs made) ≡ false → any_below n (seen_twice n Q) ≡ true
+        → 10 ≡ faults (held_cells d s rows signs made)
     unfolding faults
     found_10 once e = rw (once, crowded ∙ e) refl
 

@@ -25,7 +25,8 @@ paired-length k n P (suc g) W = go (seen_at n P g) (paired-length k n P g W)
   where
     go : (t : Bool) → length (paired k n P g W) ≡ length W →
         length (cond t (set (set (paired k n P g W) g (get_or P g 0 / k)) (get_or P g 0) (g / k)) (paired k n P g W)) ≡ length W
-    go true e = length-set (set (paired k n P g W) g (get_or P g 0 / k)) (get_or P g 0) (g / k) ∙ length-set (paired k n P g W) g (get_or P g 0 / k) ∙ e
+    go true e = length-set (set (paired k n P g W) g (get_or P g 0 / k)) (get_or P g 0) (g / k) ∙ length-set (paired k n P g W) g (get_or P g 0 / k)
+        ∙ e
     go false e = e
 
 -- two words of a list set
@@ -92,10 +93,12 @@ module _ (L : List Cell) (P : List ℕ) (small : length L ≤ 32768) (prev : Pre
         go (yes z) s =
             let hj : j < m = omega (arith, r.0, r.2, z) in
             let same : get_or P m 0 ≡ j = only_seen j m hj hm (r.3 ∙ ap (row_at L) z) in
-            ap (λ i. get_or next i 0) z ∙ two_first (after m) (get_or P m 0) m (get_or P m 0 / k) (m / k) (in_room_lem m m hm) (λ y. omega (arith, is.0, y))
+            ap (λ i. get_or next i 0) z
+            ∙ two_first (after m) (get_or P m 0) m (get_or P m 0 / k) (m / k) (in_room_lem m m hm) (λ y. omega (arith, is.0, y))
             ∙ ap (λ i. i / k) same
         go (no z) (yes s) =
-            ap (λ i. get_or next i 0) s ∙ two_second (after m) (get_or P m 0) m (get_or P m 0 / k) (m / k) (in_room_lem m (get_or P m 0) (omega (arith, is.0)))
+            ap (λ i. get_or next i 0) s
+            ∙ two_second (after m) (get_or P m 0) m (get_or P m 0 / k) (m / k) (in_room_lem m (get_or P m 0) (omega (arith, is.0)))
             ∙ ap (λ i. i / k) (sym (third s))
         go (no z) (no s) = two_other (after m) (get_or P m 0) m g (get_or P m 0 / k) (m / k) s z ∙ kept j g (old z s)
 

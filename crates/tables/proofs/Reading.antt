@@ -7,12 +7,14 @@ use native.Mathlib.Nat.{not-suc-le-zero}
 use native.Mathlib.Numerals.{add-one}
 use native.Mathlib.Decide.{dec_lt}
 use lib.ListN.{length, take, drop, get_or, set, replicate, length-append, length-drop, length-set, length-replicate, get_or-replicate, get_or-append}
-use lib.Seq.{drop_at, ext_get_or, get_or-append-add, get_or-drop, get_or-set_other, get_or-set_same, get_or-take, length-take-le, paste, paste-suc, take_at}
+use lib.Seq.{drop_at, ext_get_or, get_or-append-add, get_or-drop, get_or-set_other, get_or-set_same, get_or-take, length-take-le, paste}
+use lib.Seq.{paste-suc, take_at}
 use Rattle.tables.specs.Inner.Held.{row_of_eight}
 
 -- of the n words from at, the first j are in the row; the places behind n are 0
 abbrev pub Read : ℕ → ℕ → List ℕ → ℕ → List ℕ → Type 0
-Read n at ws j row = (length row ≡ 8) × ((i : ℕ) → i < j → i < n → get_or row i 0 ≡ get_or ws (at + i) 0) × ((i : ℕ) → n ≤ i → i < 8 → get_or row i 0 ≡ 0)
+Read n at ws j row = (length row ≡ 8) × ((i : ℕ) → i < j → i < n → get_or row i 0 ≡ get_or ws (at + i) 0)
+    × ((i : ℕ) → n ≤ i → i < 8 → get_or row i 0 ≡ 0)
 
 module _ (n at : ℕ) (ws : List ℕ) (j : ℕ) (row new : List ℕ) (read : Read n at ws j row) where
   -- one more word read, and none where all n are
@@ -72,7 +74,8 @@ module _ (n at : ℕ) (ws : List ℕ) (j : ℕ) (row : List ℕ) (read : Read n 
       ∙ get_or-replicate (8 - length vertices) (i - n) 0 0 (omega (arith, long)))
 
   pub read_all : row ≡ row_of_eight vertices
-  read_all = ext_get_or 0 row (row_of_eight vertices) (read.0 ∙ sym (eight-long vertices n long l)) (λ i k. place i (dec_lt i n) (omega (arith, read.0)))
+  read_all = ext_get_or 0 row (row_of_eight vertices) (read.0 ∙ sym (eight-long vertices n long l))
+      (λ i k. place i (dec_lt i n) (omega (arith, read.0)))
 
 -- one more word stored
 pub store_more : (rows row : List ℕ) (at j : ℕ) (X : List ℕ) → X ≡ paste rows at row j → at + j < length rows → j < length row →

@@ -127,7 +127,8 @@ module _ (size d v s : ℕ) (ws : List ℕ) (hz : list_size d ≤ size) (room : 
         ap (vertex_beyond v) listed_is
         ∙ any_tabulate (λ c. any_of (λ x. leb v x) c.row) (beyond_at d v rows) s (λ p. cell_read size d ws p)
         (λ p h. beyond_last v d (cell_read size d ws p).row (row-long p h)
-        ∙ ap (leb v) (ap (λ r. get_or r d 0) (sym (row_held p h)) ∙ sym (held_vertex d s rows signs (material_at size ws) hd hs wide p d (omega arith))))
+        ∙ ap (leb v) (ap (λ r. get_or r d 0) (sym (row_held p h))
+        ∙ sym (held_vertex d s rows signs (material_at size ws) hd hs wide p d (omega arith))))
 
     falls_is : (p : ℕ) → p < s → falls d rows p ≡ falls_in d (sorted (cell_read size d ws p).row)
     falls_is p h = held_falls d s rows signs (material_at size ws) hd hs wide p ∙ ap (falls_in d) (row_held p h)

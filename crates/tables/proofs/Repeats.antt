@@ -100,7 +100,8 @@ module _ (L : List Cell) (P : List ℕ) (small : length L ≤ 32768) (prev : Pre
           let j = seen_is f hf both.1 in
           omega (arith, three_rows (row_at L g) (get_or P f 0) f g j.0 k.0 r.1 (j.1 ∙ k.1) k.1 refl, few_of 2 L e (row_at L g))
 
-      twice : (w : Row) (f g h : ℕ) → f < g → g < h → h < length L → row_at L f ≡ w → row_at L g ≡ w → row_at L h ≡ w → seen_twice (length L) P h ≡ true
+      twice : (w : Row) (f g h : ℕ) → f < g → g < h → h < length L → row_at L f ≡ w → row_at L g ≡ w → row_at L h ≡ w
+          → seen_twice (length L) P h ≡ true
       twice w f g h l m n a b c =
           let r = is_seen g h m n (b ∙ sym c) in
           let k = seen_is h n r.0 in

@@ -77,7 +77,8 @@ module _ (q : Cell → Bool) where
 
   abbrev pub Three : List Cell → Type 0
   Three L =
-      (f : ℕ) × (g : ℕ) × (h : ℕ) × (f < g) × (g < h) × (h < length L) × (q (cell_at L f) ≡ true) × (q (cell_at L g) ≡ true) × (q (cell_at L h) ≡ true)
+      (f : ℕ) × (g : ℕ) × (h : ℕ) × (f < g) × (g < h) × (h < length L) × (q (cell_at L f) ≡ true) × (q (cell_at L g) ≡ true)
+      × (q (cell_at L h) ≡ true)
 
   pub three : (L : List Cell) → 3 ≤ count_if q L → Three L
   three [] h = absurd (not-suc-le-zero h)

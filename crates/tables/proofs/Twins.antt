@@ -52,8 +52,11 @@ module _ (d : ℕ) (rows : List ℕ) (cs : List Cell) (P : List ℕ) (long : All
   -- the first face of cell p
   first : (p : ℕ) → p < length cs → (p * k + 0 < n) × (row_at (facets cs) (p * k + 0) ≡ without 0 (row_at cs p))
   first p h =
-      let l : p * k + 0 < n = omega (arith, facets-length (suc d) cs long, key_inside k (length cs) p 0 h (omega arith)) in
-      (l, face-row (p * k + 0) l ∙ ap₂ {C = Row} (λ a q. without a (row_at cs q)) (place_of_key p 0 k (omega arith)) (cell_of_key p 0 k (omega arith)))
+      let l : p * k + 0 < n = omega (arith, facets-length (suc d) cs long, key_inside k (length cs) p 0 h (omega arith)) in (
+        l,
+        face-row (p * k + 0) l
+            ∙ ap₂ {C = Row} (λ a q. without a (row_at cs q)) (place_of_key p 0 k (omega arith)) (cell_of_key p 0 k (omega arith)),
+      )
 
   found : (g : ℕ) × (g < n) × (twin_at k n rows P g ≡ true) → cell_twice cs ≡ false → ⊥
   found r e =

@@ -153,5 +153,6 @@ pub paired-winged : (d : ℕ) (cs : List Cell) (P W : List ℕ) → All (Long (s
 paired-winged zero cs P W long asc few small prev meet blank p a hp ha =
     blank.1 (p * 1 + a) (omega arith) ∙ sym (lone cs long p a hp ha)
 paired-winged (suc d) cs P W long asc few small prev meet blank p a hp ha =
-    subst (λ n. get_or (paired (suc (suc d)) n P n W) (p * suc (suc d) + a) 0 ≡ neighbour p (without a (row_at cs p)) cs) (facets-length (suc d) cs long)
+    subst (λ n. get_or (paired (suc (suc d)) n P n W) (p * suc (suc d) + a) 0 ≡ neighbour p (without a (row_at cs p)) cs)
+    (facets-length (suc d) cs long)
     (paired_at_lem (suc d) cs P W long asc few small prev meet blank.0 blank.1 p a (omega arith) hp ha)

@@ -25,8 +25,7 @@ mod host;
 mod reading;
 mod sending;
 
-#[unsafe(no_mangle)]
-pub extern "C" fn winged_wing(
+pub fn winged_wing(
     d: u32,
     v: u32,
     s: u32,
@@ -52,15 +51,7 @@ pub extern "C" fn winged_wing(
     wing_told(d, v, s, cells, table, uploaded)
 }
 
-#[unsafe(no_mangle)]
-pub extern "C" fn winged_sweep(
-    d: u32,
-    v: u32,
-    s: u32,
-    h: u32,
-    table: &[u8],
-    swept: &mut [u8],
-) -> i64
+pub fn winged_sweep(d: u32, v: u32, s: u32, h: u32, table: &[u8], swept: &mut [u8]) -> i64
     ensures answer { result ≡ host_sweep d v s h table.now swept.old }
     ensures buffer { swept.new ≡ host_sweep_buffer d v s h table.now swept.old }
 {
@@ -71,8 +62,7 @@ pub extern "C" fn winged_sweep(
     sweep_told(d, v, s, h, table, swept)
 }
 
-#[unsafe(no_mangle)]
-pub extern "C" fn winged_faces(d: u32, v: u32, s: u32, table: &[u8], faces: &mut [u8]) -> i64
+pub fn winged_faces(d: u32, v: u32, s: u32, table: &[u8], faces: &mut [u8]) -> i64
     ensures answer { result ≡ host_faces d v s table.now faces.old }
     ensures buffer { faces.new ≡ host_faces_buffer d v s table.now faces.old }
 {
@@ -82,13 +72,7 @@ pub extern "C" fn winged_faces(d: u32, v: u32, s: u32, table: &[u8], faces: &mut
     faces_told(d, v, s, table, faces)
 }
 
-#[unsafe(no_mangle)]
-pub extern "C" fn winged_read(
-    file: &[u8],
-    header: &mut [u8],
-    cells: &mut [u8],
-    points: &mut [u8],
-) -> i64
+pub fn winged_read(file: &[u8], header: &mut [u8], cells: &mut [u8], points: &mut [u8]) -> i64
     ensures answer { result
         ≡ host_answer (host_read_outcome file.now header.old cells.old points.old) }
     ensures header { header.new
@@ -101,8 +85,7 @@ pub extern "C" fn winged_read(
     answered(read_bytes(file, header, cells, points))
 }
 
-#[unsafe(no_mangle)]
-pub extern "C" fn winged_move(
+pub fn winged_move(
     n: u32,
     v: u32,
     h: u32,
@@ -132,8 +115,7 @@ pub extern "C" fn winged_move(
     answered(move_bytes(n as usize, v as usize, h as usize, step, points, levels))
 }
 
-#[unsafe(no_mangle)]
-pub extern "C" fn winged_list(
+pub fn winged_list(
     version: u32,
     d: u32,
     n: u32,
@@ -158,8 +140,7 @@ pub extern "C" fn winged_list(
     ))
 }
 
-#[unsafe(no_mangle)]
-pub extern "C" fn winged_key(file: &[u8], text: &mut [u8]) -> i64
+pub fn winged_key(file: &[u8], text: &mut [u8]) -> i64
     ensures answer { result ≡ host_answer (text_outcome file.now (length text.old)) }
     ensures buffer { text.new ≡ text_buffer file.now text.old }
 {

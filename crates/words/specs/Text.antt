@@ -2,7 +2,7 @@
 --   ascii "key"       the codes of a text's characters: 107, 101, 121
 use mathlib.Core.List as L
 use Rattle.std.specs.Prelude.{List, ℕ}
-use Prim.Native.Char.{Char, code}
+use Prim.Native.Char.{code}
 use Prim.Native.String.{String, [], ◌∷◌}
 
 abbrev pub ascii : String → List ℕ

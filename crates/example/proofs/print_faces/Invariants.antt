@@ -4,7 +4,7 @@ use lib.ListN.{length}
 use Rattle.example.proofs.print_faces.Given as goal
 
 abbrev pub invariant-loop-left : goal.invariant-loop-left
-invariant-loop-left l = l.at ≤ length l.faces
+invariant-loop-left g l = l.at ≤ length l.faces
 
 abbrev pub decreases-loop-left : goal.decreases-loop-left
-decreases-loop-left l = l.left
+decreases-loop-left g l = l.left

@@ -35,28 +35,44 @@ gather_all-requires c = there (goal.at.gather_all-requires c).Start 1 c.if-d-eq1
 
 pub returns-then-d-eq1 : goal.returns-then-d-eq1
 returns-then-d-eq1 c =
-    let r = back (goal.at.returns-then-d-eq1 c).Start 1 _ _ c.if-d-eq1.true (c.gather_all.ensures.table, c.gather_all.ensures.fine, c.gather_all.ensures.signs) in record { table = r.0; fine = r.1; signs = r.2 }
+    let r = back (goal.at.returns-then-d-eq1 c).Start 1 _ _ c.if-d-eq1.true (
+      c.gather_all.ensures.table,
+      c.gather_all.ensures.fine,
+      c.gather_all.ensures.signs,
+    ) in record { table = r.0; fine = r.1; signs = r.2 }
 
 pub gather_all-requires-then-d-eq2 : goal.gather_all-requires-then-d-eq2
 gather_all-requires-then-d-eq2 c = there (goal.at.gather_all-requires-then-d-eq2 c).Start 2 c.if-d-eq2.true
 
 pub returns-then-d-eq2 : goal.returns-then-d-eq2
 returns-then-d-eq2 c =
-    let r = back (goal.at.returns-then-d-eq2 c).Start 2 _ _ c.if-d-eq2.true (c.gather_all-then-d-eq2.ensures.table, c.gather_all-then-d-eq2.ensures.fine, c.gather_all-then-d-eq2.ensures.signs) in record { table = r.0; fine = r.1; signs = r.2 }
+    let r = back (goal.at.returns-then-d-eq2 c).Start 2 _ _ c.if-d-eq2.true (
+      c.gather_all-then-d-eq2.ensures.table,
+      c.gather_all-then-d-eq2.ensures.fine,
+      c.gather_all-then-d-eq2.ensures.signs,
+    ) in record { table = r.0; fine = r.1; signs = r.2 }
 
 pub gather_all-requires-then-d-eq3 : goal.gather_all-requires-then-d-eq3
 gather_all-requires-then-d-eq3 c = there (goal.at.gather_all-requires-then-d-eq3 c).Start 3 c.if-d-eq3.true
 
 pub returns-then-d-eq3 : goal.returns-then-d-eq3
 returns-then-d-eq3 c =
-    let r = back (goal.at.returns-then-d-eq3 c).Start 3 _ _ c.if-d-eq3.true (c.gather_all-then-d-eq3.ensures.table, c.gather_all-then-d-eq3.ensures.fine, c.gather_all-then-d-eq3.ensures.signs) in record { table = r.0; fine = r.1; signs = r.2 }
+    let r = back (goal.at.returns-then-d-eq3 c).Start 3 _ _ c.if-d-eq3.true (
+      c.gather_all-then-d-eq3.ensures.table,
+      c.gather_all-then-d-eq3.ensures.fine,
+      c.gather_all-then-d-eq3.ensures.signs,
+    ) in record { table = r.0; fine = r.1; signs = r.2 }
 
 pub gather_all-requires-then-d-eq4 : goal.gather_all-requires-then-d-eq4
 gather_all-requires-then-d-eq4 c = there (goal.at.gather_all-requires-then-d-eq4 c).Start 4 c.if-d-eq4.true
 
 pub returns-then-d-eq4 : goal.returns-then-d-eq4
 returns-then-d-eq4 c =
-    let r = back (goal.at.returns-then-d-eq4 c).Start 4 _ _ c.if-d-eq4.true (c.gather_all-then-d-eq4.ensures.table, c.gather_all-then-d-eq4.ensures.fine, c.gather_all-then-d-eq4.ensures.signs) in record { table = r.0; fine = r.1; signs = r.2 }
+    let r = back (goal.at.returns-then-d-eq4 c).Start 4 _ _ c.if-d-eq4.true (
+      c.gather_all-then-d-eq4.ensures.table,
+      c.gather_all-then-d-eq4.ensures.fine,
+      c.gather_all-then-d-eq4.ensures.signs,
+    ) in record { table = r.0; fine = r.1; signs = r.2 }
 
 pub all_fine-fine-requires : goal.all_fine-fine-requires
 all_fine-fine-requires c =

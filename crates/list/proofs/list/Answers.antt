@@ -13,22 +13,25 @@ use Rattle.records.specs.Layout.{table_length}
 use Rattle.boundary.specs.Inner.Walk.{table_faces}
 use Rattle.listing.specs.Lines.{key_text}
 use Rattle.listing.specs.Inner.Parts.{Points}
-use Rattle.list.specs.List.{list_input, list_text, list_rules}
+use Rattle.list.specs.List.{ListInput, list_input, list_text, list_rules}
 use Rattle.list.proofs.Order.{refuses, accepts}
 use Rattle.list.proofs.list.Goals as goal
-use Rattle.list.proofs.list.Goals.{After-less, Else-not-all_in_range, Else-not-numbers_fit}
+use Rattle.list.proofs.list.Goals.{After-less, Else-not-all_in_range, Else-not-numbers_fit, Start}
+
+abbrev input : Start → ListInput
+input s = let a = s.args in list_input a.version a.d a.n a.v a.s a.table.now a.points.now (length a.out.now)
 
 limits : (c : Else-not-numbers_fit) → let a = c.args in ListLimits a.d a.n a.v a.s
-limits c = list_limits_are c.args.version _ _ _ _ (ap not (sym c.numbers_fit.ensures) ∙ c.if-not-numbers_fit.false)
+limits c = list_limits_are c.args.version _ _ _ _ (ap not (sym c.numbers_fit.ensures ∙ c.if-not-numbers_fit.false))
 
 -- what the tests say of the table and the points
 told : (c : Else-not-all_in_range) → let a = c.args in Table a.d a.s a.table.now × Points a.n a.v a.points.now
 told c =
     let a = c.args in
     let l = limits (goal.at.Else-not-all_in_range c).Else-not-numbers_fit in
-    let fit = ap not (sym c.lengths_fit.ensures) ∙ c.if-not-lengths_fit.false in
+    let fit = ap not (sym c.lengths_fit.ensures ∙ c.if-not-lengths_fit.false) in
     let long = and_parts (eqb (length a.table.now) (table_length a.d a.s)) (eqb (length a.points.now) (a.v * a.n)) (not-false _ fit) in
-    let ranged = not-false _ (ap not (sym c.all_in_range.ensures) ∙ c.if-not-all_in_range.false) in (
+    let ranged = not-false _ (ap not (sym c.all_in_range.ensures ∙ c.if-not-all_in_range.false)) in (
       record { dimension = l.dimension; cells = l.cells; long = eqb-true _ _ long.0 },
       record { axes = l.axes; vertices = l.vertices; long = eqb-true _ _ long.1; ranged = ranged },
     )
@@ -43,29 +46,39 @@ compared c = c.less.ensures ∙ ap (ltb _) c.key_size-size.ensures.text
 
 pub returns-then-not-numbers_fit : goal.returns-then-not-numbers_fit
 unfolding list_rules
-returns-then-not-numbers_fit c = refuses _ _ 2 cc
+returns-then-not-numbers_fit c =
+    let both = refuses (input (goal.at.returns-then-not-numbers_fit c).Start) c.args.out.now 2 cc in
+    record { answer = both.0; buffer = both.1 }
 
 pub lengths_fit-requires : goal.lengths_fit-requires
 lengths_fit-requires c = let l = limits c in (l.dimension, l.axes, l.vertices, l.cells)
 
 pub returns-then-not-lengths_fit : goal.returns-then-not-lengths_fit
 unfolding list_rules
-returns-then-not-lengths_fit c = refuses _ _ 3 cc
+returns-then-not-lengths_fit c =
+    let both = refuses (input (goal.at.returns-then-not-lengths_fit c).Start) c.args.out.now 3 cc in
+    record { answer = both.0; buffer = both.1 }
 
 pub returns-then-not-all_in_range : goal.returns-then-not-all_in_range
 unfolding list_rules
-returns-then-not-all_in_range c = refuses _ _ 4 cc
+returns-then-not-all_in_range c =
+    let both = refuses (input (goal.at.returns-then-not-all_in_range c).Start) c.args.out.now 4 cc in
+    record { answer = both.0; buffer = both.1 }
 
 pub returns-then-not-is_sound : goal.returns-then-not-is_sound
 unfolding list_rules
-returns-then-not-is_sound c = refuses _ _ 14 cc
+returns-then-not-is_sound c =
+    let both = refuses (input (goal.at.returns-then-not-is_sound c).Start) c.args.out.now 14 cc in
+    record { answer = both.0; buffer = both.1 }
 
 pub key_size-size-requires : goal.key_size-size-requires
 key_size-size-requires c = told (goal.at.key_size-size-requires c).Else-not-all_in_range
 
 pub returns-then-less : goal.returns-then-less
 unfolding list_rules list_text
-returns-then-less c = refuses _ _ 15 (cc (compared (goal.at.returns-then-less c).After-less))
+returns-then-less c =
+    let both = refuses (input (goal.at.returns-then-less c).Start) c.args.out.now 15 (cc (compared (goal.at.returns-then-less c).After-less)) in
+    record { answer = both.0; buffer = both.1 }
 
 pub put_key-requires : goal.put_key-requires
 unfolding list_text
@@ -77,6 +90,7 @@ pub returns : goal.returns
 unfolding list_rules list_text
 returns c =
     let a = c.args in
-    accepts _ _ _ _ (cc (compared (goal.at.returns c).After-less)) c.key_size-size.ensures.text
+    let both = accepts (input (goal.at.returns c).Start) a.out.now _ _ (cc (compared (goal.at.returns c).After-less)) c.key_size-size.ensures.text
     (c.put_key.ensures.content
-    ∙ placed_first (key_text a.version a.d a.n a.v a.points.now (table_faces a.d a.s a.table.now)) a.out.now)
+    ∙ placed_first (key_text a.version a.d a.n a.v a.points.now (table_faces a.d a.s a.table.now)) a.out.now) in
+    record { answer = both.0; buffer = both.1 }

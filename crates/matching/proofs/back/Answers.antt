@@ -57,14 +57,20 @@ pub same_key-requires : goal.same_key-requires
 same_key-requires c = (
   c.requires.keyed.0.long,
   c.requires.keyed.0.vertices,
-  omega (arith, (div-lt_iff_lt-mul {y = 4096} c.requires.keyed.0.some).1 (lt_trans (lower (goal.at.same_key-requires c).In-loop-f) c.requires.keyed.2), c.place_of-there.ensures.0),
+  omega (
+    arith,
+    (div-lt_iff_lt-mul {y = 4096} c.requires.keyed.0.some).1
+        (lt_trans (lower (goal.at.same_key-requires c).In-loop-f) c.requires.keyed.2),
+    c.place_of-there.ensures.0,
+  ),
   omega (arith, (div-lt_iff_lt-mul {y = 4096} c.requires.keyed.0.some).1 c.requires.keyed.2, c.place_of-here.ensures.0),
 )
 
 pub returns-then-same_key : goal.returns-then-same_key
 unfolding earlier
 returns-then-same_key c =
-    λ h. sym (walk_found (keys (goal.at.returns-then-same_key c).Start) _ _ c.loop-f.invariant c.loop-f-test.true (sym (compares (goal.at.returns-then-same_key c).After-same_key) ∙ c.if-same_key.true))
+    λ h. sym (walk_found (keys (goal.at.returns-then-same_key c).Start) _ _ c.loop-f.invariant c.loop-f-test.true
+    (sym (compares (goal.at.returns-then-same_key c).After-same_key) ∙ c.if-same_key.true))
 
 pub offset_bounds-prev-x : goal.offset_bounds-prev-x
 offset_bounds-prev-x c = omega (arith, lower (goal.at.offset_bounds-prev-x c).In-loop-f)
@@ -76,12 +82,17 @@ pub loop-f-smaller : goal.loop-f-smaller
 loop-f-smaller c =
     let f = c.loop-f.f in
     let h = lower (goal.at.loop-f-smaller c).In-loop-f in
-    omega (arith, rank_under (bucket_at (keys (goal.at.loop-f-smaller c).Start)) _ f _ (omega arith) (c.requires.linked f (omega arith)), rank_is f (omega arith))
+    omega (
+      arith,
+      rank_under (bucket_at (keys (goal.at.loop-f-smaller c).Start)) _ f _ (omega arith) (c.requires.linked f (omega arith)),
+      rank_is f (omega arith),
+    )
 
 pub loop-f-preserved : goal.loop-f-preserved
 loop-f-preserved c =
     let h = lower (goal.at.loop-f-preserved c).In-loop-f in
-    walk_next (keys (goal.at.loop-f-preserved c).Start) _ _ _ (omega arith) c.loop-f.invariant c.loop-f-test.true (sym (compares (goal.at.loop-f-preserved c).After-same_key) ∙ c.if-same_key.false) (c.requires.linked _ (omega arith))
+    walk_next (keys (goal.at.loop-f-preserved c).Start) _ _ _ (omega arith) c.loop-f.invariant c.loop-f-test.true
+    (sym (compares (goal.at.loop-f-preserved c).After-same_key) ∙ c.if-same_key.false) (c.requires.linked _ (omega arith))
 
 pub returns : goal.returns
 unfolding earlier

@@ -1,6 +1,6 @@
 -- From the last key down. The loop's invariant: the keys before g are linked, and those from g on are answered.
 use mathlib.Core.Path.{◌≡◌}
-use Prim.Native.Nat.{ℕ, ◌-◌, ◌≤◌, ◌<◌}
+use Prim.Native.Nat.{ℕ, ◌≤◌, ◌<◌}
 use lib.ListN.{length, get_or}
 use Rattle.matching.specs.Inner.Matching.{key_row, earlier, Behind}
 use Rattle.matching.specs.Inner.Buckets.{bucket_at}

@@ -18,7 +18,8 @@ use Rattle.points.specs.Carrying.{carries}
 use Rattle.motion.specs.Move.{MoveInput, move_input, moved_levels, moved_length, move_tests, move_rules, move_outcome, move_buffer}
 use Rattle.motion.proofs.Order.{refuses, accepts, full, free}
 use Rattle.motion.proofs.move_points.Goals as goal
-use Rattle.motion.proofs.move_points.Goals.{After-less-2, Else-differ, Else-less, Else-less-2, Else-not-carries, Else-not-fits, Else-not-floats_in_range, Else-not-levels_stay, Else-not-numbers_ok, Start}
+use Rattle.motion.proofs.move_points.Goals.{After-less-2, Else-differ, Else-less, Else-less-2, Else-not-carries, Else-not-fits}
+use Rattle.motion.proofs.move_points.Goals.{Else-not-floats_in_range, Else-not-levels_stay, Else-not-numbers_ok, Start}
 
 abbrev told : Start → MoveInput
 told s = let a = s.args in move_input a.n a.v a.h a.step a.points.now (length a.out.now)
@@ -77,7 +78,8 @@ room c =
     ap (λ k. ltb (length a.out.now) (k * a.n)) (sym c.swept_vertices-swept.ensures) ∙ sym c.less-2.ensures
 
 none : (c : Else-less-2) → None move_rules (told ((goal.at.Else-less-2 c).Start))
-none c = free (told ((goal.at.Else-less-2 c).Start)) (passed (goal.at.Else-less-2 c).Else-not-carries) (room (goal.at.Else-less-2 c).After-less-2 ∙ c.if-less-2.false)
+none c = free (told ((goal.at.Else-less-2 c).Start)) (passed (goal.at.Else-less-2 c).Else-not-carries) (room (goal.at.Else-less-2 c).After-less-2
+    ∙ c.if-less-2.false)
 
 pub returns-then-not-numbers_ok : goal.returns-then-not-numbers_ok
 unfolding move_rules
@@ -135,7 +137,11 @@ returns-then-less c =
 
 pub levels_stay-requires : goal.levels_stay-requires
 levels_stay-requires c = record {
-  n_bound = ((limits (goal.at.levels_stay-requires c).Else-not-numbers_ok).axes, long (goal.at.levels_stay-requires c).Else-differ, fits (goal.at.levels_stay-requires c).Else-not-fits);
+  n_bound = (
+    (limits (goal.at.levels_stay-requires c).Else-not-numbers_ok).axes,
+    long (goal.at.levels_stay-requires c).Else-differ,
+    fits (goal.at.levels_stay-requires c).Else-not-fits,
+  );
   points_value = ranged (goal.at.levels_stay-requires c).Else-not-floats_in_range;
 }
 
@@ -153,7 +159,11 @@ returns-then-not-levels_stay c =
     record { answer = r.0; buffer = r.1 }
 
 pub carries-requires : goal.carries-requires
-carries-requires c = ((limits (goal.at.carries-requires c).Else-not-numbers_ok).axes, not-false _ (fits (goal.at.carries-requires c).Else-not-fits), eqb-true _ _ (not-false _ (long (goal.at.carries-requires c).Else-differ)))
+carries-requires c = (
+  (limits (goal.at.carries-requires c).Else-not-numbers_ok).axes,
+  not-false _ (fits (goal.at.carries-requires c).Else-not-fits),
+  eqb-true _ _ (not-false _ (long (goal.at.carries-requires c).Else-differ)),
+)
 
 pub returns-then-not-carries : goal.returns-then-not-carries
 unfolding move_rules moved_levels
@@ -170,7 +180,8 @@ returns-then-not-carries c =
     record { answer = r.0; buffer = r.1 }
 
 pub overflow_mul-count : goal.overflow_mul-count
-overflow_mul-count c = omega (arith, mul-le-mul (few (goal.at.overflow_mul-count c).Else-less) (limits (goal.at.overflow_mul-count c).Else-not-numbers_ok).axes)
+overflow_mul-count c =
+    omega (arith, mul-le-mul (few (goal.at.overflow_mul-count c).Else-less) (limits (goal.at.overflow_mul-count c).Else-not-numbers_ok).axes)
 
 pub returns-then-less-2 : goal.returns-then-less-2
 unfolding move_rules moved_levels

@@ -7,12 +7,13 @@
 --   total m x             the sum of x at the numbers below m
 --   Paired d ws m n       of the keys below m each is first or second, or is new and waits for its pair; at most n wait
 --   Passing d s ws .. m n         the same of a table whose rows ascend, with its keys in their buckets
+--   PassingAlike d s ws .. m n    the same, where of hashes no more is known than that equal faces have equal ones
 use Rattle.std.specs.Prelude.{◌≡◌, ◌⊎◌, List, ℕ, zero, suc, ◌+◌, ◌*◌, ◌/◌, ◌%◌, ◌≤◌, ◌<◌, length}
 use Rattle.simplex.specs.Sort.{Asc}
 use Rattle.records.specs.Layout.{empty}
 use Rattle.records.specs.Inner.Inside.{Table, wing_in}
 use Rattle.soundness.specs.Inner.Certified.{Meets, row_in}
-use Rattle.soundness.specs.Inner.Hashing.{Alike, Chains, face_of}
+use Rattle.soundness.specs.Inner.Hashing.{Alike, Chains, Hashes, face_of}
 
 abbrev pub wing_of : ℕ → List ℕ → ℕ → ℕ
 wing_of d ws g = wing_in d ws (g / suc d) (g % suc d)
@@ -39,6 +40,16 @@ pub record Paired (d : ℕ) (ws : List ℕ) (m n : ℕ) : Type 0 where
   pub done : (g : ℕ) → g < m → (First d ws m g ⊎ Second d ws g) ⊎ (New d ws g × (1 ≤ waits g))
 
 pub record Passing (d s : ℕ) (ws hash head next : List ℕ) (m n : ℕ) : Type 0 where
+  pub table : Table d s ws
+  pub up : (p : ℕ) → p < s → Asc (row_in d ws p)
+  pub wide : s * suc d ≤ length hash
+  pub deep : s * suc d ≤ length next
+  pub hashed : Hashes d ws hash (s * suc d)
+  pub chains : Chains hash head next m
+  pub paired : Paired d ws m n
+  pub low : n ≤ m
+
+pub record PassingAlike (d s : ℕ) (ws hash head next : List ℕ) (m n : ℕ) : Type 0 where
   pub table : Table d s ws
   pub up : (p : ℕ) → p < s → Asc (row_in d ws p)
   pub wide : s * suc d ≤ length hash

@@ -20,7 +20,8 @@ use Rattle.sweep.specs.Sweep.{sweep_input, swept_length, sweep_rules}
 use Rattle.sweep.proofs.Order.{refuses, accepts, small}
 use Rattle.sweep.proofs.CallWords.{call_words, call_long}
 use Rattle.sweep.proofs.sweep.Goals as goal
-use Rattle.sweep.proofs.sweep.Goals.{After-differ, After-in_limits, After-is_sound, After-less, After-too_large, Else-differ, Else-less, Else-not-in_limits, Else-not-is_sound, Else-too_large}
+use Rattle.sweep.proofs.sweep.Goals.{After-differ, After-in_limits, After-is_sound, After-less, After-too_large, Else-differ, Else-less}
+use Rattle.sweep.proofs.sweep.Goals.{Else-not-in_limits, Else-not-is_sound, Else-too_large}
 
 -- the rows are what the code tests
 two : (c : After-in_limits) → let a = c.args in
@@ -79,7 +80,8 @@ pub returns-then-not-in_limits : goal.returns-then-not-in_limits
 unfolding sweep_rules
 returns-then-not-in_limits c =
     let a = c.args in
-    let r = refuses (sweep_input a.d a.v a.s a.h a.table.now (length a.out.now)) a.out.now 2 (rw (two (goal.at.returns-then-not-in_limits c).After-in_limits ∙ ap not c.if-not-in_limits.true) refl) in
+    let r = refuses (sweep_input a.d a.v a.s a.h a.table.now (length a.out.now)) a.out.now 2
+    (rw (two (goal.at.returns-then-not-in_limits c).After-in_limits ∙ ap not c.if-not-in_limits.true) refl) in
     record {
       answer = r.0;
       buffer = r.1;
@@ -92,7 +94,9 @@ pub returns-then-differ : goal.returns-then-differ
 unfolding sweep_rules
 returns-then-differ c =
     let a = c.args in
-    let r = refuses (sweep_input a.d a.v a.s a.h a.table.now (length a.out.now)) a.out.now 3 (rw (two-passes (goal.at.returns-then-differ c).Else-not-in_limits, three (goal.at.returns-then-differ c).After-differ ∙ c.if-differ.true) refl) in
+    let r = refuses (sweep_input a.d a.v a.s a.h a.table.now (length a.out.now)) a.out.now 3
+    (rw (two-passes (goal.at.returns-then-differ c).Else-not-in_limits, three (goal.at.returns-then-differ c).After-differ ∙ c.if-differ.true)
+    refl) in
     record {
       answer = r.0;
       buffer = r.1;
@@ -105,7 +109,12 @@ pub returns-then-too_large : goal.returns-then-too_large
 unfolding sweep_rules
 returns-then-too_large c =
     let a = c.args in
-    let r = refuses (sweep_input a.d a.v a.s a.h a.table.now (length a.out.now)) a.out.now 12 (rw (two-passes (goal.at.returns-then-too_large c).Else-not-in_limits, three-passes (goal.at.returns-then-too_large c).Else-differ, twelve (goal.at.returns-then-too_large c).After-too_large ∙ c.if-too_large.true) refl) in
+    let r = refuses (sweep_input a.d a.v a.s a.h a.table.now (length a.out.now)) a.out.now 12
+    (rw (
+      two-passes (goal.at.returns-then-too_large c).Else-not-in_limits,
+      three-passes (goal.at.returns-then-too_large c).Else-differ,
+      twelve (goal.at.returns-then-too_large c).After-too_large ∙ c.if-too_large.true,
+    ) refl) in
     record {
       answer = r.0;
       buffer = r.1;
@@ -116,7 +125,13 @@ unfolding sweep_rules
 returns-then-not-is_sound c =
     let a = c.args in
     let r = refuses (sweep_input a.d a.v a.s a.h a.table.now (length a.out.now)) a.out.now 14
-    (rw (two-passes (goal.at.returns-then-not-is_sound c).Else-not-in_limits, three-passes (goal.at.returns-then-not-is_sound c).Else-differ, twelve-passes (goal.at.returns-then-not-is_sound c).Else-too_large, fourteen (goal.at.returns-then-not-is_sound c).After-is_sound ∙ ap not c.if-not-is_sound.true) refl) in
+    (rw (
+      two-passes (goal.at.returns-then-not-is_sound c).Else-not-in_limits,
+      three-passes (goal.at.returns-then-not-is_sound c).Else-differ,
+      twelve-passes (goal.at.returns-then-not-is_sound c).Else-too_large,
+      fourteen (goal.at.returns-then-not-is_sound c).After-is_sound
+          ∙ ap not c.if-not-is_sound.true,
+    ) refl) in
     record {
       answer = r.0;
       buffer = r.1;

@@ -25,7 +25,7 @@ three c =
     ap (λ n. not (eqb (length a.cells.now) n)) (sym c.list_words.ensures) ∙ sym c.differ.ensures
 
 two-passes : (c : Else-not-within) → let a = c.args in not (shape_ok max_dimension a.d a.v a.s) ≡ false
-two-passes c = two (goal.at.Else-not-within c).After-within ∙ c.if-not-within.false
+two-passes c = two (goal.at.Else-not-within c).After-within ∙ ap not c.if-not-within.false
 
 three-passes : (c : Else-differ) → let a = c.args in not (eqb (length a.cells.now) (a.s * list_size a.d)) ≡ false
 three-passes c = three (goal.at.Else-differ c).After-differ ∙ c.if-differ.false
@@ -35,14 +35,20 @@ limits c = limits_are _ _ _ _ (two-passes c)
 
 pub returns-then-not-within : goal.returns-then-not-within
 unfolding wing_rules
-returns-then-not-within c = refuses _ _ 2 (rw (two (goal.at.returns-then-not-within c).After-within ∙ c.if-not-within.true) refl)
+returns-then-not-within c =
+    let r = refuses _ _ 2 (rw (two (goal.at.returns-then-not-within c).After-within ∙ ap not c.if-not-within.true) refl) in
+    record { answer = r.0; table = r.1 }
 
 pub list_words-requires : goal.list_words-requires
 list_words-requires c = let l = limits c in (l.dimension, l.cells)
 
 pub returns-then-differ : goal.returns-then-differ
 unfolding wing_rules
-returns-then-differ c = refuses _ _ 3 (rw (two-passes (goal.at.returns-then-differ c).Else-not-within, three (goal.at.returns-then-differ c).After-differ ∙ c.if-differ.true) refl)
+returns-then-differ c =
+    let two = two-passes (goal.at.returns-then-differ c).Else-not-within in
+    let three = three (goal.at.returns-then-differ c).After-differ ∙ c.if-differ.true in
+    let r = refuses _ _ 3 (rw (two, three) refl) in
+    record { answer = r.0; table = r.1 }
 
 pub write_table-requires : goal.write_table-requires
 write_table-requires c =
@@ -51,4 +57,7 @@ write_table-requires c =
 
 pub returns : goal.returns
 returns c =
-    passes _ _ _ _ _ _ (two-passes (goal.at.returns c).Else-not-within) (three-passes (goal.at.returns c).Else-differ) _ _ c.write_table.ensures.answer c.write_table.ensures.table
+    let two = two-passes (goal.at.returns c).Else-not-within in
+    let three = three-passes (goal.at.returns c).Else-differ in
+    let r = passes _ _ _ _ _ _ two three _ _ c.write_table.ensures.answer c.write_table.ensures.table in
+    record { answer = r.0; table = r.1 }

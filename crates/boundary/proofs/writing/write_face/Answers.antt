@@ -35,12 +35,17 @@ overflow_add-next c = omega (arith, fits c)
 
 pub loop-j-preserved : goal.loop-j-preserved
 loop-j-preserved c =
-    let here : c.loop-j.j < length (words (goal.at.loop-j-preserved c).Start) = omega (arith, long (goal.at.loop-j-preserved c).Start) in
-    (omega arith, cc, left_next 0 (words (goal.at.loop-j-preserved c).Start) c.loop-j.j here c.loop-j.invariant.2 _ _ c.face_word.ensures (omega arith))
+    let here : c.loop-j.j < length (words (goal.at.loop-j-preserved c).Start) = omega (arith, long (goal.at.loop-j-preserved c).Start) in (
+      omega arith,
+      cc,
+      left_next 0 (words (goal.at.loop-j-preserved c).Start) c.loop-j.j here c.loop-j.invariant.2 _ _ c.face_word.ensures
+          (omega arith),
+    )
 
 pub shape_of-out : goal.shape_of-out
 shape_of-out c = c.loop-j.invariant.2.same
 
 pub returns : goal.returns
 returns c =
-    left_ends (rw (drop_of_length-le (words (goal.at.returns c).Start) {i = c.loop-j.j} (omega (arith, long (goal.at.returns c).Start))) at c.loop-j.invariant.2)
+    left_ends (rw (drop_of_length-le (words (goal.at.returns c).Start) {i = c.loop-j.j} (omega (arith, long (goal.at.returns c).Start))) at
+    c.loop-j.invariant.2)

@@ -28,7 +28,8 @@ loop-at-smaller c =
 
 pub loop-at-preserved : goal.loop-at-preserved
 loop-at-preserved c =
-    walk_goes c.loop-at.invariant (long (goal.at.loop-at-preserved c).Start) c.loop-at-test.true c.next_face-at-in-loop-at.ensures c.write_face-next.ensures
+    walk_goes c.loop-at.invariant (long (goal.at.loop-at-preserved c).Start) c.loop-at-test.true c.next_face-at-in-loop-at.ensures
+    c.write_face-next.ensures
 
 pub shape_of-out : goal.shape_of-out
 shape_of-out c = c.loop-at.invariant.left.same

@@ -41,5 +41,8 @@ pub write_lent-requires : goal.write_lent-requires
 write_lent-requires c =
     record {
       lent = c.requires.lent;
-      list_len = (length-take-le _ _ (list_fits (goal.at.write_lent-requires c).After-list_words-n) ∙ c.list_words-n.ensures, length-take-le _ _ (table_fits (goal.at.write_lent-requires c).After-table_words-m) ∙ c.table_words-m.ensures);
+      list_len = (
+        length-take-le _ _ (list_fits (goal.at.write_lent-requires c).After-list_words-n) ∙ c.list_words-n.ensures,
+        length-take-le _ _ (table_fits (goal.at.write_lent-requires c).After-table_words-m) ∙ c.table_words-m.ensures,
+      );
     }

@@ -44,11 +44,10 @@ uploaded_bytes-requires c =
 
 pub returns-then-try_table : goal.returns-then-try_table
 returns-then-try_table c =
-    let t = tried ((goal.at.returns-then-try_table c).Then-try_table) in
-    let s = start ((goal.at.returns-then-try_table c).After-decode) in
-    let a = s.args in
-    let made = t.try-table.ensures.0 c.if-try_table.true in
-    direct_writes a.d a.v a.s a.cells.now a.table.now a.uploaded.now _ _ _ _ s.requires.0.0.size (whole (goal.at.returns-then-try_table c).After-decode)
+    let a = c.args in
+    let made = c.try_table.ensures.made c.if-try_table.true in
+    direct_writes a.d a.v a.s a.cells.now a.table.now a.uploaded.now _ _ _ _ c.requires.lent.0.size
+    (whole (goal.at.returns-then-try_table c).After-decode)
     made.0 made.1 c.encode.ensures c.uploaded_bytes.ensures
 
 pub returns : goal.returns

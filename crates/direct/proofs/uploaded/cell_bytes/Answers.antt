@@ -23,11 +23,15 @@ long c = let a = c.args in row-long a.d a.cells.now a.table.now a.p
 
 fits : (c : After-uploaded_wing-w) → c.loop-j.next + 2 ≤ length c.loop-j.out
 fits c =
-    bytes_fit (words (goal.at.After-uploaded_wing-w c).Start) c.loop-j.j (omega (arith, long (goal.at.After-uploaded_wing-w c).Start)) c.loop-j.invariant.1
+    bytes_fit (words (goal.at.After-uploaded_wing-w c).Start) c.loop-j.j (omega (arith, long (goal.at.After-uploaded_wing-w c).Start))
+    c.loop-j.invariant.1
 
 pub loop-j-init : goal.loop-j-init
-loop-j-init c =
-    (omega arith, left_starts _ _ _ (omega (arith, c.requires.3, long (goal.at.loop-j-init c).Start, bytes-length (words (goal.at.loop-j-init c).Start))))
+loop-j-init c = (
+  omega arith,
+  left_starts _ _ _
+      (omega (arith, c.requires.3, long (goal.at.loop-j-init c).Start, bytes-length (words (goal.at.loop-j-init c).Start))),
+)
 
 pub uploaded_wing-w-requires : goal.uploaded_wing-w-requires
 uploaded_wing-w-requires c =
@@ -60,4 +64,5 @@ shape_of-out c = c.loop-j.invariant.1.same
 
 pub returns : goal.returns
 returns c =
-    left_ends (rw (drop_of_length-le (words (goal.at.returns c).Start) {i = c.loop-j.j} (omega (arith, long (goal.at.returns c).Start))) at c.loop-j.invariant.1)
+    left_ends (rw (drop_of_length-le (words (goal.at.returns c).Start) {i = c.loop-j.j} (omega (arith, long (goal.at.returns c).Start))) at
+    c.loop-j.invariant.1)

@@ -43,7 +43,12 @@ cell_bytes-next-requires c =
       record { dimension = t.dimension; long = t.long; number = c.loop-p-test.true },
       c.requires.1,
       t.cells,
-      omega (arith, long, bytes-length row, left_record_fits _ _ (rows (goal.at.cell_bytes-next-requires c).Start) c.loop-p-test.true c.loop-p.invariant),
+      omega (
+        arith,
+        long,
+        bytes-length row,
+        left_record_fits _ _ (rows (goal.at.cell_bytes-next-requires c).Start) c.loop-p-test.true c.loop-p.invariant,
+      ),
     )
 
 pub overflow_add-p : goal.overflow_add-p

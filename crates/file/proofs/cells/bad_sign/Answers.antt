@@ -34,4 +34,5 @@ loop-p-preserved c =
     )
 
 pub returns : goal.returns
-returns c = any_ends no_sign 0 (sign_bytes (bytes (goal.at.returns c).At-loop-p)) _ c.loop-p.p (signs-length (bytes (goal.at.returns c).At-loop-p)) (omega arith) _ c.loop-p.invariant.1
+returns c = any_ends no_sign 0 (sign_bytes (bytes (goal.at.returns c).At-loop-p)) _ c.loop-p.p (signs-length (bytes (goal.at.returns c).At-loop-p))
+    (omega arith) _ c.loop-p.invariant.1

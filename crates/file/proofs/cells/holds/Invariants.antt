@@ -8,7 +8,8 @@ use Rattle.words.specs.Bytes.{words_from}
 use Rattle.file.proofs.cells.holds.Given as goal
 
 abbrev pub invariant-loop-left : goal.invariant-loop-left
-invariant-loop-left l = (l.from + l.left * 2 ≤ length l.b) × (any_of (eqb l.x) (words_from l.b l.at l.m) ≡ any_of (eqb l.x) (words_from l.b l.from l.left))
+invariant-loop-left l =
+    (l.from + l.left * 2 ≤ length l.b) × (any_of (eqb l.x) (words_from l.b l.at l.m) ≡ any_of (eqb l.x) (words_from l.b l.from l.left))
 
 abbrev pub decreases-loop-left : goal.decreases-loop-left
 decreases-loop-left l = l.left

@@ -24,14 +24,16 @@ loop-p-init c = (search rules, refl)
 pub returns-then-repeated : goal.returns-then-repeated
 returns-then-repeated c =
     let b = c.args.b.now in
-    any_stops (λ x. repeats x.row) no_cell (file_cells b) _ c.loop-p.p (cells-length b) (omega arith) _ refl _ (here (goal.at.returns-then-repeated c).After-repeated ∙ c.if-repeated.true)
+    any_stops (λ x. repeats x.row) no_cell (file_cells b) _ c.loop-p.p (cells-length b) (omega arith) _ refl _
+    (here (goal.at.returns-then-repeated c).After-repeated ∙ c.if-repeated.true)
     c.loop-p.invariant.1
 
 pub loop-p-preserved : goal.loop-p-preserved
 loop-p-preserved c =
     let b = c.args.b.now in (
       omega arith,
-      any_goes (λ x. repeats x.row) no_cell (file_cells b) _ c.loop-p.p (cells-length b) (omega arith) _ refl _ (here (goal.at.loop-p-preserved c).After-repeated ∙ c.if-repeated.false)
+      any_goes (λ x. repeats x.row) no_cell (file_cells b) _ c.loop-p.p (cells-length b) (omega arith) _ refl _
+          (here (goal.at.loop-p-preserved c).After-repeated ∙ c.if-repeated.false)
           c.loop-p.invariant.1,
     )
 

@@ -54,8 +54,15 @@ loop-p-init c =
     )
 
 pub write_cell-requires : goal.write_cell-requires
-write_cell-requires c =
-    (omega (arith, (room (goal.at.write_cell-requires c).In-loop-p).0, ap cell_head (version-is (goal.at.write_cell-requires c).At-loop-p), dimension-is (goal.at.write_cell-requires c).At-loop-p), omega (arith, (room (goal.at.write_cell-requires c).In-loop-p).1, dimension-is (goal.at.write_cell-requires c).At-loop-p))
+write_cell-requires c = (
+  omega (
+    arith,
+    (room (goal.at.write_cell-requires c).In-loop-p).0,
+    ap cell_head (version-is (goal.at.write_cell-requires c).At-loop-p),
+    dimension-is (goal.at.write_cell-requires c).At-loop-p,
+  ),
+  omega (arith, (room (goal.at.write_cell-requires c).In-loop-p).1, dimension-is (goal.at.write_cell-requires c).At-loop-p),
+)
 
 pub overflow_add-at : goal.overflow_add-at
 overflow_add-at c =

@@ -13,7 +13,8 @@ use Rattle.file.proofs.cells.write_cells.Given as goal
 
 abbrev pub invariant-loop-p : goal.invariant-loop-p
 invariant-loop-p l =
-    (l.p ≤ l.count) × (l.at ≡ cell_place l.b l.p) × Left 0 (file_words l.b) l.initial.out l.to (concat (map cell_words (drop l.p (file_cells l.b)))) l.out
+    (l.p ≤ l.count) × (l.at ≡ cell_place l.b l.p)
+    × Left 0 (file_words l.b) l.initial.out l.to (concat (map cell_words (drop l.p (file_cells l.b)))) l.out
 
 abbrev pub decreases-loop-p : goal.decreases-loop-p
 decreases-loop-p l = l.count - l.p

@@ -32,4 +32,5 @@ returns-else-in_range c =
 
 pub returns : goal.returns
 returns c =
-    all_ends in_range nan (file_points (bytes (goal.at.returns c).At-loop-k)) _ c.loop-k.k (points-length (bytes (goal.at.returns c).At-loop-k)) (omega arith) _ c.loop-k.invariant.1
+    all_ends in_range nan (file_points (bytes (goal.at.returns c).At-loop-k)) _ c.loop-k.k (points-length (bytes (goal.at.returns c).At-loop-k))
+    (omega arith) _ c.loop-k.invariant.1

@@ -23,8 +23,11 @@ float_at-requires c =
 pub loop-k-preserved : goal.loop-k-preserved
 loop-k-preserved c =
     let b = c.args.b.now in
-    let k = c.loop-k.k in
-    (omega arith, left_next nan (file_points b) k (omega (arith, points-length b)) c.loop-k.invariant.1 (k + 1) _ (cc (point_at b k (omega arith))) refl)
+    let k = c.loop-k.k in (
+      omega arith,
+      left_next nan (file_points b) k (omega (arith, points-length b)) c.loop-k.invariant.1 (k + 1) _ (cc (point_at b k (omega arith)))
+          refl,
+    )
 
 pub returns : goal.returns
 returns c =

@@ -6,7 +6,8 @@ use Rattle.simplex.specs.Cell.{same_row}
 use Rattle.file.proofs.numbers.starts_with.Given as goal
 
 abbrev pub invariant-loop-i : goal.invariant-loop-i
-invariant-loop-i l = (l.i ≤ length l.mark) × (same_row (take (length l.mark) l.b) l.mark ≡ same_row (drop l.i (take (length l.mark) l.b)) (drop l.i l.mark))
+invariant-loop-i l = (l.i ≤ length l.mark)
+    × (same_row (take (length l.mark) l.b) l.mark ≡ same_row (drop l.i (take (length l.mark) l.b)) (drop l.i l.mark))
 
 abbrev pub decreases-loop-i : goal.decreases-loop-i
 decreases-loop-i l = length l.mark - l.i

@@ -34,7 +34,8 @@ float_at-second-requires c = (omega (arith, c.requires.0), amount (goal.at.float
 
 pub returns-then-kind-eq2 : goal.returns-then-kind-eq2
 returns-then-kind-eq2 c =
-    let slant = slant_of c.args.b.now (not-slide (goal.at.returns-then-kind-eq2 c).Else-kind-eq1) (sym c.byte_at-kind.ensures.0 ∙ c.if-kind-eq2.true) in
+    let slant = slant_of c.args.b.now (not-slide (goal.at.returns-then-kind-eq2 c).Else-kind-eq1) (sym c.byte_at-kind.ensures.0 ∙ c.if-kind-eq2.true)
+    in
     rw (c.byte_at-axis.ensures.0, c.float_at-first.ensures, c.byte_at.ensures.0, c.float_at-second.ensures) (sym slant)
 
 pub float_at-requires : goal.float_at-requires

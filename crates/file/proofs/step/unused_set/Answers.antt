@@ -20,9 +20,11 @@ returns-then-kind-eq1 c =
 
 pub returns-then-kind-eq2 : goal.returns-then-kind-eq2
 returns-then-kind-eq2 c =
-    let slant = unused_slant (bytes (goal.at.returns-then-kind-eq2 c).After-byte_at-kind) (not-slide (goal.at.returns-then-kind-eq2 c).Else-kind-eq1) (sym c.byte_at-kind.ensures.0 ∙ c.if-kind-eq2.true) in
+    let slant = unused_slant (bytes (goal.at.returns-then-kind-eq2 c).After-byte_at-kind) (not-slide (goal.at.returns-then-kind-eq2 c).Else-kind-eq1)
+    (sym c.byte_at-kind.ensures.0 ∙ c.if-kind-eq2.true) in
     rw c.word64-then-kind-eq2.ensures (sym slant)
 
 pub returns : goal.returns
 returns c =
-    cc (unused_turn (bytes (goal.at.returns c).After-byte_at-kind) (not-slide (goal.at.returns c).Else-kind-eq1) (λ h. c.if-kind-eq2.false (c.byte_at-kind.ensures.0 ∙ h)))
+    cc (unused_turn (bytes (goal.at.returns c).After-byte_at-kind) (not-slide (goal.at.returns c).Else-kind-eq1)
+    (λ h. c.if-kind-eq2.false (c.byte_at-kind.ensures.0 ∙ h)))

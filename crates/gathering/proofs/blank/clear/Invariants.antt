@@ -7,7 +7,8 @@ use Rattle.records.specs.Layout.{empty}
 use Rattle.gathering.proofs.blank.clear.Given as goal
 
 abbrev pub invariant-loop-j : goal.invariant-loop-j
-invariant-loop-j l = (l.j ≤ l.n) × (length l.table ≡ length l.initial.table) × (l.table ≡ placed l.to (take l.j (replicate l.n empty)) l.initial.table)
+invariant-loop-j l = (l.j ≤ l.n) × (length l.table ≡ length l.initial.table)
+    × (l.table ≡ placed l.to (take l.j (replicate l.n empty)) l.initial.table)
 
 abbrev pub decreases-loop-j : goal.decreases-loop-j
 decreases-loop-j l = l.n - l.j

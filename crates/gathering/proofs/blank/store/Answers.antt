@@ -43,11 +43,17 @@ loop-j-preserved c =
     let l = c.loop-j in
     let a = c.args in (
       omega arith,
-      elim c.if-j-n.branch [ then-j-n w ↦ ap length w.table-is ∙ length-set l.table _ _ ∙ l.invariant.1 | else-j-n w ↦ ap length w.table-is ∙ l.invariant.1 ],
       elim c.if-j-n.branch [
-        | then-j-n w ↦ list_more a.n a.to l.j (take a.n a.row) a.table.now l.table c.if-j-n.table (long (goal.at.loop-j-preserved c).Start) c.requires.2
+        | then-j-n w ↦ ap length w.table-is ∙ length-set l.table _ _ ∙ l.invariant.1
+        | else-j-n w ↦ ap length w.table-is
+            ∙ l.invariant.1
+      ],
+      elim c.if-j-n.branch [
+        | then-j-n w ↦ list_more a.n a.to l.j (take a.n a.row) a.table.now l.table c.if-j-n.table (long (goal.at.loop-j-preserved c).Start)
+            c.requires.2
             l.invariant.2 _ (sym (get_or-take a.n a.row l.j 0 w.if-j-n.true)) w.if-j-n.true w.table-is
-        | else-j-n w ↦ list_no_more a.n a.to l.j (take a.n a.row) a.table.now l.table c.if-j-n.table (long (goal.at.loop-j-preserved c).Start) c.requires.2
+        | else-j-n w ↦ list_no_more a.n a.to l.j (take a.n a.row) a.table.now l.table c.if-j-n.table (long (goal.at.loop-j-preserved c).Start)
+            c.requires.2
             l.invariant.2 w.if-j-n.false w.table-is
       ],
     )
@@ -59,4 +65,5 @@ pub returns : goal.returns
 returns c =
     let l = c.loop-j in
     let a = c.args in
-    l.invariant.2 ∙ ap (λ (t : List ℕ). placed a.to t a.table.now) (take_all l.j (take a.n a.row) (omega (arith, long (goal.at.returns c).Start, c.requires.0)))
+    l.invariant.2 ∙ ap (λ (t : List ℕ). placed a.to t a.table.now)
+    (take_all l.j (take a.n a.row) (omega (arith, long (goal.at.returns c).Start, c.requires.0)))

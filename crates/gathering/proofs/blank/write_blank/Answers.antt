@@ -29,4 +29,5 @@ overflow_add-at c = omega arith
 pub returns : goal.returns
 returns c =
     let a = c.args in
-    blank-placed a.d a.sign a.material _ (long (goal.at.returns c).Start) a.at a.table.now _ c.requires.2 (stored (goal.at.returns c).After-store) _ c.surround.ensures
+    blank-placed a.d a.sign a.material _ (long (goal.at.returns c).Start) a.at a.table.now _ c.requires.2 (stored (goal.at.returns c).After-store) _
+    c.surround.ensures

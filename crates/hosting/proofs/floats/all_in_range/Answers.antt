@@ -41,4 +41,5 @@ returns-else-bits_in_range c =
 
 pub returns : goal.returns
 returns c =
-    all_ends in_range nan (floats64 (bytes (goal.at.returns c).At-loop-k)) _ c.loop-k.k (floats_length (bytes (goal.at.returns c).At-loop-k)) c.loop-k-test.false _ c.loop-k.invariant.1
+    all_ends in_range nan (floats64 (bytes (goal.at.returns c).At-loop-k)) _ c.loop-k.k (floats_length (bytes (goal.at.returns c).At-loop-k))
+    c.loop-k-test.false _ c.loop-k.invariant.1

@@ -31,7 +31,8 @@ pub loop-k-preserved : goal.loop-k-preserved
 loop-k-preserved c =
     let k = c.loop-k.k in (
       omega (arith, c.loop-k-test.true),
-      left_next nan (floats64 c.args.b.now) k (inside (goal.at.loop-k-preserved c).In-loop-k) c.loop-k.invariant.1 (k + 1) _ (c.float_of.ensures ∙ here (goal.at.loop-k-preserved c).After-word64) refl,
+      left_next nan (floats64 c.args.b.now) k (inside (goal.at.loop-k-preserved c).In-loop-k) c.loop-k.invariant.1 (k + 1) _ (c.float_of.ensures
+          ∙ here (goal.at.loop-k-preserved c).After-word64) refl,
     )
 
 pub returns : goal.returns

@@ -8,7 +8,8 @@ use Rattle.hosting.proofs.floats.put_float.Given as goal
 
 abbrev pub invariant-loop-left : goal.invariant-loop-left
 invariant-loop-left l =
-    (l.to + l.left ≤ length l.out) × (length l.out ≡ length l.initial.out) × Left l.at (low_bytes 8 l.initial.bits) l.initial.out l.to (low_bytes l.left l.bits) l.out
+    (l.to + l.left ≤ length l.out) × (length l.out ≡ length l.initial.out)
+    × Left l.at (low_bytes 8 l.initial.bits) l.initial.out l.to (low_bytes l.left l.bits) l.out
 
 abbrev pub decreases-loop-left : goal.decreases-loop-left
 decreases-loop-left l = l.left

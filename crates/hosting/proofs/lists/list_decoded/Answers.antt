@@ -29,5 +29,7 @@ slice_bounds-list-end-2 c = sym (length-take-le _ _ (omega (arith, floats-fit (g
 pub returns : goal.returns
 returns c =
     let a = c.args in
-    list_decodes a.version a.d a.n a.v a.s a.table.now a.points.now a.text.now _ _ _ _ c.list.ensures
-    (words_front a.table.now _ _ c.decode.ensures) (floats_front a.points.now _ _ c.decode-2.ensures)
+    let e = c.list.ensures in
+    let both = list_decodes a.version a.d a.n a.v a.s a.table.now a.points.now a.text.now _ _ _ _ (e.answer, e.buffer)
+    (words_front a.table.now _ _ c.decode.ensures) (floats_front a.points.now _ _ c.decode-2.ensures) in
+    record { answer = both.0; buffer = both.1 }

@@ -1,10 +1,9 @@
 -- `floats_fit` tests the floats of the step and of the points. Assumes nothing.
 use mathlib.Core.Path.{refl, sym, ◌∙◌}
-use borrow.Author.Tests.{not-true, not-false}
 use Rattle.hosting.proofs.moving.floats_fit.Goals as goal
 
 pub returns-then-not-step_in_range : goal.returns-then-not-step_in_range
-returns-then-not-step_in_range c = rw (sym c.step_in_range.ensures ∙ not-true _ c.if-not-step_in_range.true) refl
+returns-then-not-step_in_range c = rw (sym c.step_in_range.ensures ∙ c.if-not-step_in_range.true) refl
 
 pub returns : goal.returns
-returns c = rw (sym c.step_in_range.ensures ∙ not-false _ c.if-not-step_in_range.false) c.all_in_range.ensures
+returns c = rw (sym c.step_in_range.ensures ∙ c.if-not-step_in_range.false) c.all_in_range.ensures

@@ -11,5 +11,8 @@ slice_bounds-move_points-end c = sym (length-take-le _ _ (omega arith))
 
 pub returns : goal.returns
 returns c =
-    move_decodes _ _ _ _ c.args.points.now c.args.out.now _ _ _ c.move_points.ensures
-    (floats_front c.args.points.now _ _ c.decode.ensures)
+    let a = c.args in
+    let e = c.move_points.ensures in
+    let both = move_decodes a.n a.v a.h a.step a.points.now a.out.now _ _ _ (e.answer, e.buffer)
+    (floats_front a.points.now _ _ c.decode.ensures) in
+    record { answer = both.0; buffer = both.1 }

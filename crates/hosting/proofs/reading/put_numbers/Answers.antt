@@ -5,15 +5,6 @@ use lib.ListN.{drop}
 use Rattle.hosting.proofs.ReadRows.{numbers_put}
 use Rattle.hosting.proofs.reading.put_numbers.Goals as goal
 
-pub overflow_cast-words-6 : goal.overflow_cast-words-6
-overflow_cast-words-6 c = omega (arith, c.shared_slice_known-2-1.given 13)
-
-pub overflow_cast-words-7 : goal.overflow_cast-words-7
-overflow_cast-words-7 c = omega (arith, c.shared_slice_known-3-1.given 14)
-
-pub overflow_cast-words-8 : goal.overflow_cast-words-8
-overflow_cast-words-8 c = omega (arith, c.shared_slice_known-4-1.given 15)
-
 pub returns : goal.returns
 returns c =
     c.encode.ensures

@@ -1,22 +1,19 @@
 -- `read_words` reads with room enough. Assumes nothing.
-use mathlib.Core.Path.{◌≡◌, sym, ap, ◌∙◌}
+use mathlib.Core.Path.{◌≡◌, ap, ◌∙◌}
 use Rattle.rules.specs.Calls.{accepted}
 use Rattle.file.specs.Tests.{cells_length}
-use Rattle.read.specs.Read.{read_input, read_outcome, read_cells, header_outcome}
+use Rattle.read.specs.Read.{read_input, read_cells}
 use Rattle.hosting.specs.Inner.Rooms.{word_room, float_room}
 use Rattle.hosting.proofs.ReadRows.{passed, roomy, read-accepts, read_refuses, read_roomy, words_roomy}
 use Rattle.hosting.proofs.reading.read_words.Goals as goal
 use Rattle.hosting.proofs.reading.read_words.Goals.{After-read_cells, In-Accepted}
 
--- what read answers and leaves, with the room told by the limits
-answer : (c : After-read_cells) → header_outcome c.read_cells.result ≡ read_outcome (read_input c.args.file.now word_room float_room)
-answer c = read_roomy c.args.file.now c.args.words.now c.requires _ c.read_cells.ensures.answer
-
+-- what read leaves, with the room told by the limits
 left : (c : After-read_cells) → c.read_cells.new.cells ≡ read_cells (read_input c.args.file.now word_room float_room) c.args.words.now
 left c = words_roomy c.args.file.now c.args.words.now c.requires _ c.read_cells.ensures.cells
 
 accepts : (c : In-Accepted) → accepted (cells_length c.args.file.now) ≡ roomy c.args.file.now
-accepts c = read-accepts _ _ (ap header_outcome (sym c.enum_told-1.given.1) ∙ answer (goal.at.In-Accepted c).After-read_cells)
+accepts c = read-accepts _ _ (read_roomy c.args.file.now c.args.words.now c.requires _ c.in-Accepted.ensures.answer)
 
 pub words-requires : goal.words-requires
 words-requires c = (passed _ _ (accepts c)).0.header
@@ -29,6 +26,6 @@ returns-in-Accepted c = record {
 
 pub returns-in-Refused : goal.returns-in-Refused
 returns-in-Refused c = record {
-  answer = read_refuses _ _ (ap header_outcome (sym c.r-1.given.1) ∙ answer (goal.at.returns-in-Refused c).After-read_cells);
+  answer = read_refuses _ _ (read_roomy c.args.file.now c.args.words.now c.requires _ c.in-Refused.ensures.answer);
   buffer = left (goal.at.returns-in-Refused c).After-read_cells;
 }

@@ -4,8 +4,8 @@ use Rattle.points.specs.Step.{step_fits}
 use Rattle.hosting.proofs.step_bits.step_unfit.Goals as goal
 
 pub returns-then-fits : goal.returns-then-fits
-returns-then-fits c = rw (ap (step_fits _) (sym c.step_of_lem.ensures) ∙ sym c.fits2.ensures ∙ c.if-fits.true)
+returns-then-fits c = rw (ap (step_fits _) (sym c.step_of.ensures) ∙ sym c.fits.ensures ∙ c.if-fits.true)
     c.unused_set.ensures
 
 pub returns : goal.returns
-returns c = rw (ap (step_fits _) (sym c.step_of_lem.ensures) ∙ sym c.fits2.ensures ∙ c.if-fits.false) refl
+returns c = rw (ap (step_fits _) (sym c.step_of.ensures) ∙ sym c.fits.ensures ∙ c.if-fits.false) refl

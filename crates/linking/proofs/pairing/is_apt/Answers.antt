@@ -1,7 +1,6 @@
 -- The four tests. Assumes nothing.
 use mathlib.Core.Path.{sym, ap, ◌∙◌}
 use mathlib.Core.Bool.{false≢true}
-use borrow.Author.Tests.{not-false}
 use Rattle.simplex.specs.SignWords.{turned_sign}
 use Rattle.simplex.proofs.Rows.{same_row_true}
 use Rattle.soundness.specs.Inner.Certified.{face_in}
@@ -18,17 +17,14 @@ pub returns-then-not-opposite : goal.returns-then-not-opposite
 returns-then-not-opposite c = λ e. absurd (false≢true e)
 
 pub returns : goal.returns
-returns c =
-    let other : tie.Else3 = c.before in
-    let apexes : tie.Else2 = other.before in
-    let bare : tie.Else1 = apexes.before in
+returns c = λ e.
     let a = c.args in
     record {
-      bare = sym bare.before.wing.ensures ∙ bare.if1.false;
+      bare = sym c.wing.ensures ∙ c.if-wing.false;
       face = same_row_true (face_in a.d a.table.now a.q a.b) (face_in a.d a.table.now a.p a.a)
           (sym c.same_face.ensures ∙ e);
-      apex = λ z. apexes.if2.false (apexes.before.vertex.ensures ∙ z ∙ sym apexes.before.vertex2.ensures);
-      opposite = λ z. told-apart _ _ _ (not-false _ other.if3.false) other.before.opposite.ensures
-          (ap (λ n. turned_sign n a.b) other.before.sign.ensures ∙ z
-          ∙ sym (ap (λ n. turned_sign n a.a) other.before.sign2.ensures));
+      apex = λ z. c.if-vertex.false (c.vertex.ensures ∙ z ∙ sym c.vertex-2.ensures);
+      opposite = λ z. told-apart _ _ _ c.if-not-opposite.false c.opposite.ensures
+          (ap (λ n. turned_sign n a.b) c.sign.ensures ∙ z
+          ∙ sym (ap (λ n. turned_sign n a.a) c.sign-2.ensures));
     }

@@ -22,7 +22,7 @@ put-f-requires c =
     (c.requires.0.chains, omega (arith, i), omega (arith, i, c.requires.0.wide), omega (arith, i, c.requires.0.deep))
 
 pub returns-then-f-eq65535 : goal.returns-then-f-eq65535
-returns-then-f-eq65535 c =
+returns-then-f-eq65535 c = λ z.
     let a = c.args in
     alone a.d a.s a.table.now a.hash.now a.head.now a.next.now _ _ a.g c.requires.0 (inside (goal.at.returns-then-f-eq65535 c).Start).0
     c.put-f.ensures.long.1 (c.put-f.ensures.chains (λ l. c.if-f-eq65535.true)) (c.put-f.ensures.none c.if-f-eq65535.true)
@@ -35,7 +35,7 @@ pair-requires c =
     (c.requires.0.table, omega (arith, (inside (goal.at.pair-requires c).Start).0), c.requires.1, c.requires.2)
 
 pub returns : goal.returns
-returns c =
+returns c = λ z.
     let a = c.args in
     let now = c.pair.ensures z in
     let cell : a.g / suc a.d ≡ a.p = ap (λ i. i / suc a.d) c.requires.3 ∙ cell_of_key a.p a.a (suc a.d) (omega (arith, c.requires.2)) in

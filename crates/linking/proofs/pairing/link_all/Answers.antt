@@ -5,7 +5,6 @@ use Prim.Native.Nat.{suc, ◌-◌}
 use native.Mathlib.Nat.{suc-mul, zero-mul}
 use native.Mathlib.Numerals.{add-one}
 use native.Mathlib.Omega.{arith}
-use borrow.Author.Tests.{not-false}
 use Rattle.soundness.proofs.Places.{cell_below}
 use Rattle.linking.specs.Inner.Linking.{Linking}
 use Rattle.linking.proofs.WingSet.{cells-still}
@@ -40,7 +39,7 @@ returns-then-not-link c =
 pub loop-g-preserved-then-a-d : goal.loop-g-preserved-then-a-d
 loop-g-preserved-then-a-d c =
     let i = c.loop-g.invariant in
-    let now = c.link.ensures (not-false _ c.if-not-link.false) in (
+    let now = c.link.ensures c.if-not-link.false in (
       now.1,
       cells-still c.args.d c.args.s _ _ _ i.1 now.0,
       omega (arith, i.2),
@@ -54,7 +53,7 @@ loop-g-preserved-then-a-d c =
 pub loop-g-preserved : goal.loop-g-preserved
 loop-g-preserved c =
     let i = c.loop-g.invariant in
-    let now = c.link.ensures (not-false _ c.if-not-link.false) in (
+    let now = c.link.ensures c.if-not-link.false in (
       now.1,
       cells-still c.args.d c.args.s _ _ _ i.1 now.0,
       omega (arith, i.2, i.3, c.if-a-d.false, suc-mul c.loop-g.p (suc c.args.d), add-one c.loop-g.p),

@@ -49,7 +49,7 @@ join-requires c =
     )
 
 pub returns-then-is_apt : goal.returns-then-is_apt
-returns-then-is_apt c =
+returns-then-is_apt c = λ z.
     (tested (goal.at.returns-then-is_apt c).Then-is_apt, rw (add-one c.args.d) at c.join.ensures)
 
 pub returns : goal.returns

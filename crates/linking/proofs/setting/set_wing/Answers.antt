@@ -25,7 +25,8 @@ same_place : (c : After-first_wing) → let a = c.args in
 same_place c = omega (arith, ap (λ n. c.args.p * n) c.record_size.ensures, c.first_wing.ensures)
 
 pub overflow_mul-table : goal.overflow_mul-table
-overflow_mul-table c = let a = c.args in
+overflow_mul-table c =
+    let a = c.args in
     let i = c.requires.0 in
     omega (
       arith,
@@ -44,13 +45,10 @@ bounds-table-p c = omega (arith, within c, same_place c)
 
 pub returns : goal.returns
 returns c =
-    let s : tie.Start = c.before in
-    let a = s.args in
-    let i = s.requires.0 in
-    rw (same_place c) (
-      cells_same a.d a.s a.table.now a.p a.a a.x i.long i.number s.requires.1,
-      (
-        wing_set a.d a.s a.table.now a.p a.a a.x i.long i.number s.requires.1,
-        wing_kept a.d a.s a.table.now a.p a.a a.x i.long i.number s.requires.1,
-      ),
-    )
+    let a = c.args in
+    let i = c.requires.0 in
+    let e = same_place (goal.at.returns c).After-first_wing in record {
+      cells = rw e (cells_same a.d a.s a.table.now a.p a.a a.x i.long i.number c.requires.1);
+      here = rw e (wing_set a.d a.s a.table.now a.p a.a a.x i.long i.number c.requires.1);
+      others = rw e (wing_kept a.d a.s a.table.now a.p a.a a.x i.long i.number c.requires.1);
+    }

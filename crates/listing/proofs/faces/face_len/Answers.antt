@@ -24,18 +24,28 @@ few : (c : After-fill_fields-n) → c.fill_fields-n.result ≤ 8
 few c = omega (arith, c.fill_fields-n.ensures.upper_bound, c.requires.0.dimension)
 
 inside : (c : After-fill_fields-n) → c.fill_fields-n.result ≤ length (row c)
-inside c = omega (arith, few c, c.fill_fields-n.auto.1.1.1.1.1.1.0, length-replicate {A = ℕ} 8 0)
+inside c = omega (arith, few c, c.fill_fields-n.auto.row, length-replicate {A = ℕ} 8 0)
 
 long : (c : After-fill_fields-n) → length (take c.fill_fields-n.result (row c)) ≡ c.fill_fields-n.result
 long c = length-take-le c.fill_fields-n.result (row c) (inside c)
 
-size : (c : After-fields_len) → (2 + c.fields_len.result ≡ length (face_line c.args.version (here (goal.at.After-fields_len c).After-fill_fields-n))) × (2 + c.fields_len.result ≤ 256)
+size : (c : After-fields_len)
+    → (2 + c.fields_len.result ≡ length (face_line c.args.version (here (goal.at.After-fields_len c).After-fill_fields-n)))
+    × (2 + c.fields_len.result ≤ 256)
 size c =
     let k = c.args.version in
     let numbers = c.fill_fields-n.ensures.row_after in
     let count = c.fields_len.ensures ∙ ap (λ ws. length (fields ws)) numbers in
-    let short = line_short k (here (goal.at.After-fields_len c).After-fill_fields-n) (omega (arith, ap length numbers, long (goal.at.After-fields_len c).After-fill_fields-n, few (goal.at.After-fields_len c).After-fill_fields-n)) in
-    (omega (arith, count, line-length k (here (goal.at.After-fields_len c).After-fill_fields-n)), omega (arith, count, line-length k (here (goal.at.After-fields_len c).After-fill_fields-n), short))
+    let short = line_short k (here (goal.at.After-fields_len c).After-fill_fields-n)
+    (omega (
+      arith,
+      ap length numbers,
+      long (goal.at.After-fields_len c).After-fill_fields-n,
+      few (goal.at.After-fields_len c).After-fill_fields-n,
+    )) in (
+      omega (arith, count, line-length k (here (goal.at.After-fields_len c).After-fill_fields-n)),
+      omega (arith, count, line-length k (here (goal.at.After-fields_len c).After-fill_fields-n), short),
+    )
 
 pub slice_bounds-row-end : goal.slice_bounds-row-end
 slice_bounds-row-end c = inside (goal.at.slice_bounds-row-end c).After-fill_fields-n
@@ -51,4 +61,4 @@ pub overflow_add-result : goal.overflow_add-result
 overflow_add-result c = omega (arith, (size c).1)
 
 pub returns : goal.returns
-returns c = size c
+returns c = let s = size c in record { value = s.0; upper_bound = s.1 }

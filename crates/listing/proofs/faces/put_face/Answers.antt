@@ -21,13 +21,14 @@ few : (c : After-fill_fields-n) → c.fill_fields-n.result ≤ 8
 few c = omega (arith, c.fill_fields-n.ensures.upper_bound, c.requires.0.dimension)
 
 inside : (c : After-fill_fields-n) → c.fill_fields-n.result ≤ length c.fill_fields-n.new.row
-inside c = omega (arith, few c, c.fill_fields-n.auto.1.1.1.1.1.1.0, length-replicate {A = ℕ} 8 0)
+inside c = omega (arith, few c, c.fill_fields-n.auto.row, length-replicate {A = ℕ} 8 0)
 
 long : (c : After-fill_fields-n) → length (row c) ≡ c.fill_fields-n.result
 long c = length-take-le c.fill_fields-n.result _ (inside c)
 
 -- the line that is put
-whole : (c : After-fill_fields-n) → let a = c.args in face_line a.version (face_at a.d a.table.now a.p a.a) ≡ line (c.sign_byte.result ∷ []) (map digits (row c))
+whole : (c : After-fill_fields-n) → let a = c.args in
+    face_line a.version (face_at a.d a.table.now a.p a.a) ≡ line (c.sign_byte.result ∷ []) (map digits (row c))
 whole c =
     let a = c.args in
     let f = face_at a.d a.table.now a.p a.a in

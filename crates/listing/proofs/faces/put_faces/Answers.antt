@@ -24,11 +24,16 @@ overflow_add-place c = omega (arith, c.loop-place.invariant.place.position c.loo
 
 pub loop-place-smaller : goal.loop-place-smaller
 loop-place-smaller c =
-    omega (arith, face_less (long (goal.at.loop-place-smaller c).Start) c.loop-place.invariant.place c.loop-place-test.true c.next_face-place-in-loop-place.ensures)
+    omega (
+      arith,
+      face_less (long (goal.at.loop-place-smaller c).Start) c.loop-place.invariant.place c.loop-place-test.true
+          c.next_face-place-in-loop-place.ensures,
+    )
 
 pub loop-place-preserved : goal.loop-place-preserved
 loop-place-preserved c =
-    walk_goes c.loop-place.invariant (long (goal.at.loop-place-preserved c).Start) c.loop-place-test.true c.next_face-place-in-loop-place.ensures c.put_face-cur.ensures
+    walk_goes c.loop-place.invariant (long (goal.at.loop-place-preserved c).Start) c.loop-place-test.true c.next_face-place-in-loop-place.ensures
+    c.put_face-cur.ensures
 
 pub shape_of-buf : goal.shape_of-buf
 shape_of-buf c = c.loop-place.invariant.left.same

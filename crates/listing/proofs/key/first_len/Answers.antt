@@ -26,10 +26,18 @@ pub overflow_add-result-2 : goal.overflow_add-result-2
 overflow_add-result-2 c = omega (arith, one (goal.at.overflow_add-result-2 c).After-digits_len, two c)
 
 pub overflow_add-result-3 : goal.overflow_add-result-3
-overflow_add-result-3 c = omega (arith, one (goal.at.overflow_add-result-3 c).After-digits_len, two (goal.at.overflow_add-result-3 c).After-digits_len-2, three c)
+overflow_add-result-3 c =
+    omega (arith, one (goal.at.overflow_add-result-3 c).After-digits_len, two (goal.at.overflow_add-result-3 c).After-digits_len-2, three c)
 
 pub overflow_add-result-4 : goal.overflow_add-result-4
-overflow_add-result-4 c = omega (arith, one (goal.at.overflow_add-result-4 c).After-digits_len, two (goal.at.overflow_add-result-4 c).After-digits_len-2, three (goal.at.overflow_add-result-4 c).After-digits_len-3, four c)
+overflow_add-result-4 c =
+    omega (
+      arith,
+      one (goal.at.overflow_add-result-4 c).After-digits_len,
+      two (goal.at.overflow_add-result-4 c).After-digits_len-2,
+      three (goal.at.overflow_add-result-4 c).After-digits_len-3,
+      four c,
+    )
 
 pub returns : goal.returns
 returns c =
@@ -42,5 +50,11 @@ returns c =
         c.digits_len-4.ensures,
         first-sum c.args.d c.args.n c.args.v c.args.faces,
       );
-      upper_bound = omega (arith, one (goal.at.returns c).After-digits_len, two (goal.at.returns c).After-digits_len-2, three (goal.at.returns c).After-digits_len-3, four c);
+      upper_bound = omega (
+        arith,
+        one (goal.at.returns c).After-digits_len,
+        two (goal.at.returns c).After-digits_len-2,
+        three (goal.at.returns c).After-digits_len-3,
+        four c,
+      );
     }

@@ -1,8 +1,13 @@
 -- `key::put_key` meets its contract: the first line, the vertices, the faces. Assumes nothing.
+use native.Mathlib.Omega.{arith}
 use Rattle.words.proofs.Writing.{left_fits}
+use Rattle.boundary.proofs.Sizes.{faces-few}
 use Rattle.listing.specs.Lines.{vertex_lines}
 use Rattle.listing.proofs.KeyText.{first_fits, vertices_left, faces_left, key_put}
 use Rattle.listing.proofs.key.put_key.Goals as goal
+
+pub overflow_cast-counts-4 : goal.overflow_cast-counts-4
+overflow_cast-counts-4 c = omega (arith, c.requires.2, faces-few c.args.d c.args.s c.args.table.now c.requires.0)
 
 pub first_line-first-requires : goal.first_line-first-requires
 first_line-first-requires c =
@@ -28,9 +33,3 @@ returns c =
     let a = c.args in
     key_put a.version a.d a.n a.v a.points.now _ a.faces c.requires.2 a.buf.now c.requires.3
     c.first_line-first.ensures c.put_vertices-vertices.ensures c.put_faces.ensures
-
--- TODO need cast-t17
---   cast-t17 : tie.Need-cast-t17
---   cast-t17 c =
---       let s : tie.Start = search rules in
---       omega (arith, s.pre.2, faces-few s.args.d s.args.s s.args.table.now s.pre.0)

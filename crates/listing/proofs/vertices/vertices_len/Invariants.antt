@@ -7,7 +7,8 @@ use Rattle.listing.specs.Lines.{vertex_line, vertex_lines}
 use Rattle.listing.proofs.vertices.vertices_len.Given as goal
 
 abbrev pub invariant-loop-p : goal.invariant-loop-p
-invariant-loop-p l = (l.p ≤ l.v) × (l.k + length (concat (drop l.p (tabulate l.v (vertex_line l.n l.points)))) ≡ length (vertex_lines l.n l.v l.points))
+invariant-loop-p l = (l.p ≤ l.v)
+    × (l.k + length (concat (drop l.p (tabulate l.v (vertex_line l.n l.points)))) ≡ length (vertex_lines l.n l.v l.points))
 
 abbrev pub decreases-loop-p : goal.decreases-loop-p
 decreases-loop-p l = l.v - l.p

@@ -1,6 +1,6 @@
 -- The goals that the search leaves. Assumes nothing.
 use mathlib.Core.Path.{◌≡◌, refl, sym, subst, ◌∙◌}
-use Prim.Native.Nat.{ℕ, ◌-◌, ◌*◌, ◌/◌, ◌≤◌}
+use Prim.Native.Nat.{ℕ, ◌*◌, ◌/◌, ◌≤◌}
 use native.Mathlib.Omega.{arith}
 use Rattle.matching.specs.Inner.Classes.{key_digit, Worded, Classed}
 use Rattle.matching.proofs.Classing.{classed_start, answered, alike-kept, key_long}

@@ -1,6 +1,6 @@
 -- The goals that the search leaves. Assumes nothing.
 use mathlib.Core.Path.{◌≡◌, subst, subst⁻¹}
-use mathlib.Core.Logic.{⊎_elim, ◌⊎◌, inl, inr}
+use mathlib.Core.Logic.{⊎_elim, inl, inr}
 use Prim.Native.Nat.{ℕ, ◌+◌, ◌<◌, ◌≤◌}
 use native.Mathlib.Nat.{lt_trans}
 use native.Mathlib.Omega.{arith}
@@ -79,17 +79,26 @@ loop-f-smaller c =
     let a = c.args in
     let b = (at (goal.at.loop-f-smaller c).After-wide-g).0 in
     let i = few (goal.at.loop-f-smaller c).Start in
-    omega (arith, rank_under (class_at a.class.now) a.c (key (goal.at.loop-f-smaller c).After-wide-g) _ (omega arith) (linked (goal.at.loop-f-smaller c).After-wide-g), above (goal.at.loop-f-smaller c).After-wide-g)
+    omega (
+      arith,
+      rank_under (class_at a.class.now) a.c (key (goal.at.loop-f-smaller c).After-wide-g) _ (omega arith)
+          (linked (goal.at.loop-f-smaller c).After-wide-g),
+      above (goal.at.loop-f-smaller c).After-wide-g,
+    )
 
 pub loop-f-preserved : goal.loop-f-preserved
 loop-f-preserved c =
     let a = c.args in
     let b = (at (goal.at.loop-f-preserved c).After-wide-g).0 in
     let i = few (goal.at.loop-f-preserved c).Start in (
-      visiting_down a.n a.class.now (digits (goal.at.loop-f-preserved c).Start) i _ _ a.c (key (goal.at.loop-f-preserved c).After-wide-g) _ (omega arith) (linked (goal.at.loop-f-preserved c).After-wide-g)
-          (visited a.n a.class.now (digits (goal.at.loop-f-preserved c).Start) i _ _ a.c (key (goal.at.loop-f-preserved c).After-wide-g) b (at (goal.at.loop-f-preserved c).After-wide-g).1 (omega (arith, c.digit-x.ensures.0, c.digit-x.ensures.1))
+      visiting_down a.n a.class.now (digits (goal.at.loop-f-preserved c).Start) i _ _ a.c (key (goal.at.loop-f-preserved c).After-wide-g) _
+          (omega arith) (linked (goal.at.loop-f-preserved c).After-wide-g)
+          (visited a.n a.class.now (digits (goal.at.loop-f-preserved c).Start) i _ _ a.c (key (goal.at.loop-f-preserved c).After-wide-g) b
+          (at (goal.at.loop-f-preserved c).After-wide-g).1 (omega (arith, c.digit-x.ensures.0, c.digit-x.ensures.1))
           (visiting (goal.at.loop-f-preserved c).After-wide-g) _ _ _ c.digit-x.ensures.0 c.visit.ensures),
-      ⊎_elim (λ h. inl h) (λ h. inr (lt_trans h.0 b, h.1)) (last_of_lem (class_at a.class.now) a.c (key (goal.at.loop-f-preserved c).After-wide-g) _ (omega arith) (linked (goal.at.loop-f-preserved c).After-wide-g)),
+      ⊎_elim (λ h. inl h) (λ h. inr (lt_trans h.0 b, h.1))
+          (last_of_lem (class_at a.class.now) a.c (key (goal.at.loop-f-preserved c).After-wide-g) _ (omega arith)
+          (linked (goal.at.loop-f-preserved c).After-wide-g)),
     )
 
 pub returns : goal.returns

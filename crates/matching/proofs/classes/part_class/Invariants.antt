@@ -9,7 +9,8 @@ use Rattle.matching.proofs.classes.part_class.Given as goal
 
 abbrev pub invariant-loop-f : goal.invariant-loop-f
 invariant-loop-f l =
-    Visiting l.n l.initial.class (key_digit l.rows l.k l.w l.first l.j) l.class l.seen l.c (rank l.f) × ((l.f ≡ 65535) ⊎ ((l.f < l.n) × (get_or l.initial.class l.f 0 ≡ l.c)))
+    Visiting l.n l.initial.class (key_digit l.rows l.k l.w l.first l.j) l.class l.seen l.c (rank l.f)
+    × ((l.f ≡ 65535) ⊎ ((l.f < l.n) × (get_or l.initial.class l.f 0 ≡ l.c)))
 
 abbrev pub decreases-loop-f : goal.decreases-loop-f
 decreases-loop-f l = rank l.f

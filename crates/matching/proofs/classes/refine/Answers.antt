@@ -1,7 +1,7 @@
 -- The goals that the search leaves. Assumes nothing.
 use mathlib.Core.Path.{◌≡◌, sym, subst, subst⁻¹, ◌∙◌}
 use mathlib.Core.List.{List}
-use Prim.Native.Nat.{ℕ, ◌+◌, ◌-◌, ◌≤◌, ◌<◌}
+use Prim.Native.Nat.{ℕ, ◌+◌, ◌≤◌, ◌<◌}
 use native.Mathlib.Omega.{arith}
 use lib.ListN.{length-replicate, get_or-replicate}
 use Rattle.matching.specs.Inner.Classes.{key_digit, Parted, Seen}
@@ -41,9 +41,11 @@ part_class-requires c =
         c.requires.worded.0,
         c.requires.worded.1,
         c.loop-c-test.true,
-        chain_start a.n a.class.now (digits (goal.at.part_class-requires c).Start) (few (goal.at.part_class-requires c).Start) c.requires.worded.2 l.class l.c c.loop-c-test.true l.invariant.1 is,
+        chain_start a.n a.class.now (digits (goal.at.part_class-requires c).Start) (few (goal.at.part_class-requires c).Start) c.requires.worded.2
+            l.class l.c c.loop-c-test.true l.invariant.1 is,
       );
-      by_index = chain a.n a.class.now (digits (goal.at.part_class-requires c).Start) (few (goal.at.part_class-requires c).Start) c.requires.worded.2 l.class l.c c.loop-c-test.true l.invariant.1 is
+      by_index = chain a.n a.class.now (digits (goal.at.part_class-requires c).Start) (few (goal.at.part_class-requires c).Start) c.requires.worded.2
+          l.class l.c c.loop-c-test.true l.invariant.1 is
           a.prev.now c.requires.linked;
       class_len = (l.invariant.1.new_long, l.invariant.2);
     }
@@ -60,9 +62,13 @@ loop-c-preserved c =
     let S : List ℕ → Type 0 = λ x. Seen x (l.c + 1) in (
       omega arith,
       elim c.if-wide-c.branch [
-        | then-wide-c h ↦ subst⁻¹ P h.class-is (refine_more a.n a.class.now (digits (goal.at.loop-c-preserved c).Start) few c.requires.worded.2 l.class l.c c.loop-c-test.true l.invariant.1
+        | then-wide-c h ↦ subst⁻¹ P h.class-is
+            (refine_more a.n a.class.now (digits (goal.at.loop-c-preserved c).Start) few c.requires.worded.2 l.class l.c c.loop-c-test.true
+            l.invariant.1
             (sym c.wide.ensures.0 ∙ h.if-wide-c.true) _ h.part_class.ensures.parted)
-        | else-wide-c h ↦ subst⁻¹ P h.class-is (refine_none a.n a.class.now (digits (goal.at.loop-c-preserved c).Start) few c.requires.worded.2 l.class l.c c.loop-c-test.true l.invariant.1
+        | else-wide-c h ↦ subst⁻¹ P h.class-is
+            (refine_none a.n a.class.now (digits (goal.at.loop-c-preserved c).Start) few c.requires.worded.2 l.class l.c c.loop-c-test.true
+            l.invariant.1
             (λ q. h.if-wide-c.false (c.wide.ensures.0 ∙ q)))
       ],
       elim c.if-wide-c.branch [

@@ -33,7 +33,8 @@ stood c =
 in_cell : (c : After-stands-i) → c.stands-i.result < 8
 in_cell c =
     let a = c.args in
-    subst⁻¹ (λ (x : ℕ). x < 8) (stood c) (stands_below a.k (a.first + a.g % a.w) a.j c.requires.0.keyed.vertices (inside (goal.at.After-stands-i c).Start))
+    subst⁻¹ (λ (x : ℕ). x < 8) (stood c)
+    (stands_below a.k (a.first + a.g % a.w) a.j c.requires.0.keyed.vertices (inside (goal.at.After-stands-i c).Start))
 
 in_table : (c : After-stands-i) → c.place_of-here.result.cell * 8 + c.stands-i.result < 32768
 in_table c =

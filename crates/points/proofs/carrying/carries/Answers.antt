@@ -27,12 +27,14 @@ module _ (step : Step) (n v h : ℕ) where
   slants : (a : ℕ) (x : Float) (b : ℕ) (y : Float) (ps : List Float) → 0 < v → length ps ≡ v * n → step ≡ S.Slant a x b y →
       (a < n) × (b < n) × (a ≡ b → ⊥) → (axis_carries n v h a x ps || axis_carries n v h b y ps) ≡ carries step n v h (levels step n v h ps)
   slants a x b y ps l long is g =
-      subst (λ (s : Step). (axis_carries n v h a x ps || axis_carries n v h b y ps) ≡ carries s n v h (levels s n v h ps)) (sym is) (sym (slant-carries n v h ps l long a x b y g.0 g.1 g.2))
+      subst (λ (s : Step). (axis_carries n v h a x ps || axis_carries n v h b y ps) ≡ carries s n v h (levels s n v h ps)) (sym is)
+      (sym (slant-carries n v h ps l long a x b y g.0 g.1 g.2))
 
   turns : (t : Turn) (ps : List Float) → 0 < v → length ps ≡ v * n → step ≡ S.Turn t → 3 ≤ n →
       axis_carries n v h (n - 1) t.rise ps ≡ carries step n v h (levels step n v h ps)
   turns t ps l long is g =
-      subst (λ (s : Step). axis_carries n v h (n - 1) t.rise ps ≡ carries s n v h (levels s n v h ps)) (sym is) (sym (turn-carries n v h ps l long t g))
+      subst (λ (s : Step). axis_carries n v h (n - 1) t.rise ps ≡ carries s n v h (levels s n v h ps)) (sym is)
+      (sym (turn-carries n v h ps l long t g))
 
 some : (c : Else-v-eq0) → 0 < c.args.v
 some c = omega arith

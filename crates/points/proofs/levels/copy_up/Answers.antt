@@ -28,7 +28,8 @@ loop-j-preserved c =
     let read = left_before _ c.loop-j.invariant.1 (a.from + j) nan (omega arith) (omega arith) in
     let here = get_or-take a.w (drop a.from a.out.now) j nan c.loop-j-test.true ∙ get_or-drop a.from a.out.now j nan in (
       omega arith,
-      left_next nan (copied a.w a.from a.out.now) j (omega (arith, long (goal.at.loop-j-preserved c).Start)) c.loop-j.invariant.1 _ _ (read ∙ sym here) (omega arith),
+      left_next nan (copied a.w a.from a.out.now) j (omega (arith, long (goal.at.loop-j-preserved c).Start)) c.loop-j.invariant.1 _ _ (read
+          ∙ sym here) (omega arith),
     )
 
 pub returns : goal.returns

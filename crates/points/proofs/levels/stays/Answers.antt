@@ -46,7 +46,9 @@ pub slice_bounds-q-end-in-loop-left : goal.slice_bounds-q-end-in-loop-left
 slice_bounds-q-end-in-loop-left c = omega (arith, row (goal.at.slice_bounds-q-end-in-loop-left c).After-move_point)
 
 pub slice_bounds-all_in_range-end : goal.slice_bounds-all_in_range-end
-slice_bounds-all_in_range-end c = sym (length-take-le _ (moved (goal.at.slice_bounds-all_in_range-end c).After-move_point) (omega (arith, row (goal.at.slice_bounds-all_in_range-end c).After-move_point)))
+slice_bounds-all_in_range-end c =
+    sym (length-take-le _ (moved (goal.at.slice_bounds-all_in_range-end c).After-move_point)
+    (omega (arith, row (goal.at.slice_bounds-all_in_range-end c).After-move_point)))
 
 pub returns-then-not-all_in_range : goal.returns-then-not-all_in_range
 returns-then-not-all_in_range c =
@@ -54,8 +56,11 @@ returns-then-not-all_in_range c =
     sym (one (goal.at.returns-then-not-all_in_range c).After-move_point ∙ rw out refl)
 
 pub loop-left-preserved : goal.loop-left-preserved
-loop-left-preserved c =
-    ((row (goal.at.loop-left-preserved c).After-move_point).0, one (goal.at.loop-left-preserved c).After-move_point ∙ rw (sym c.all_in_range.ensures ∙ c.if-not-all_in_range.false) refl)
+loop-left-preserved c = (
+  (row (goal.at.loop-left-preserved c).After-move_point).0,
+  one (goal.at.loop-left-preserved c).After-move_point
+      ∙ rw (sym c.all_in_range.ensures ∙ c.if-not-all_in_range.false) refl,
+)
 
 pub returns : goal.returns
 returns c = let none : c.loop-left.left ≡ 0 = omega arith in sym (c.loop-left.invariant.1 ∙ rw none)

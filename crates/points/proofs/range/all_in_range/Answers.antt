@@ -17,7 +17,8 @@ loop-i-init c = (search rules, refl)
 
 pub returns-then-not-in_range : goal.returns-then-not-in_range
 returns-then-not-in_range c =
-    all_stops in_range nan (floats (goal.at.returns-then-not-in_range c).At-loop-i) _ c.loop-i.i refl (omega arith) _ refl _ (cc c.if-not-in_range.true)
+    all_stops in_range nan (floats (goal.at.returns-then-not-in_range c).At-loop-i) _ c.loop-i.i refl (omega arith) _ refl _
+    (cc c.if-not-in_range.true)
     c.loop-i.invariant.1
 
 pub loop-i-preserved : goal.loop-i-preserved

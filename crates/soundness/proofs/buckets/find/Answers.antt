@@ -75,7 +75,8 @@ loop-f-preserved c k =
     let own : k.bk f < a.buckets =
     ⊎_elim {C = k.bk f < a.buckets} (λ z. absurd (c.loop-f-test.true z)) (λ r. omega (arith, r.1, k.low)) past.0 in
     past_next k.bk (Other a.hash.now a.g) _ a.g f _ (omega (arith, c.requires.1)) past c.loop-f-test.true
-    (λ z. c.if-hash-j.false (ap (λ j. get_or a.hash.now j 0) e ∙ z)) (ap (λ j. get_or a.next.now j 0) e ∙ k.links f (lower (goal.at.loop-f-preserved c).In-loop-f) own)
+    (λ z. c.if-hash-j.false (ap (λ j. get_or a.hash.now j 0) e ∙ z)) (ap (λ j. get_or a.next.now j 0) e
+    ∙ k.links f (lower (goal.at.loop-f-preserved c).In-loop-f) own)
 
 pub returns : goal.returns
 returns c =

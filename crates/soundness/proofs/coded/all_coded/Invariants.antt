@@ -2,12 +2,13 @@
 use mathlib.Core.Path.{◌≡◌}
 use Prim.Native.Nat.{◌-◌, ◌≤◌}
 use lib.ListN.{length}
-use Rattle.soundness.specs.Inner.Pairing.{Passing}
+use Rattle.soundness.specs.Inner.Pairing.{PassingAlike}
 use Rattle.soundness.proofs.coded.all_coded.Given as goal
 
 abbrev pub invariant-loop-g : goal.invariant-loop-g
 invariant-loop-g l =
-    Passing l.d l.s l.table l.hash l.head l.next l.g l.n × (l.g ≤ l.keys) × (length l.head ≡ length l.initial.head) × (length l.next ≡ length l.initial.next)
+    PassingAlike l.d l.s l.table l.hash l.head l.next l.g l.n × (l.g ≤ l.keys) × (length l.head ≡ length l.initial.head)
+    × (length l.next ≡ length l.initial.next)
 
 abbrev pub decreases-loop-g : goal.decreases-loop-g
 decreases-loop-g l = l.keys - l.g

@@ -26,8 +26,12 @@ some-wait c =
 
 pub put-f-requires : goal.put-f-requires
 put-f-requires c =
-    let l = c.requires.1 in
-    (c.requires.0.chains, omega (arith, l, few (goal.at.put-f-requires c).Start), omega (arith, l, c.requires.0.wide), omega (arith, l, c.requires.0.deep))
+    let l = c.requires.1 in (
+      c.requires.0.chains,
+      omega (arith, l, few (goal.at.put-f-requires c).Start),
+      omega (arith, l, c.requires.0.wide),
+      omega (arith, l, c.requires.0.deep),
+    )
 
 pub bounds-known-g : goal.bounds-known-g
 bounds-known-g c = omega (arith, c.requires.1, c.requires.2.room.known_room)

@@ -35,10 +35,12 @@ face k =
     )
 
 -- what the next digit counts
-next : (k : In-loop-a) → (k.loop-a.one * k.args.b ≡ k.args.b ^ (k.loop-a.a + 1)) × (k.loop-a.one * k.args.b ≤ 9223372036854775808) × (0 < k.loop-a.one)
+next : (k : In-loop-a)
+    → (k.loop-a.one * k.args.b ≡ k.args.b ^ (k.loop-a.a + 1)) × (k.loop-a.one * k.args.b ≤ 9223372036854775808) × (0 < k.loop-a.one)
 next k =
     let a = k.args in
-    one_more a.b a.d k.loop-a.a (row (goal.at.In-loop-a k).Start) k.requires.4 (size (goal.at.In-loop-a k).Start) k.requires.2 k.loop-a.one 9223372036854775808 k.loop-a.invariant.1
+    one_more a.b a.d k.loop-a.a (row (goal.at.In-loop-a k).Start) k.requires.4 (size (goal.at.In-loop-a k).Start) k.requires.2 k.loop-a.one
+    9223372036854775808 k.loop-a.invariant.1
     k.loop-a-test.true k.requires.3
 
 pub loop-a-init : goal.loop-a-init

@@ -21,7 +21,12 @@ overflow_add-code c =
 -- the places of the second and the third word
 pub bounds-known-g-2 : goal.bounds-known-g-2
 bounds-known-g-2 c =
-    omega (arith, inside (goal.at.bounds-known-g-2 c).After-key-g, c.requires.3.known_room, length-set c.args.known.now (c.key-g.result * 3) c.wing.result)
+    omega (
+      arith,
+      inside (goal.at.bounds-known-g-2 c).After-key-g,
+      c.requires.3.known_room,
+      length-set c.args.known.now (c.key-g.result * 3) c.wing.result,
+    )
 
 pub bounds-known-g-3 : goal.bounds-known-g-3
 bounds-known-g-3 c =

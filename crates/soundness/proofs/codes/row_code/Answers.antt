@@ -33,8 +33,12 @@ more s c j some most e =
 
 pub loop-j-init : goal.loop-j-init
 loop-j-init c =
-    let e : suc c.args.d ≡ c.args.d + 1 = omega arith in
-    (omega arith, sym (ap (code_of c.args.b) (subst (λ n. drop n (row (goal.at.loop-j-init c).Start) ≡ []) (size (goal.at.loop-j-init c).Start ∙ e) (drop-length (row (goal.at.loop-j-init c).Start)))))
+    let e : suc c.args.d ≡ c.args.d + 1 = omega arith in (
+      omega arith,
+      sym (ap (code_of c.args.b)
+          (subst (λ n. drop n (row (goal.at.loop-j-init c).Start) ≡ []) (size (goal.at.loop-j-init c).Start ∙ e)
+          (drop-length (row (goal.at.loop-j-init c).Start)))),
+    )
 
 pub overflow_mul-c : goal.overflow_mul-c
 overflow_mul-c c =

@@ -96,7 +96,8 @@ pub coded_256-requires : goal.coded_256-requires
 coded_256-requires c = coded (goal.at.coded_256-requires c).Then-n-v 256 c.if-n-le256.true
 
 pub coded_1024-requires : goal.coded_1024-requires
-coded_1024-requires c = at (goal.at.coded_1024-requires c).Start 1024 1 (coded (goal.at.coded_1024-requires c).Then-n-v 1024 c.if-n-le1024.true) c.if-d-eq1.true
+coded_1024-requires c =
+    at (goal.at.coded_1024-requires c).Start 1024 1 (coded (goal.at.coded_1024-requires c).Then-n-v 1024 c.if-n-le1024.true) c.if-d-eq1.true
 
 pub returns-then-d-eq1 : goal.returns-then-d-eq1
 returns-then-d-eq1 c = λ e. back (goal.at.returns-then-d-eq1 c).Start 1 c.if-d-eq1.true (c.coded_1024.ensures e)
@@ -105,7 +106,8 @@ pub coded_1024-requires-then-n-le1024 : goal.coded_1024-requires-then-n-le1024
 coded_1024-requires-then-n-le1024 c = coded (goal.at.coded_1024-requires-then-n-le1024 c).Then-n-v 1024 c.if-n-le1024.true
 
 pub coded_2048-requires : goal.coded_2048-requires
-coded_2048-requires c = at (goal.at.coded_2048-requires c).Start 2048 1 (coded (goal.at.coded_2048-requires c).Then-n-v 2048 c.if-n-le2048.true) c.if-d-eq1-2.true
+coded_2048-requires c =
+    at (goal.at.coded_2048-requires c).Start 2048 1 (coded (goal.at.coded_2048-requires c).Then-n-v 2048 c.if-n-le2048.true) c.if-d-eq1-2.true
 
 pub returns-then-d-eq1-2 : goal.returns-then-d-eq1-2
 returns-then-d-eq1-2 c = λ e. back (goal.at.returns-then-d-eq1-2 c).Start 1 c.if-d-eq1-2.true (c.coded_2048.ensures e)
@@ -114,7 +116,8 @@ pub coded_2048-requires-then-n-le2048 : goal.coded_2048-requires-then-n-le2048
 coded_2048-requires-then-n-le2048 c = coded (goal.at.coded_2048-requires-then-n-le2048 c).Then-n-v 2048 c.if-n-le2048.true
 
 pub coded_4096-requires : goal.coded_4096-requires
-coded_4096-requires c = at (goal.at.coded_4096-requires c).Start 4096 1 (coded (goal.at.coded_4096-requires c).Then-n-v 4096 c.if-n-le4096.true) c.if-d-eq1-3.true
+coded_4096-requires c =
+    at (goal.at.coded_4096-requires c).Start 4096 1 (coded (goal.at.coded_4096-requires c).Then-n-v 4096 c.if-n-le4096.true) c.if-d-eq1-3.true
 
 pub returns-then-d-eq1-3 : goal.returns-then-d-eq1-3
 returns-then-d-eq1-3 c = λ e. back (goal.at.returns-then-d-eq1-3 c).Start 1 c.if-d-eq1-3.true (c.coded_4096.ensures e)
@@ -123,7 +126,8 @@ pub coded_4096-requires-then-n-le4096 : goal.coded_4096-requires-then-n-le4096
 coded_4096-requires-then-n-le4096 c = coded (goal.at.coded_4096-requires-then-n-le4096 c).Then-n-v 4096 c.if-n-le4096.true
 
 pub coded_8192-requires : goal.coded_8192-requires
-coded_8192-requires c = at (goal.at.coded_8192-requires c).Start 8192 1 (coded (goal.at.coded_8192-requires c).Then-n-v 8192 c.if-n-le8192.true) c.if-d-eq1-4.true
+coded_8192-requires c =
+    at (goal.at.coded_8192-requires c).Start 8192 1 (coded (goal.at.coded_8192-requires c).Then-n-v 8192 c.if-n-le8192.true) c.if-d-eq1-4.true
 
 pub returns-then-d-eq1-4 : goal.returns-then-d-eq1-4
 returns-then-d-eq1-4 c = λ e. back (goal.at.returns-then-d-eq1-4 c).Start 1 c.if-d-eq1-4.true (c.coded_8192.ensures e)
@@ -132,16 +136,21 @@ pub coded_8192-requires-then-n-le8192 : goal.coded_8192-requires-then-n-le8192
 coded_8192-requires-then-n-le8192 c = coded (goal.at.coded_8192-requires-then-n-le8192 c).Then-n-v 8192 c.if-n-le8192.true
 
 pub coded_16384-requires : goal.coded_16384-requires
-coded_16384-requires c = at (goal.at.coded_16384-requires c).Start 16384 3 (coded (goal.at.coded_16384-requires c).Then-n-v 16384 (few-places (goal.at.coded_16384-requires c).Then-n-v).0) c.if-d-eq3.true
+coded_16384-requires c =
+    at (goal.at.coded_16384-requires c).Start 16384 3
+    (coded (goal.at.coded_16384-requires c).Then-n-v 16384 (few-places (goal.at.coded_16384-requires c).Then-n-v).0) c.if-d-eq3.true
 
 pub returns-then-d-eq3 : goal.returns-then-d-eq3
 returns-then-d-eq3 c = λ e. back (goal.at.returns-then-d-eq3 c).Start 3 c.if-d-eq3.true (c.coded_16384.ensures e)
 
 pub coded_16384-requires-then-n-v : goal.coded_16384-requires-then-n-v
-coded_16384-requires-then-n-v c = coded (goal.at.coded_16384-requires-then-n-v c).Then-n-v 16384 (few-places (goal.at.coded_16384-requires-then-n-v c).Then-n-v).0
+coded_16384-requires-then-n-v c =
+    coded (goal.at.coded_16384-requires-then-n-v c).Then-n-v 16384 (few-places (goal.at.coded_16384-requires-then-n-v c).Then-n-v).0
 
 pub in_32768-requires : goal.in_32768-requires
-in_32768-requires c = subst (Fits (goal.at.in_32768-requires c).Start 32768) c.if-d-eq4.true (fits 32768 (goal.at.in_32768-requires c).Else-differ (few (goal.at.in_32768-requires c).Else-differ))
+in_32768-requires c =
+    subst (Fits (goal.at.in_32768-requires c).Start 32768) c.if-d-eq4.true
+    (fits 32768 (goal.at.in_32768-requires c).Else-differ (few (goal.at.in_32768-requires c).Else-differ))
 
 pub returns-then-d-eq4 : goal.returns-then-d-eq4
 returns-then-d-eq4 c = λ e. back (goal.at.returns-then-d-eq4 c).Start 4 c.if-d-eq4.true (c.in_32768.ensures e)

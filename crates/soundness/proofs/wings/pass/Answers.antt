@@ -5,7 +5,7 @@ use native.Mathlib.Omega.{arith}
 use Rattle.matching.proofs.Quotients.{cell_of_key, place_of_key}
 use Rattle.records.specs.Layout.{empty}
 use Rattle.soundness.specs.Inner.Pairing.{MeetsAt, wing_of}
-use Rattle.soundness.proofs.Passing.{pass_alone, pass_met, pass_waits}
+use Rattle.soundness.proofs.Passing.{as_alike, pass_alone, pass_met, pass_waits, with_hashes}
 use Rattle.soundness.proofs.Places.{few_keys, key_inside}
 use Rattle.soundness.proofs.wings.pass.Goals as goal
 use Rattle.soundness.proofs.wings.pass.Goals.{Start, Then-is_met}
@@ -26,14 +26,17 @@ place s = let a = s.args in ap (λ i. i % suc a.d) s.requires.3 ∙ place_of_key
 
 -- an earlier key meets it
 meeting : (c : Then-is_met) → (c.put-f.result < c.args.g) × MeetsAt c.args.d c.args.table.now c.put-f.result c.args.g
-meeting c =
-    (omega (arith, c.if-g-f.false), rw (cell (goal.at.Then-is_met c).Start) (rw (place (goal.at.Then-is_met c).Start) (c.is_met.ensures c.if-is_met.true)))
+meeting c = (
+  omega (arith, c.if-g-f.false),
+  rw (cell (goal.at.Then-is_met c).Start) (rw (place (goal.at.Then-is_met c).Start) (c.is_met.ensures c.if-is_met.true)),
+)
 
 some-wait : (c : Then-is_met) → 1 ≤ c.args.n
 some-wait c =
     let a = c.args in
     let m = meeting c in
-    (pass_met a.d a.s a.table.now a.hash.now a.head.now a.next.now _ _ a.g a.n c.requires.0 (inside (goal.at.Then-is_met c).Start).0
+    (pass_met a.d a.s a.table.now a.hash.now a.head.now a.next.now _ _ a.g a.n (as_alike _ _ _ _ _ _ _ _ c.requires.0)
+    (inside (goal.at.Then-is_met c).Start).0
     c.put-f.ensures.long.1 (c.put-f.ensures.chains (λ l. absurd (omega (arith, l, m.0)))) c.put-f.result m.0 m.1).0
 
 pub put-f-requires : goal.put-f-requires
@@ -44,9 +47,12 @@ put-f-requires c =
 pub returns-then-wing : goal.returns-then-wing
 returns-then-wing c = λ z.
     let a = c.args in
-    let e : wing_of a.d a.table.now a.g ≡ empty = rw (cell (goal.at.returns-then-wing c).Start) (rw (place (goal.at.returns-then-wing c).Start) (sym c.wing.ensures ∙ c.if-wing.true)) in
-    pass_alone a.d a.s a.table.now a.hash.now a.head.now a.next.now _ _ a.g a.n c.requires.0 (inside (goal.at.returns-then-wing c).Start).0
-    c.put-f.ensures.long.1 (c.put-f.ensures.chains (λ l. c.if-f-eq65535.true)) (c.put-f.ensures.none c.if-f-eq65535.true) e
+    let e : wing_of a.d a.table.now a.g ≡ empty =
+    rw (cell (goal.at.returns-then-wing c).Start) (rw (place (goal.at.returns-then-wing c).Start) (sym c.wing.ensures ∙ c.if-wing.true)) in
+    with_hashes _ _ _ _ _ _ _ _ c.requires.0.hashed
+    (pass_alone a.d a.s a.table.now a.hash.now a.head.now a.next.now _ _ a.g a.n (as_alike _ _ _ _ _ _ _ _ c.requires.0)
+    (inside (goal.at.returns-then-wing c).Start).0
+    c.put-f.ensures.long.1 (c.put-f.ensures.chains (λ l. c.if-f-eq65535.true)) (c.put-f.ensures.none c.if-f-eq65535.true) e)
 
 pub overflow_add-result : goal.overflow_add-result
 overflow_add-result c = omega (arith, c.requires.0.low, inside (goal.at.overflow_add-result c).Start)
@@ -54,8 +60,10 @@ overflow_add-result c = omega (arith, c.requires.0.low, inside (goal.at.overflow
 pub returns-then-f-eq65535 : goal.returns-then-f-eq65535
 returns-then-f-eq65535 c = λ z.
     let a = c.args in
-    pass_waits a.d a.s a.table.now a.hash.now a.head.now a.next.now _ _ a.g a.n c.requires.0 (inside (goal.at.returns-then-f-eq65535 c).Start).0
-    c.put-f.ensures.long.1 (c.put-f.ensures.chains (λ l. c.if-f-eq65535.true)) (c.put-f.ensures.none c.if-f-eq65535.true)
+    with_hashes _ _ _ _ _ _ _ _ c.requires.0.hashed
+    (pass_waits a.d a.s a.table.now a.hash.now a.head.now a.next.now _ _ a.g a.n (as_alike _ _ _ _ _ _ _ _ c.requires.0)
+    (inside (goal.at.returns-then-f-eq65535 c).Start).0
+    c.put-f.ensures.long.1 (c.put-f.ensures.chains (λ l. c.if-f-eq65535.true)) (c.put-f.ensures.none c.if-f-eq65535.true))
 
 pub returns-then-g-f : goal.returns-then-g-f
 returns-then-g-f c = λ z. absurd (z refl)
@@ -71,7 +79,9 @@ pub returns-then-is_met : goal.returns-then-is_met
 returns-then-is_met c = λ z.
     let a = c.args in
     let m = meeting c in
-    (pass_met a.d a.s a.table.now a.hash.now a.head.now a.next.now _ _ a.g a.n c.requires.0 (inside (goal.at.returns-then-is_met c).Start).0
+    with_hashes _ _ _ _ _ _ _ _ c.requires.0.hashed
+    (pass_met a.d a.s a.table.now a.hash.now a.head.now a.next.now _ _ a.g a.n (as_alike _ _ _ _ _ _ _ _ c.requires.0)
+    (inside (goal.at.returns-then-is_met c).Start).0
     c.put-f.ensures.long.1 (c.put-f.ensures.chains (λ l. absurd (omega (arith, l, m.0)))) c.put-f.result m.0 m.1).1
 
 pub returns : goal.returns

@@ -1,5 +1,5 @@
 -- The goals that the search leaves. Assumes nothing.
-use Rattle.std.proofs.Common.{◌≡◌, ℕ, ◌+◌, ◌-◌, ◌<◌, length, sym, ap, ◌∙◌, ap₂, not-suc-le-zero, arith}
+use Rattle.std.proofs.Common.{◌≡◌, ℕ, ◌+◌, ◌<◌, length, sym, ap, ◌∙◌, ap₂, not-suc-le-zero, arith}
 use Rattle.sweeping.specs.Inner.Across.{face_first, face_back, side_word}
 use Rattle.sweeping.specs.Inner.PrismPlaces.{side_at}
 use Rattle.sweeping.specs.Inner.SweptWords.{prism_words, solid_wing}
@@ -70,7 +70,8 @@ loop-l-preserved c =
     let inv = c.loop-l.invariant in
     let words = prism_words a.d a.v a.s a.h a.table.now a.i a.p in
     let put = stored a.at words c.loop-l.out (side_at a.d a.a l) _ _
-    (omega (arith, c.requires.room, inv.1.outside.same)) (low (goal.at.loop-l-preserved c).In-loop-l) (ap (λ (n : ℕ). a.at + n) c.side_place.ensures.place)
+    (omega (arith, c.requires.room, inv.1.outside.same)) (low (goal.at.loop-l-preserved c).In-loop-l)
+    (ap (λ (n : ℕ). a.at + n) c.side_place.ensures.place)
     (c.side_word.ensures ∙ is (goal.at.loop-l-preserved c).In-loop-l
     ∙ sym (side_at_lem a.d a.v a.s a.h a.table.now c.requires.ready a.i a.p at.0 at.1 a.a l at.2 c.loop-l-test.true)) in (
       omega (arith, c.loop-l-test.true),

@@ -1,5 +1,5 @@
 -- The goals that the search leaves. Assumes nothing.
-use Rattle.std.proofs.Common.{ℕ, ◌-◌, not-suc-le-zero, arith}
+use Rattle.std.proofs.Common.{ℕ, not-suc-le-zero, arith}
 use Rattle.sweeping.specs.Inner.PrismPlaces.{side_at}
 use Rattle.sweeping.specs.Inner.SweptWords.{prism_words}
 use Rattle.sweeping.proofs.Filling.{kept-none, kept_then, rights_more}
@@ -21,7 +21,8 @@ loop-a-preserved c =
     let a = c.args in
     let words = prism_words a.d a.v a.s a.h a.table.now a.i a.p in (
       kept_then _ _ _ _ _ c.loop-a.invariant.0 c.put_face.ensures.kept,
-      λ m b h. rights_more a.at words _ _ (λ (b : ℕ). side_at a.d b m) c.loop-a.a c.put_face.ensures.kept (λ x y. c.loop-a.invariant.1 m x h y) (c.put_face.ensures.right m h) b,
+      λ m b h. rights_more a.at words _ _ (λ (b : ℕ). side_at a.d b m) c.loop-a.a c.put_face.ensures.kept (λ x y. c.loop-a.invariant.1 m x h y)
+          (c.put_face.ensures.right m h) b,
     )
 
 pub shape_of-out : goal.shape_of-out

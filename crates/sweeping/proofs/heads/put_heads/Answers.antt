@@ -1,5 +1,5 @@
 -- The goals that the search leaves. Assumes nothing.
-use Rattle.std.proofs.Common.{◌-◌, not-suc-le-zero, arith}
+use Rattle.std.proofs.Common.{not-suc-le-zero, arith}
 use Rattle.sweeping.proofs.Filling.{kept-none, kept_then}
 use Rattle.sweeping.proofs.PrismWords.{heads_more}
 use Rattle.sweeping.proofs.heads.put_heads.Goals as goal
@@ -16,8 +16,10 @@ put_head-requires c =
     }
 
 pub loop-k-preserved : goal.loop-k-preserved
-loop-k-preserved c =
-    (kept_then _ _ _ _ _ c.loop-k.invariant.0 c.put_head.ensures.kept, heads_more _ _ _ _ _ c.loop-k.k c.put_head.ensures.kept c.loop-k.invariant.1 c.put_head.ensures.right)
+loop-k-preserved c = (
+  kept_then _ _ _ _ _ c.loop-k.invariant.0 c.put_head.ensures.kept,
+  heads_more _ _ _ _ _ c.loop-k.k c.put_head.ensures.kept c.loop-k.invariant.1 c.put_head.ensures.right,
+)
 
 pub shape_of-out : goal.shape_of-out
 shape_of-out c = c.loop-k.invariant.0.outside.same

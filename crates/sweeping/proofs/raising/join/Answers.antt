@@ -1,5 +1,5 @@
 -- The goals that the search leaves. Assumes nothing.
-use Rattle.std.proofs.Common.{◌≡◌, ◌+◌, ◌-◌, ◌*◌, ◌<◌, ◌≤◌, length, zero-mul, arith, length-set}
+use Rattle.std.proofs.Common.{◌≡◌, ◌+◌, ◌*◌, ◌<◌, ◌≤◌, length, zero-mul, arith, length-set}
 use Rattle.words.proofs.Records.{record_next, record_fits}
 use Rattle.sweeping.specs.Inner.Raising.{prism_size}
 use Rattle.sweeping.proofs.Joining.{joined-none, joined_more, bottom, top, bottom-inside, top-inside}
@@ -76,7 +76,8 @@ pub overflow_add-out-in-loop-p : goal.overflow_add-out-in-loop-p
 overflow_add-out-in-loop-p c = let x = places_of (goal.at.overflow_add-out-in-loop-p c).In-loop-p in omega (arith, x.high, x.high-inside)
 
 pub offset_bounds-out-first-in-loop-p : goal.offset_bounds-out-first-in-loop-p
-offset_bounds-out-first-in-loop-p c = let x = places_of (goal.at.offset_bounds-out-first-in-loop-p c).In-loop-p in omega (arith, x.high, x.high-inside)
+offset_bounds-out-first-in-loop-p c = let x = places_of (goal.at.offset_bounds-out-first-in-loop-p c).In-loop-p in
+    omega (arith, x.high, x.high-inside)
 
 pub bounds-out-first-in-loop-p : goal.bounds-out-first-in-loop-p
 bounds-out-first-in-loop-p c =

@@ -1,5 +1,5 @@
 -- The goals that the search leaves. Assumes nothing.
-use Rattle.std.proofs.Common.{◌≡◌, suc, ◌+◌, ◌-◌, ◌<◌, length, get_or, refl, not-suc-le-zero, arith}
+use Rattle.std.proofs.Common.{◌≡◌, suc, ◌+◌, ◌<◌, length, get_or, refl, not-suc-le-zero, arith}
 use Rattle.records.specs.Layout.{record_size}
 use Rattle.sweeping.proofs.Filling.{outside-none, outside_set}
 use Rattle.sweeping.proofs.Stepping.{set_more}

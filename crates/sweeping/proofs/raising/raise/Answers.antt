@@ -1,5 +1,5 @@
 -- The goals that the search leaves. Assumes nothing.
-use Rattle.std.proofs.Common.{◌+◌, ◌-◌, ◌≤◌, length, arith}
+use Rattle.std.proofs.Common.{◌+◌, ◌≤◌, length, arith}
 use Rattle.sweeping.proofs.Onward.{going_starts, going_on}
 use Rattle.sweeping.proofs.raising.raise.Goals as goal
 use Rattle.sweeping.proofs.raising.raise.Goals.{In-loop-j}

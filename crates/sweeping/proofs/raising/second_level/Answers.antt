@@ -33,8 +33,13 @@ pub overflow_mul-s : goal.overflow_mul-s
 overflow_mul-s c = omega (arith, few (goal.at.overflow_mul-s c).Start, cells (goal.at.overflow_mul-s c).Start)
 
 pub step_level-requires : goal.step_level-requires
-step_level-requires c =
-    (c.requires.ready.dimension, vertices (goal.at.step_level-requires c).Start, omega (arith, few (goal.at.step_level-requires c).Start, cells (goal.at.step_level-requires c).Start), size (goal.at.step_level-requires c).Start, c.requires.room)
+step_level-requires c = (
+  c.requires.ready.dimension,
+  vertices (goal.at.step_level-requires c).Start,
+  omega (arith, few (goal.at.step_level-requires c).Start, cells (goal.at.step_level-requires c).Start),
+  size (goal.at.step_level-requires c).Start,
+  c.requires.room,
+)
 
 pub join-requires : goal.join-requires
 join-requires c =

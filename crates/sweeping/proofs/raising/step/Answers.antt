@@ -14,4 +14,5 @@ returns-then-j-first_wing c =
 pub returns : goal.returns
 returns c =
     let a = c.args in
-    rw (le-ltb a.j 2 c.if-j-lt-VERTICES.false, le-ltb a.j (wing_place (suc a.d) 0) (omega (arith, c.if-j-first_wing.false, c.first_wing.ensures))) refl
+    rw (le-ltb a.j 2 c.if-j-lt-VERTICES.false, le-ltb a.j (wing_place (suc a.d) 0) (omega (arith, c.if-j-first_wing.false, c.first_wing.ensures)))
+    refl

@@ -1,5 +1,5 @@
 -- The goals that the search leaves. Assumes nothing.
-use Rattle.std.proofs.Common.{suc, ◌+◌, ◌-◌, ◌≤◌, length, zero-mul, arith}
+use Rattle.std.proofs.Common.{suc, ◌+◌, ◌≤◌, length, zero-mul, arith}
 use Rattle.words.proofs.Records.{record_next, record_fits}
 use Rattle.records.specs.Layout.{record_size}
 use Rattle.sweeping.proofs.Stepping.{records_more, records_none}

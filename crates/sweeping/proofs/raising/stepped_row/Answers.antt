@@ -1,5 +1,5 @@
 -- The goals that the search leaves. Assumes nothing.
-use Rattle.std.proofs.Common.{ℕ, ◌+◌, ◌-◌, ◌<◌, length, get_or, refl, ◌∙◌, not-suc-le-zero, arith, length-set}
+use Rattle.std.proofs.Common.{ℕ, ◌+◌, ◌<◌, length, get_or, refl, ◌∙◌, not-suc-le-zero, arith, length-set}
 use Rattle.sweeping.specs.Inner.Raising.{Stepped}
 use Rattle.sweeping.proofs.Stepping.{set_here}
 use Rattle.sweeping.proofs.raising.stepped_row.Goals as goal
@@ -7,8 +7,10 @@ use Rattle.sweeping.proofs.raising.stepped_row.Goals.{In-loop-j}
 
 -- the record's words
 few : (c : In-loop-j) → (c.loop-j.j < 18) × (c.args.from + c.loop-j.j < length c.args.out.now)
-few c =
-    (omega (arith, c.loop-j-test.true, c.record_size-n.ensures, c.requires.0), omega (arith, c.loop-j-test.true, c.record_size-n.ensures, c.requires.1))
+few c = (
+  omega (arith, c.loop-j-test.true, c.record_size-n.ensures, c.requires.0),
+  omega (arith, c.loop-j-test.true, c.record_size-n.ensures, c.requires.1),
+)
 
 pub loop-j-init : goal.loop-j-init
 loop-j-init c = (refl, λ q l. absurd (not-suc-le-zero l))

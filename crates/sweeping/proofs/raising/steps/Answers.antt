@@ -1,5 +1,5 @@
 -- The goals that the search leaves. Assumes nothing.
-use Rattle.std.proofs.Common.{◌≡◌, ℕ, ◌-◌, refl, ◌∙◌, not-suc-le-zero, arith, length-set}
+use Rattle.std.proofs.Common.{◌≡◌, ℕ, refl, ◌∙◌, not-suc-le-zero, arith, length-set}
 use Rattle.sweeping.specs.Inner.Raising.{step_of}
 use Rattle.sweeping.proofs.Stepping.{set_here}
 use Rattle.sweeping.proofs.raising.steps.Goals as goal

@@ -1,5 +1,5 @@
 -- The goals that the search leaves. Assumes nothing.
-use Rattle.std.proofs.Common.{◌≡◌, ◌+◌, ◌-◌, ◌<◌, ap, ◌∙◌, add-one, arith}
+use Rattle.std.proofs.Common.{◌≡◌, ◌+◌, ◌<◌, ap, ◌∙◌, add-one, arith}
 use Rattle.prism.specs.Cells.{at_level}
 use Rattle.sweeping.specs.Inner.SweptWords.{solid_vertex}
 use Rattle.sweeping.proofs.Columns.{column-low, column_high, columns_all, columns_more, columns_none}
@@ -62,7 +62,8 @@ loop-j-smaller c = omega (arith, c.loop-j-test.true)
 
 pub loop-j-preserved : goal.loop-j-preserved
 loop-j-preserved c =
-    columns_more _ _ _ _ c.loop-j.j _ _ _ c.loop-j.invariant c.put_column.ensures.kept c.put_column-in-loop-j.ensures.kept c.put_column.ensures.right c.put_column-in-loop-j.ensures.right
+    columns_more _ _ _ _ c.loop-j.j _ _ _ c.loop-j.invariant c.put_column.ensures.kept c.put_column-in-loop-j.ensures.kept c.put_column.ensures.right
+    c.put_column-in-loop-j.ensures.right
 
 pub shape_of-out : goal.shape_of-out
 shape_of-out c = c.loop-j.invariant.kept.outside.same

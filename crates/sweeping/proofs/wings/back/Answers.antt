@@ -1,5 +1,5 @@
 -- The goals that the search leaves. Assumes nothing.
-use Rattle.std.proofs.Common.{◌≡◌, ◌-◌, sym, ap, ◌∙◌, arith, rules}
+use Rattle.std.proofs.Common.{◌≡◌, sym, ap, ◌∙◌, arith, rules}
 use Rattle.sweeping.specs.Inner.SweptWords.{solid_wing}
 use Rattle.sweeping.proofs.Searching.{back_after, back_none, back-here, back_next, back_all}
 use Rattle.sweeping.proofs.wings.back.Goals as goal

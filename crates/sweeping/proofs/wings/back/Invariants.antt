@@ -1,5 +1,5 @@
 -- The search for the position back. The loop has found the first such position from b on. Assumes nothing.
-use Rattle.std.proofs.Common.{◌≡◌, ◌+◌, ◌-◌, ◌≤◌}
+use Rattle.std.proofs.Common.{◌≡◌, ◌+◌, ◌≤◌}
 use Rattle.sweeping.specs.Inner.SweptWords.{solid_wing}
 use Rattle.sweeping.proofs.Searching.{back_after}
 use Rattle.sweeping.proofs.wings.back.Given as goal

@@ -1,5 +1,5 @@
 -- The goals that the search leaves. Assumes nothing.
-use Rattle.std.proofs.Common.{ℕ, ◌-◌, List, length, ap, arith}
+use Rattle.std.proofs.Common.{ℕ, List, length, ap, arith}
 use Rattle.words.proofs.Writing.{left_starts, left_record, left_record_fits, left_records}
 use Rattle.sweeping.specs.Inner.SweptWords.{prism_words}
 use Rattle.sweeping.proofs.SweptWords.{level_is}
@@ -25,7 +25,8 @@ write_prism-next-requires c =
 
 pub loop-p-preserved : goal.loop-p-preserved
 loop-p-preserved c =
-    left_record _ _ (prisms (goal.at.loop-p-preserved c).Start) c.loop-p-test.true c.loop-p.invariant _ _ (record { place = c.write_prism-next.ensures.place; content = c.write_prism-next.ensures.words })
+    left_record _ _ (prisms (goal.at.loop-p-preserved c).Start) c.loop-p-test.true c.loop-p.invariant _ _
+    (record { place = c.write_prism-next.ensures.place; content = c.write_prism-next.ensures.words })
 
 pub returns : goal.returns
 returns c =

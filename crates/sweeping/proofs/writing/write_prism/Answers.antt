@@ -34,7 +34,13 @@ write_faces-requires c =
 
 pub overflow_add-result : goal.overflow_add-result
 overflow_add-result c =
-    omega (arith, long (goal.at.overflow_add-result c).Start, small (goal.at.overflow_add-result c).Start, c.requires.room, c.record_place.ensures.place)
+    omega (
+      arith,
+      long (goal.at.overflow_add-result c).Start,
+      small (goal.at.overflow_add-result c).Start,
+      c.requires.room,
+      c.record_place.ensures.place,
+    )
 
 pub returns : goal.returns
 returns c =
@@ -43,6 +49,8 @@ returns c =
     let two = kept_then a.at words _ _ _ c.write_vertices.ensures.kept c.write_heads.ensures.kept in record {
       place = omega (arith, long (goal.at.returns c).Start, c.record_place.ensures.place);
       words = prism-filled a.d a.v a.s a.h a.table.now c.requires.ready a.i a.p c.requires.at.1 a.at a.out.now _ c.requires.room
-          (kept_then a.at words _ _ _ two c.write_faces.ensures.kept) (λ k hk. head_stays _ _ words _ _ k c.write_faces.ensures.kept (c.write_heads.ensures.right k hk))
-          (λ k j hk hj. c.write_faces.ensures.kept.right _ (c.write_heads.ensures.kept.right _ (c.write_vertices.ensures.vertices k j hk hj))) c.write_faces.ensures.right;
+          (kept_then a.at words _ _ _ two c.write_faces.ensures.kept)
+          (λ k hk. head_stays _ _ words _ _ k c.write_faces.ensures.kept (c.write_heads.ensures.right k hk))
+          (λ k j hk hj. c.write_faces.ensures.kept.right _ (c.write_heads.ensures.kept.right _ (c.write_vertices.ensures.vertices k j hk hj)))
+          c.write_faces.ensures.right;
     }

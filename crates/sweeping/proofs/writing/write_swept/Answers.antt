@@ -1,5 +1,5 @@
 -- The goals that the search leaves. Assumes nothing.
-use Rattle.std.proofs.Common.{◌≡◌, ℕ, suc, ◌+◌, ◌-◌, ◌*◌, ◌<◌, ◌≤◌, List, length, get_or, drop, sym, refl, ap, ◌∙◌, mul-le-mul_right, zero-mul, arith}
+use Rattle.std.proofs.Common.{◌≡◌, ℕ, suc, ◌+◌, ◌*◌, ◌<◌, ◌≤◌, List, length, get_or, drop, sym, refl, ap, ◌∙◌, mul-le-mul_right, zero-mul, arith}
 use Rattle.words.specs.Records.{tabulate, concat, part}
 use Rattle.words.specs.Inner.Placed.{placed}
 use Rattle.words.proofs.Records.{part_tabulated, record_next, record_fits}
@@ -87,7 +87,8 @@ next_level-requires c =
     let fits = left_record_fits _ i (levels (goal.at.next_level-requires c).Start) few left in record {
       ready = c.requires.ready;
       at = (few, size);
-      below = (λ x e hx he. read (goal.at.next_level-requires c).Start n i x (i * n) e c.loop-i.out size (omega (arith, few)) (record_fits n i x hx) left he);
+      below = (λ x e hx he. read (goal.at.next_level-requires c).Start n i x (i * n) e c.loop-i.out size (omega (arith, few)) (record_fits n i x hx)
+          left he);
       room = omega (arith, fits, size, level-size (goal.at.next_level-requires c).Start i);
     }
 

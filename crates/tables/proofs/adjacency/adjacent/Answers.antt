@@ -77,7 +77,8 @@ module _ (p : After-pair-found) (made : ℕ → ℕ) where
 pub returns-then-any_repeated : goal.returns-then-any_repeated
 returns-then-any_repeated c =
     record {
-      fault = (λ made. nine (goal.at.returns-then-any_repeated c).Start made (sym (c.any_repeated.ensures c.args.signs.now made) ∙ c.if-any_repeated.true));
+      fault = (λ made. nine (goal.at.returns-then-any_repeated c).Start made (sym (c.any_repeated.ensures c.args.signs.now made)
+          ∙ c.if-any_repeated.true));
       wings = (λ made z. absurd (omega (arith, z)));
     }
 
@@ -90,7 +91,8 @@ returns-then-d-eq0 c =
           (λ g l. absurd (not-suc-le-zero l)) refl (sym (c.any_repeated.ensures a.signs.now made) ∙ c.if-any_repeated.false) refl);
       wings = λ made z.
           found-wings _ _ a.rows.now a.signs.now made c.requires.d_bound.0
-          c.requires.d_bound.1 c.requires.d_bound.2 [] 0 empty (λ g l. absurd (not-suc-le-zero l)) refl a.wings.now _ c.requires.rows_value c.requires.d_bound.3 refl;
+          c.requires.d_bound.1 c.requires.d_bound.2 [] 0 empty (λ g l. absurd (not-suc-le-zero l)) refl a.wings.now _ c.requires.rows_value
+          c.requires.d_bound.3 refl;
     }
 
 pub overflow_add-k : goal.overflow_add-k
@@ -130,21 +132,24 @@ returns-then-any_repeated-2 c =
 pub returns-then-found : goal.returns-then-found
 returns-then-found c =
     let s = (goal.at.returns-then-found c).Start in record {
-      fault = (λ made. ten (goal.at.returns-then-found c).After-pair-found made (sym (c.any_repeated-then-found.ensures s.args.signs.now made) ∙ c.if-any_repeated-2.false) (cc));
+      fault = (λ made. ten (goal.at.returns-then-found c).After-pair-found made (sym (c.any_repeated-then-found.ensures s.args.signs.now made)
+          ∙ c.if-any_repeated-2.false) (cc));
       wings = (λ made z. absurd (omega (arith, z)));
     }
 
 pub returns-then-found-2 : goal.returns-then-found-2
 returns-then-found-2 c =
     record {
-      fault = (λ made. nine (goal.at.returns-then-found-2 c).Start made (twin (goal.at.returns-then-found-2 c).After-pair-found made c.if-found.false ∙ c.if-found-2.true));
+      fault = (λ made. nine (goal.at.returns-then-found-2 c).Start made (twin (goal.at.returns-then-found-2 c).After-pair-found made c.if-found.false
+          ∙ c.if-found-2.true));
       wings = (λ made z. absurd (omega (arith, z)));
     }
 
 pub returns-then-found-3 : goal.returns-then-found-3
 returns-then-found-3 c =
     let met = c.if-found.false in record {
-      fault = (λ made. eleven (goal.at.returns-then-found-3 c).After-pair-found made met (twin (goal.at.returns-then-found-3 c).After-pair-found made met ∙ c.if-found-2.false) c.if-found-3.true);
+      fault = (λ made. eleven (goal.at.returns-then-found-3 c).After-pair-found made met
+          (twin (goal.at.returns-then-found-3 c).After-pair-found made met ∙ c.if-found-2.false) c.if-found-3.true);
       wings = (λ made z. absurd (omega (arith, z)));
     }
 
@@ -152,6 +157,7 @@ pub returns : goal.returns
 returns c =
     let met = c.if-found.false in
     record {
-      fault = (λ made. none (goal.at.returns c).After-pair-found made met (twin (goal.at.returns c).After-pair-found made met ∙ c.if-found-2.false) c.if-found-3.false);
+      fault = (λ made. none (goal.at.returns c).After-pair-found made met (twin (goal.at.returns c).After-pair-found made met ∙ c.if-found-2.false)
+          c.if-found-3.false);
       wings = (λ made z. wings (goal.at.returns c).After-pair-found made met _ refl);
     }

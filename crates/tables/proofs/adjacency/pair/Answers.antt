@@ -1,7 +1,7 @@
 -- The goals that the search leaves. Assumes nothing.
 use mathlib.Core.Bool.{false}
 use mathlib.Core.Path.{◌≡◌, refl, ap, ◌∙◌, subst}
-use Prim.Native.Nat.{ℕ, ◌/◌, ◌-◌, ◌<◌}
+use Prim.Native.Nat.{ℕ, ◌/◌, ◌<◌}
 use native.Mathlib.Nat.{div-le_self, div-lt_iff_lt-mul}
 use native.Mathlib.Omega.{arith}
 use Rattle.tables.specs.Inner.Pairing.{Pairing}

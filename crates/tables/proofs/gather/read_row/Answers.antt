@@ -1,5 +1,4 @@
 -- The goals that the search leaves. Assumes nothing.
-use Prim.Native.Nat.{◌-◌}
 use native.Mathlib.Omega.{arith}
 use Rattle.tables.proofs.Reading.{read_all, read_more, read_no_more, read_none}
 use Rattle.tables.proofs.gather.read_row.Goals as goal

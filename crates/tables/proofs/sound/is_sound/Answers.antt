@@ -51,7 +51,9 @@ pub table_words-requires : goal.table_words-requires
 table_words-requires c = let l = limits c in (l.dimension, l.cells)
 
 pub returns-then-differ : goal.returns-then-differ
-returns-then-differ c = unsound-length _ _ _ _ (inside (goal.at.returns-then-differ c).Else-not-within) (longer (goal.at.returns-then-differ c).After-differ ∙ c.if-differ.true)
+returns-then-differ c =
+    unsound-length _ _ _ _ (inside (goal.at.returns-then-differ c).Else-not-within) (longer (goal.at.returns-then-differ c).After-differ
+    ∙ c.if-differ.true)
 
 pub record_size-size-requires : goal.record_size-size-requires
 record_size-size-requires c = (limits (goal.at.record_size-size-requires c).Else-not-within).dimension
@@ -67,11 +69,13 @@ take-verdict-requires c =
     }
 
 pub same-requires : goal.same-requires
-same-requires c = let l = limits (goal.at.same-requires c).Else-not-within in (l.dimension, l.cells, eqb-true _ _ (not-false _ (long (goal.at.same-requires c).Else-differ)))
+same-requires c = let l = limits (goal.at.same-requires c).Else-not-within in
+    (l.dimension, l.cells, eqb-true _ _ (not-false _ (long (goal.at.same-requires c).Else-differ)))
 
 pub returns-in-Refuse : goal.returns-in-Refuse
 returns-in-Refuse c =
-    unsound-refused _ _ _ _ (inside (goal.at.returns-in-Refuse c).Else-not-within) (long (goal.at.returns-in-Refuse c).Else-differ) c.in-Refuse.field-0
+    unsound-refused _ _ _ _ (inside (goal.at.returns-in-Refuse c).Else-not-within) (long (goal.at.returns-in-Refuse c).Else-differ)
+    c.in-Refuse.field-0
     (sym (ap verdict_of c.in-Refuse.is) ∙ answered (goal.at.returns-in-Refuse c).After-take-verdict)
 
 pub returns : goal.returns

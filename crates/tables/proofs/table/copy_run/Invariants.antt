@@ -7,7 +7,8 @@ use Rattle.tables.specs.Inner.Held.{run}
 use Rattle.tables.proofs.table.copy_run.Given as goal
 
 abbrev pub invariant-loop-j : goal.invariant-loop-j
-invariant-loop-j l = (l.j ≤ 8) × (length l.table ≡ length l.initial.table) × (l.table ≡ placed l.to (take l.j (run l.n l.from l.words)) l.initial.table)
+invariant-loop-j l = (l.j ≤ 8) × (length l.table ≡ length l.initial.table)
+    × (l.table ≡ placed l.to (take l.j (run l.n l.from l.words)) l.initial.table)
 
 abbrev pub decreases-loop-j : goal.decreases-loop-j
 decreases-loop-j l = 8 - l.j

@@ -2,11 +2,9 @@
 use Prim.Native.Nat.{◌+◌, ◌*◌, ◌≤◌}
 use native.Mathlib.Nat.{mul-le-mul_right}
 use native.Mathlib.Omega.{arith}
-use lib.ListN.{length, set, length-set}
-use Rattle.words.proofs.Placed.{placed-length}
+use lib.ListN.{set, length-set}
 use Rattle.records.specs.Layout.{material_place}
-use Rattle.tables.specs.Inner.Held.{record_held}
-use Rattle.tables.proofs.Filling.{part_room, record_long, record_placed}
+use Rattle.tables.proofs.Filling.{part_room, record_placed}
 use Rattle.tables.proofs.table.write_record.Goals as goal
 use Rattle.tables.proofs.table.write_record.Goals.{Start}
 

@@ -43,7 +43,8 @@ take-verdict-requires c =
 
 pub returns-in-Refuse : goal.returns-in-Refuse
 returns-in-Refuse c =
-    let r = refuses _ _ _ _ c.args.further _ c.requires.2 c.in-Refuse.why (sym (ap verdict_of c.in-Refuse.is) ∙ answered (goal.at.returns-in-Refuse c).After-take-verdict) in
+    let r = refuses _ _ _ _ c.args.further _ c.requires.2 c.in-Refuse.why (sym (ap verdict_of c.in-Refuse.is)
+    ∙ answered (goal.at.returns-in-Refuse c).After-take-verdict) in
     record { answer = r.0; table = r.1 }
 
 pub returns-then-too_short : goal.returns-then-too_short

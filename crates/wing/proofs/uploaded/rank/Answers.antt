@@ -1,10 +1,9 @@
 -- The goals that the search leaves. Assumes nothing.
-use mathlib.Core.Logic.{⊎_elim}
 use mathlib.Core.Path.{◌∙◌}
-use Prim.Native.Nat.{◌-◌}
 use native.Mathlib.Omega.{arith}
 use Rattle.wing.proofs.Ranks.{rank_all, rank_behind, rank_over, rank_under}
 use Rattle.wing.proofs.uploaded.rank.Goals as goal
+use Rattle.wing.proofs.uploaded.rank.Goals.{then-i-n+then-words-at, then-i-n+else-words-at, else-i-n}
 
 pub loop-i-init : goal.loop-i-init
 loop-i-init c = omega arith
@@ -34,12 +33,11 @@ loop-i-preserved c =
     let under = rank_under _ a.at a.words.now a.x l.i l.r c.requires.1 l.invariant.2 in
     let over = rank_over _ a.at a.words.now a.x l.i l.r c.requires.1 l.invariant.2 in
     let behind = rank_behind _ a.at a.words.now a.x l.i l.r c.requires.1 l.invariant.2 in
-    ⊎_elim
-    (λ w. (omega arith, omega (arith, w.3), w.3 ∙ under w.0.true w.2.true))
-    (⊎_elim
-    (λ w. (omega arith, omega (arith, w.3), w.3 ∙ over w.0.true w.2.left))
-    (λ w. (omega arith, omega (arith, w.1), w.1 ∙ behind w.0.left)))
-    c.if-i-n.branch
+    elim c.if-i-n.branch [
+      | then-i-n+then-words-at w ↦ (omega arith, omega (arith, w.r-is), w.r-is ∙ under w.if-i-n.true w.if-words-at.true)
+      | then-i-n+else-words-at w ↦ (omega arith, omega (arith, w.r-is), w.r-is ∙ over w.if-i-n.true w.if-words-at.false)
+      | else-i-n w ↦ (omega arith, omega (arith, w.r-is), w.r-is ∙ behind w.if-i-n.false)
+    ]
 
 pub returns : goal.returns
 returns c =

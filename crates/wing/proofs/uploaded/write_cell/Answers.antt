@@ -1,5 +1,5 @@
 -- The goals that the search leaves. Assumes nothing.
-use Prim.Native.Nat.{ℕ, ◌-◌}
+use Prim.Native.Nat.{ℕ}
 use native.Mathlib.Nat.{add-zero}
 use native.Mathlib.Omega.{arith}
 use Rattle.words.proofs.Writing.{left_starts, left_value, left_values}
@@ -27,8 +27,10 @@ uploaded_wing-requires c =
 
 pub loop-j-preserved : goal.loop-j-preserved
 loop-j-preserved c =
-    left_value (wings_size c.args.d) c.loop-j.j (wings (goal.at.loop-j-preserved c).Start) _ _ (omega arith) c.loop-j.invariant c.uploaded_wing.ensures (omega arith)
+    left_value (wings_size c.args.d) c.loop-j.j (wings (goal.at.loop-j-preserved c).Start) _ _ (omega arith) c.loop-j.invariant
+    c.uploaded_wing.ensures (omega arith)
 
 pub returns : goal.returns
 returns c =
-    (left_values (wings_size c.args.d) c.loop-j.j (wings (goal.at.returns c).Start) (omega (arith, c.requires.0.dimension)) c.loop-j.invariant).content
+    let all = wings (goal.at.returns c).Start in
+    (left_values (wings_size c.args.d) c.loop-j.j all (omega (arith, c.requires.0.dimension)) c.loop-j.invariant).content

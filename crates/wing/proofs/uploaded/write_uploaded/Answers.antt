@@ -1,7 +1,7 @@
 -- The goals that the search leaves. Assumes nothing.
 use mathlib.Core.Path.{◌≡◌}
 use mathlib.Core.List.{List}
-use Prim.Native.Nat.{ℕ, ◌+◌, ◌-◌, ◌≤◌}
+use Prim.Native.Nat.{ℕ, ◌+◌, ◌≤◌}
 use native.Mathlib.Omega.{arith}
 use lib.ListN.{length}
 use Rattle.words.proofs.Writing.{left_starts, left_record, left_record_fits, left_records}
@@ -28,8 +28,12 @@ loop-p-init c =
 
 pub write_cell-requires : goal.write_cell-requires
 write_cell-requires c =
-    let t = c.requires.0 in
-    (record { dimension = t.dimension; long = t.long; number = c.loop-p-test.true }, c.requires.1, t.cells, fits (goal.at.write_cell-requires c).In-loop-p)
+    let t = c.requires.0 in (
+      record { dimension = t.dimension; long = t.long; number = c.loop-p-test.true },
+      c.requires.1,
+      t.cells,
+      fits (goal.at.write_cell-requires c).In-loop-p,
+    )
 
 pub overflow_add-at : goal.overflow_add-at
 overflow_add-at c =

@@ -6,7 +6,7 @@ use Prim.Native.Nat.{◌*◌, ◌≤◌}
 use native.Mathlib.Nat.{mul-le-mul}
 use native.Mathlib.Omega.{arith}
 use borrow.Author.Rules.{rules}
-use borrow.Author.Tests.{not-true, not-false, eq-eqb, lt-ltb, le-ltb}
+use borrow.Author.Tests.{eq-eqb, lt-ltb, le-ltb}
 use lib.Dec.{eqb}
 use lib.IntN.{pos}
 use lib.ListN.{length}
@@ -42,7 +42,7 @@ table : (s : Start) → Table s.args.d s.args.s s.args.table.now
 table s = record { dimension = (limits s).dimension; cells = (limits s).cells; long = s.requires.1 }
 
 whole : (c : Else-not-is_sound) → let a = c.args in sound a.d a.v a.s a.table.now ≡ true
-whole c = sym c.is_sound.ensures ∙ not-false _ c.if-not-is_sound.false
+whole c = sym c.is_sound.ensures ∙ c.if-not-is_sound.false
 
 -- the words of the faces, and the most of them
 needed : (c : After-face_size) → c.count_faces.result * c.face_size.result ≡ faces_length (input (goal.at.After-face_size c).Start)
@@ -62,7 +62,7 @@ pub returns-then-not-is_sound : goal.returns-then-not-is_sound
 unfolding faces_rules
 returns-then-not-is_sound c =
     let a = c.args in
-    let unsound = sym c.is_sound.ensures ∙ not-true _ c.if-not-is_sound.true in
+    let unsound = sym c.is_sound.ensures ∙ c.if-not-is_sound.true in
     let o = sym (refuses (input (goal.at.returns-then-not-is_sound c).Start) [] 14 (rw (c.requires.0, right (goal.at.returns-then-not-is_sound c).Start, unsound))).0 in
     let told = told-refused a.d a.v a.s a.table.now a.out.now 14 o in
     record {

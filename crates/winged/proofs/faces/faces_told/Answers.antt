@@ -4,7 +4,6 @@ use mathlib.Core.Bool.{true, not}
 use Prim.Native.Nat.{ℕ, ◌*◌, ◌≤◌}
 use native.Mathlib.Omega.{arith}
 use borrow.Author.Rules.{rules}
-use borrow.Author.Tests.{not-true, not-false}
 use lib.ListN.{length}
 use mir.Syntax.{w64}
 use mir.ValLaws.{to_z-of_z}
@@ -20,7 +19,7 @@ use Rattle.winged.proofs.faces.faces_told.Goals as goal
 use Rattle.winged.proofs.faces.faces_told.Goals.{After-table_words-n, Else-not-within, Else-table-n, Start}
 
 inside : (c : Else-not-within) → let a = c.args in shape_ok max_dimension a.d a.v a.s ≡ true
-inside c = sym c.within.ensures ∙ not-false _ c.if-not-within.false
+inside c = sym c.within.ensures ∙ c.if-not-within.false
 
 limits : (c : Else-not-within) → let a = c.args in Limits max_dimension a.d a.v a.s
 limits c = limits_are _ _ _ _ (ap not (inside c))
@@ -41,11 +40,10 @@ Fits s m d =
     let a = s.args in
     (shape_ok max_dimension d a.v a.s ≡ true) × (length a.table.now ≡ table_length d a.s * 2) × (table_length d a.s ≤ m)
 
-fits : (m : ℕ) (c : Else-table-n) → let n : After-table_words-n = search rules in n.table-words.result ≤ m →
-    let s = start n.before in Fits s m s.args.d
+fits : (m : ℕ) (c : Else-table-n) → c.table_words-n.result ≤ m → Fits (goal.at.Else-table-n c).Start m c.args.d
 fits m c l =
-    let n : After-table_words-n = search rules in
-    (inside n.before, c.if2.false ∙ twice n, omega (arith, n.table-words.ensures, l))
+    let n = (goal.at.Else-table-n c).After-table_words-n in
+    (inside (goal.at.Else-table-n c).Else-not-within, c.if-table-n.false ∙ twice n, omega (arith, c.table_words-n.ensures, l))
 
 -- it holds of a dimension that is the table's
 at : (s : Start) (m k : ℕ) → Fits s m s.args.d → s.args.d ≡ k → Fits s m k
@@ -64,7 +62,7 @@ pub returns-then-not-within : goal.returns-then-not-within
 returns-then-not-within c =
     let a = c.args in
     let host = host-outside a.d a.v a.s a.table.now a.faces.now
-    (sym c.within.ensures ∙ not-true _ c.if-not-within.true) in
+    (sym c.within.ensures ∙ c.if-not-within.true) in
     record {
       answer = to_z-of_z w64 _ (search rules) ∙ c.minus.ensures ∙ host.0;
       buffer = host.1;
@@ -87,7 +85,7 @@ returns-then-table-n c =
     }
 
 pub faces_2048-requires : goal.faces_2048-requires
-faces_2048-requires c = at (goal.at.faces_2048-requires c).Start 2048 1 (fits 2048 (search rules) c.if-n-le2048.true) c.if-d-eq1.true
+faces_2048-requires c = at (goal.at.faces_2048-requires c).Start 2048 1 (fits 2048 (goal.at.faces_2048-requires c).Else-table-n c.if-n-le2048.true) c.if-d-eq1.true
 
 pub returns-then-d-eq1 : goal.returns-then-d-eq1
 returns-then-d-eq1 c = let k = back (goal.at.returns-then-d-eq1 c).Start 1 c.if-d-eq1.true in
@@ -97,10 +95,10 @@ returns-then-d-eq1 c = let k = back (goal.at.returns-then-d-eq1 c).Start 1 c.if-
     }
 
 pub faces_2048-requires-then-n-le2048 : goal.faces_2048-requires-then-n-le2048
-faces_2048-requires-then-n-le2048 c = fits 2048 (search rules) c.if-n-le2048.true
+faces_2048-requires-then-n-le2048 c = fits 2048 (goal.at.faces_2048-requires-then-n-le2048 c).Else-table-n c.if-n-le2048.true
 
 pub faces_16384-requires : goal.faces_16384-requires
-faces_16384-requires c = at (goal.at.faces_16384-requires c).Start 16384 1 (fits 16384 (search rules) c.if-n-le16384.true) c.if-d-eq1-2.true
+faces_16384-requires c = at (goal.at.faces_16384-requires c).Start 16384 1 (fits 16384 (goal.at.faces_16384-requires c).Else-table-n c.if-n-le16384.true) c.if-d-eq1-2.true
 
 pub returns-then-d-eq1-2 : goal.returns-then-d-eq1-2
 returns-then-d-eq1-2 c = let k = back (goal.at.returns-then-d-eq1-2 c).Start 1 c.if-d-eq1-2.true in
@@ -110,10 +108,10 @@ returns-then-d-eq1-2 c = let k = back (goal.at.returns-then-d-eq1-2 c).Start 1 c
     }
 
 pub faces_16384-requires-then-n-le16384 : goal.faces_16384-requires-then-n-le16384
-faces_16384-requires-then-n-le16384 c = fits 16384 (search rules) c.if-n-le16384.true
+faces_16384-requires-then-n-le16384 c = fits 16384 (goal.at.faces_16384-requires-then-n-le16384 c).Else-table-n c.if-n-le16384.true
 
 pub faces_40960-requires : goal.faces_40960-requires
-faces_40960-requires c = at (goal.at.faces_40960-requires c).Start 40960 1 (fits 40960 (search rules) c.if-n-le40960.true) c.if-d-eq1-3.true
+faces_40960-requires c = at (goal.at.faces_40960-requires c).Start 40960 1 (fits 40960 (goal.at.faces_40960-requires c).Else-table-n c.if-n-le40960.true) c.if-d-eq1-3.true
 
 pub returns-then-d-eq1-3 : goal.returns-then-d-eq1-3
 returns-then-d-eq1-3 c = let k = back (goal.at.returns-then-d-eq1-3 c).Start 1 c.if-d-eq1-3.true in
@@ -123,10 +121,10 @@ returns-then-d-eq1-3 c = let k = back (goal.at.returns-then-d-eq1-3 c).Start 1 c
     }
 
 pub faces_40960-requires-then-n-le40960 : goal.faces_40960-requires-then-n-le40960
-faces_40960-requires-then-n-le40960 c = fits 40960 (search rules) c.if-n-le40960.true
+faces_40960-requires-then-n-le40960 c = fits 40960 (goal.at.faces_40960-requires-then-n-le40960 c).Else-table-n c.if-n-le40960.true
 
 pub faces_73728-requires : goal.faces_73728-requires
-faces_73728-requires c = at (goal.at.faces_73728-requires c).Start 73728 4 (fits 73728 (search rules) (few (goal.at.faces_73728-requires c).After-table_words-n)) c.if-d-eq4.true
+faces_73728-requires c = at (goal.at.faces_73728-requires c).Start 73728 4 (fits 73728 (goal.at.faces_73728-requires c).Else-table-n (few (goal.at.faces_73728-requires c).After-table_words-n)) c.if-d-eq4.true
 
 pub returns-then-d-eq4 : goal.returns-then-d-eq4
 returns-then-d-eq4 c = let k = back (goal.at.returns-then-d-eq4 c).Start 4 c.if-d-eq4.true in
@@ -136,4 +134,4 @@ returns-then-d-eq4 c = let k = back (goal.at.returns-then-d-eq4 c).Start 4 c.if-
     }
 
 pub faces_73728-requires-2 : goal.faces_73728-requires-2
-faces_73728-requires-2 c = fits 73728 (search rules) (few (goal.at.faces_73728-requires-2 c).After-table_words-n)
+faces_73728-requires-2 c = fits 73728 (goal.at.faces_73728-requires-2 c).Else-table-n (few (goal.at.faces_73728-requires-2 c).After-table_words-n)

@@ -12,27 +12,27 @@ use Rattle.rules.specs.Numbers.{outcome_of}
 use Rattle.winged.proofs.Outward.{room_fits, Relayed, lent_fits, lent_long, send_fits, relayed}
 use Rattle.winged.proofs.Inward.{sweep_host, sweep_long}
 use Rattle.winged.proofs.host.sweep_bytes.Goals as goal
-use Rattle.winged.proofs.host.sweep_bytes.Goals.{After-room-m, After-words-1}
+use Rattle.winged.proofs.host.sweep_bytes.Goals.{After-room-m, After-sweep_decoded-a}
 
 -- the room
 m : (r : After-room-m) → (r.room-m.result ≤ length r.args.words.now) × (r.room-m.result * 2 ≤ length r.args.swept.now)
 m r = room_fits r.room-m.result r.args.words.now r.args.swept.now r.room-m.ensures
 
 -- what the call leaves in it
-relay : (c : After-words-1) →
+relay : (c : After-sweep_decoded-a) →
     let a = c.args in
-    let call = (c.sweep_decoded-a) in
-    Relayed a.words.now a.swept.now call.last.1.1.1.1.1.1.0
+    Relayed a.words.now a.swept.now c.sweep_decoded-a.new.out
     (swept_words (sweep_input a.d a.v a.s a.h (words16 a.table.now) (length (take c.room-m.result a.words.now))))
-    c.room-m.result (outcome_of call.result)
+    c.room-m.result (outcome_of c.sweep_decoded-a.result)
 relay c =
     let a = c.args in
-    let call = (c.sweep_decoded-a) in
+    let r = (goal.at.After-sweep_decoded-a c).After-room-m in
+    let call = c.sweep_decoded-a in
     record {
-      room = (m (goal.at.After-words-1 c).After-room-m).1;
-      same = c.words-1.given.0 ∙ length-take-le c.room-m.result a.words.now (m (goal.at.After-words-1 c).After-room-m).0;
-      long = λ (goal.at.After-words-1 c).After-sweep_decoded-a e. sweep_long a.d a.v a.s a.h a.table.now _ (goal.at.After-words-1 c).After-sweep_decoded-a (sym call.ensures.0 ∙ e);
-      content = call.ensures.1;
+      room = (m r).1;
+      same = call.auto.out ∙ length-take-le c.room-m.result a.words.now (m r).0;
+      long = λ k e. sweep_long a.d a.v a.s a.h a.table.now _ k (sym call.ensures.answer ∙ e);
+      content = call.ensures.buffer;
     }
 
 pub slice_bounds-sweep_decoded-end : goal.slice_bounds-sweep_decoded-end
@@ -45,13 +45,13 @@ pub sweep_decoded-a-requires : goal.sweep_decoded-a-requires
 sweep_decoded-a-requires c = (c.requires.size, c.requires.solid)
 
 pub slice_bounds-send-end : goal.slice_bounds-send-end
-slice_bounds-send-end c = lent_fits (relay (goal.at.slice_bounds-send-end c).After-words-1)
+slice_bounds-send-end c = lent_fits (relay (goal.at.slice_bounds-send-end c).After-sweep_decoded-a)
 
 pub slice_bounds-send-end-2 : goal.slice_bounds-send-end-2
-slice_bounds-send-end-2 c = sym (lent_long (relay (goal.at.slice_bounds-send-end-2 c).After-words-1))
+slice_bounds-send-end-2 c = sym (lent_long (relay (goal.at.slice_bounds-send-end-2 c).After-sweep_decoded-a))
 
 pub send-requires : goal.send-requires
-send-requires c = send_fits (relay (goal.at.send-requires c).After-words-1)
+send-requires c = send_fits (relay (goal.at.send-requires c).After-sweep_decoded-a)
 
 pub returns : goal.returns
 returns c =
@@ -60,6 +60,6 @@ returns c =
     let room = length-take-le c.room-m.result a.words.now (m (goal.at.returns c).After-room-m).0 ∙ c.room-m.ensures in
     let host = sweep_host a.d a.v a.s a.h a.table.now a.swept.now _ _ _ c.requires.swept room c.sweep_decoded-a.ensures.answer in
     record {
-      answer = to_z-of_z w64 _ (search rules) ∙ send.ensures.0 ∙ host.0;
-      buffer = send.ensures.1 ∙ relayed (relay (goal.at.returns c).After-words-1) ∙ host.1;
+      answer = to_z-of_z w64 _ (search rules) ∙ send.ensures.answer ∙ host.0;
+      buffer = send.ensures.buffer ∙ relayed (relay (goal.at.returns c).After-sweep_decoded-a) ∙ host.1;
     }

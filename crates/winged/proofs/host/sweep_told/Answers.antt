@@ -5,7 +5,7 @@ use Prim.Native.Nat.{ℕ, suc, ◌*◌, ◌≤◌}
 use native.Mathlib.Nat.{mul-le-mul}
 use native.Mathlib.Omega.{arith}
 use borrow.Author.Rules.{rules}
-use borrow.Author.Tests.{leb-true, not-true, not-false}
+use borrow.Author.Tests.{leb-true}
 use lib.Dec.{leb}
 use lib.ListN.{length}
 use mir.Syntax.{w64}
@@ -24,7 +24,7 @@ use Rattle.winged.proofs.host.sweep_told.Goals as goal
 use Rattle.winged.proofs.host.sweep_told.Goals.{After-sweep_size-m, After-table_words-n, Else-h-s-gt-MAX_CELLS, Else-not-in_limits, Else-table-n}
 
 inside : (c : Else-not-in_limits) → let a = c.args in (shape_ok max_source a.d a.v a.s && steps_ok a.h) ≡ true
-inside c = sym c.in_limits.ensures ∙ not-false _ c.if-not-in_limits.false
+inside c = sym c.in_limits.ensures ∙ c.if-not-in_limits.false
 
 limits : (c : Else-not-in_limits) → let a = c.args in SweepLimits a.d a.v a.s a.h
 limits c = sweep_limits_are _ _ _ _ (ap not (inside c))
@@ -33,10 +33,7 @@ steps : (c : Else-not-in_limits) → 1 ≤ c.args.h
 steps c = let a = c.args in steps-some a.d a.v a.s a.h (inside c)
 
 -- the words that the table should have
-abbrev counted : Else-not-in_limits → After-table_words-n → Type 0
-counted o n = let a = o.args in n.table-words.result * 2 ≡ table_length a.d a.s * 2
-
-twice : (n : After-table_words-n) → counted (goal.at.After-table_words-n n).Else-not-in_limits n
+twice : (n : After-table_words-n) → n.table_words-n.result * 2 ≡ table_length n.args.d n.args.s * 2
 twice n = ap (λ x. x * 2) n.table_words-n.ensures
 
 -- the table has its length, and the sweep no more cells than any
@@ -97,7 +94,7 @@ pub returns-then-not-in_limits : goal.returns-then-not-in_limits
 returns-then-not-in_limits c =
     let a = c.args in
     let row = sweep_outside a.d a.v a.s a.h a.table.now (words_in a.swept.now)
-    (sym c.in_limits.ensures ∙ not-true _ c.if-not-in_limits.true) in
+    (sym c.in_limits.ensures ∙ c.if-not-in_limits.true) in
     let is = sweep_refused a.d a.v a.s a.h a.table.now a.swept.now 2 row in
     record {
       answer = to_z-of_z w64 _ (search rules) ∙ c.answered.ensures ∙ is.0;

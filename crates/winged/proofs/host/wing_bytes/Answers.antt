@@ -12,27 +12,27 @@ use Rattle.rules.specs.Numbers.{outcome_of}
 use Rattle.winged.proofs.Outward.{room_fits, Relayed, lent_fits, lent_long, send_fits, relayed}
 use Rattle.winged.proofs.Inward.{wing_host, wing_long}
 use Rattle.winged.proofs.host.wing_bytes.Goals as goal
-use Rattle.winged.proofs.host.wing_bytes.Goals.{After-room-m, After-words-1}
+use Rattle.winged.proofs.host.wing_bytes.Goals.{After-room-m, After-wing_words-a}
 
 -- the room
 m : (r : After-room-m) → (r.room-m.result ≤ length r.args.words.now) × (r.room-m.result * 2 ≤ length r.args.table.now)
 m r = room_fits r.room-m.result r.args.words.now r.args.table.now r.room-m.ensures
 
 -- what the call leaves in it
-relay : (c : After-words-1) →
+relay : (c : After-wing_words-a) →
     let a = c.args in
-    let call = c.wing_words-a in
-    Relayed a.words.now a.table.now call.new.1.1.1.1.0
+    Relayed a.words.now a.table.now c.wing_words-a.new.out
     (table_of_list (host_list a.d a.v a.s a.cells.now))
-    c.room-m.result (outcome_of call.result)
+    c.room-m.result (outcome_of c.wing_words-a.result)
 relay c =
     let a = c.args in
+    let r = (goal.at.After-wing_words-a c).After-room-m in
     let call = c.wing_words-a in
     record {
-      room = (m (goal.at.After-words-1 c).After-room-m).1;
-      same = c.words-1.given.0 ∙ length-take-le c.room-m.result a.words.now (m (goal.at.After-words-1 c).After-room-m).0;
-      long = λ k e. wing_long a.d a.v a.s a.cells.now _ _ k (sym call.ensures.0 ∙ e);
-      content = call.ensures.1.0;
+      room = (m r).1;
+      same = call.auto.out ∙ length-take-le c.room-m.result a.words.now (m r).0;
+      long = λ k e. wing_long a.d a.v a.s a.cells.now _ _ k (sym call.ensures.answer ∙ e);
+      content = call.ensures.buffer;
     }
 
 pub slice_bounds-wing_words-end : goal.slice_bounds-wing_words-end
@@ -42,13 +42,13 @@ pub slice_bounds-wing_words-end-2 : goal.slice_bounds-wing_words-end-2
 slice_bounds-wing_words-end-2 c = sym (length-take-le _ _ (m (goal.at.slice_bounds-wing_words-end-2 c).After-room-m).0)
 
 pub slice_bounds-send-end : goal.slice_bounds-send-end
-slice_bounds-send-end c = lent_fits (relay (goal.at.slice_bounds-send-end c).After-words-1)
+slice_bounds-send-end c = lent_fits (relay (goal.at.slice_bounds-send-end c).After-wing_words-a)
 
 pub slice_bounds-send-end-2 : goal.slice_bounds-send-end-2
-slice_bounds-send-end-2 c = sym (lent_long (relay (goal.at.slice_bounds-send-end-2 c).After-words-1))
+slice_bounds-send-end-2 c = sym (lent_long (relay (goal.at.slice_bounds-send-end-2 c).After-wing_words-a))
 
 pub send-requires : goal.send-requires
-send-requires c = send_fits (relay (goal.at.send-requires c).After-words-1)
+send-requires c = send_fits (relay (goal.at.send-requires c).After-wing_words-a)
 
 pub returns : goal.returns
 returns c =
@@ -58,7 +58,7 @@ returns c =
     let host = wing_host a.d a.v a.s a.cells.now a.table.now a.uploaded.now _
     (length a.words.now) _ c.requires room c.wing_words-a.ensures.answer in
     record {
-      answer = to_z-of_z w64 _ (search rules) ∙ send.ensures.0 ∙ host.0;
-      buffer = send.ensures.1 ∙ relayed (relay (goal.at.returns c).After-words-1) ∙ host.1;
+      answer = to_z-of_z w64 _ (search rules) ∙ send.ensures.answer ∙ host.0;
+      buffer = send.ensures.buffer ∙ relayed (relay (goal.at.returns c).After-wing_words-a) ∙ host.1;
       uploaded = c.wing_words-a.ensures.uploaded ∙ host.2;
     }

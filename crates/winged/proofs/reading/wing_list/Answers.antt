@@ -11,41 +11,41 @@ use Rattle.wing.proofs.Lengths.{TableLeft, table_left}
 use Rattle.winged.specs.Host.{words_in}
 use Rattle.winged.proofs.Inward.{uploaded_after, wing_after}
 use Rattle.winged.proofs.reading.wing_list.Goals as goal
-use Rattle.winged.proofs.reading.wing_list.Goals.{After-wing_table, In-Written-2}
+use Rattle.winged.proofs.reading.wing_list.Goals.{After-wing_table, In-Written}
 
 abbrev told : After-wing_table → WingInput
 told c =
     let a = c.args in
     wing_input a.d a.v a.s a.cells.now (length a.out.now) (words_in a.uploaded.now)
 
-abbrev buffer : In-Written-2 → List ℕ
+abbrev buffer : In-Written → List ℕ
 buffer c = c.wing_table.new.table
 
-left : (c : In-Written-2) → TableLeft (told (goal.at.In-Written-2 c).After-wing_table) c.n-1.given.0.0 (buffer c)
+left : (c : In-Written) → TableLeft (told (goal.at.In-Written c).After-wing_table) c.in-Written.n (buffer c)
 left c =
-    table_left (told (goal.at.In-Written-2 c).After-wing_table) _ (buffer c) _ c.n-1.given.0.0 c.wing_table.ensures.answer c.wing_table.ensures.table (ap outcome_of c.n-1.given.1)
+    table_left (told (goal.at.In-Written c).After-wing_table) _ (buffer c) _ c.in-Written.n c.wing_table.ensures.answer c.wing_table.ensures.table (ap outcome_of c.in-Written.is)
 
 pub slice_bounds-uploaded_bytes-end : goal.slice_bounds-uploaded_bytes-end
-slice_bounds-uploaded_bytes-end c = (left (goal.at.slice_bounds-uploaded_bytes-end c).In-Written-2).fits
+slice_bounds-uploaded_bytes-end c = (left c).fits
 
 pub slice_bounds-uploaded_bytes-end-in-Written : goal.slice_bounds-uploaded_bytes-end-in-Written
-slice_bounds-uploaded_bytes-end-in-Written c = sym (left (goal.at.slice_bounds-uploaded_bytes-end-in-Written c).In-Written-2).long
+slice_bounds-uploaded_bytes-end-in-Written c = sym (left (goal.at.slice_bounds-uploaded_bytes-end-in-Written c).In-Written).long
 
 pub uploaded_bytes-requires : goal.uploaded_bytes-requires
-uploaded_bytes-requires c = let l = left (goal.at.uploaded_bytes-requires c).In-Written-2 in (l.table, l.size, omega (arith, l.room))
+uploaded_bytes-requires c = let l = left (goal.at.uploaded_bytes-requires c).In-Written in (l.table, l.size, omega (arith, l.room))
 
 pub returns-in-Written : goal.returns-in-Written
 returns-in-Written c =
     let i = told (goal.at.returns-in-Written c).After-wing_table in
-    let a = (start ((goal.at.returns-in-Written c).After-wing_table)).args in record {
-      answer = sym (left (goal.at.returns-in-Written c).In-Written-2).told;
-      buffer = c.wing_table.ensures.table ∙ wing_after _ i a.out.now (sym (left (goal.at.returns-in-Written c).In-Written-2).told);
-      uploaded = uploaded_after i _ _ a.uploaded.now (left (goal.at.returns-in-Written c).In-Written-2).told (left (goal.at.returns-in-Written c).In-Written-2).front _ c.uploaded_bytes.ensures;
+    let a = c.args in record {
+      answer = sym (left (goal.at.returns-in-Written c).In-Written).told;
+      buffer = c.wing_table.ensures.table ∙ wing_after _ i a.out.now (sym (left (goal.at.returns-in-Written c).In-Written).told);
+      uploaded = uploaded_after i _ _ a.uploaded.now (left (goal.at.returns-in-Written c).In-Written).told (left (goal.at.returns-in-Written c).In-Written).front _ c.uploaded_bytes.ensures;
     }
 
 pub returns-in-Refused : goal.returns-in-Refused
 returns-in-Refused c =
-    let no = sym c.wing_table.ensures.answer ∙ ap outcome_of c.r-1.given.1 in
+    let no = sym c.wing_table.ensures.answer ∙ ap outcome_of c.in-Refused.is in
     record {
       answer = sym no;
       buffer = c.wing_table.ensures.table ∙ wing_after _ (told (goal.at.returns-in-Refused c).After-wing_table) c.args.out.now (sym no);

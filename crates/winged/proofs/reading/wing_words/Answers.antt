@@ -4,7 +4,6 @@ use mathlib.Core.Bool.{true, not}
 use mathlib.Core.List.{List}
 use Prim.Native.Nat.{ℕ, ◌*◌, ◌≤◌}
 use native.Mathlib.Omega.{arith}
-use borrow.Author.Tests.{not-true, not-false}
 use lib.ListN.{length, take}
 use lib.Seq.{length-take-le}
 use Rattle.words.specs.Bytes.{words16, bytes_of}
@@ -26,7 +25,7 @@ use Rattle.winged.proofs.reading.wing_words.Goals as goal
 use Rattle.winged.proofs.reading.wing_words.Goals.{After-decode, After-list_words-n, Else-not-within}
 
 inside : (c : Else-not-within) → let a = c.args in shape_ok max_dimension a.d a.v a.s ≡ true
-inside c = sym c.within.ensures ∙ not-false _ c.if-not-within.false
+inside c = sym c.within.ensures ∙ c.if-not-within.false
 
 limits : (c : Else-not-within) → let a = c.args in Limits max_dimension a.d a.v a.s
 limits c = limits_are _ _ _ _ (ap not (inside c))
@@ -51,7 +50,7 @@ pub returns-then-not-within : goal.returns-then-not-within
 returns-then-not-within c =
     let a = c.args in
     record {
-      answer = wing_outside a.d a.v a.s a.cells.now _ _ (sym c.within.ensures ∙ not-true _ c.if-not-within.true);
+      answer = wing_outside a.d a.v a.s a.cells.now _ _ (sym c.within.ensures ∙ c.if-not-within.true);
       buffer = refl;
       uploaded = refl;
     }

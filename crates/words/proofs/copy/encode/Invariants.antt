@@ -8,7 +8,8 @@ use Rattle.words.proofs.copy.encode.Given as goal
 
 abbrev pub invariant-loop-p : goal.invariant-loop-p
 invariant-loop-p l =
-    (l.p ≤ length l.words) × (length l.out ≡ length l.initial.out) × Left 0 (bytes_of l.words) l.initial.out (l.p * 2) (bytes_of (drop l.p l.words)) l.out
+    (l.p ≤ length l.words) × (length l.out ≡ length l.initial.out)
+    × Left 0 (bytes_of l.words) l.initial.out (l.p * 2) (bytes_of (drop l.p l.words)) l.out
 
 abbrev pub decreases-loop-p : goal.decreases-loop-p
 decreases-loop-p l = length l.words - l.p
