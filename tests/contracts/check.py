@@ -17,7 +17,8 @@ from tally import Tally  # noqa: E402
 SCRATCH = {("winged", "words")}
 HEAD = re.compile(r'^ *pub(\(crate\))? (?:extern "C" )?fn (\w+)(?:<[^>]*>)?\((.*?)\)\s*(?:-> ([^\n{]+?))?\s*\n(.*?)^ *\{', re.M | re.S)
 PUBLIC = re.compile(r'^ *pub(\(crate\))? (?:extern "C" )?fn ', re.M)
-ENSURES = re.compile(r"ensures(?: \w+)? \{ λ (\w+)\. ⌜ (.*?) ⌝ \}", re.S)
+# A clause's text has braces in pairs.
+ENSURES = re.compile(r"ensures(?: \w+)? (\{(?:[^{}]|\{[^{}]*\})*\})")
 
 tally = Tally()
 check = tally.check
@@ -37,9 +38,9 @@ def main():
             ensured = ENSURES.findall(contract)
             check(f"{where}: it ensures something", ensured)
             if result:
-                check(f"{where}: its contract names its result", any(re.search(rf"(?<!\w){r}(?!\w)", text) for r, text in ensured if r != "_"))
+                check(f"{where}: its contract names its result", any(re.search(r"\bresult\b", clause) for clause in ensured))
             for buffer in (b for b in re.findall(r"(\w+): &mut ", parameters) if (crate, b) not in SCRATCH):
-                check(f"{where}: its contract names {buffer} at the end", any(f"({buffer} .exit)" in text for _, text in ensured))
+                check(f"{where}: its contract names {buffer} at the end", any(re.search(rf"\b{buffer}\.new\b", clause) for clause in ensured))
             if (crate, name) in CALLS:
                 calls.add((crate, name))
                 check(f"{where}: no requires", "requires" not in contract)

@@ -7,12 +7,5 @@ pub mod Coordinate
 pub mod Fractions
 pub mod Bounds
 pub mod FieldText
-pub mod Again
-pub mod Locals
-pub mod Held
-pub mod Lending
-pub mod Thin
 pub mod Chain
-pub mod Line
-pub mod Callees
 pub mod Examples

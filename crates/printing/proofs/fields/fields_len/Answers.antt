@@ -1,7 +1,7 @@
 -- The goals that the search leaves. Assumes nothing.
 use mathlib.Core.Path.{ap}
 use mathlib.Core.List.{List}
-use Prim.Native.Nat.{ℕ, ◌-◌, ◌+◌}
+use Prim.Native.Nat.{ℕ, ◌+◌}
 use native.Mathlib.Omega.{arith}
 use lib.ListN.{length-append, length, drop, get_or, drop_of_length-le}
 use Rattle.words.proofs.Loops.{drop_next}

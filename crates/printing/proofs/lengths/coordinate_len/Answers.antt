@@ -1,5 +1,5 @@
 -- `lengths::coordinate_len` meets its contract: the sum of the pieces' lengths. Assumes nothing.
-use Prim.Native.Nat.{◌/◌, ◌-◌, ◌+◌, ◌≤◌}
+use Prim.Native.Nat.{◌/◌, ◌+◌, ◌≤◌}
 use native.Mathlib.Omega.{arith}
 use Rattle.printing.specs.Decimal.{coordinate, thousandths, negative}
 use Rattle.printing.proofs.Bounds.{minus_short, thousandths-length}

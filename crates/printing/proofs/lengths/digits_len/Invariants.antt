@@ -1,6 +1,6 @@
 -- `lengths::digits_len` meets its contract: each turn takes one digit off the rest. Assumes nothing.
 use mathlib.Core.Path.{◌≡◌}
-use Prim.Native.Nat.{◌<◌, ◌-◌, ◌+◌}
+use Prim.Native.Nat.{◌<◌, ◌+◌}
 use lib.ListN.{length}
 use Rattle.printing.specs.Decimal.{digits}
 use Rattle.printing.proofs.lengths.digits_len.Given as goal

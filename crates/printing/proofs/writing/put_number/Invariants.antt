@@ -1,6 +1,6 @@
 -- `writing::put_number` meets its contract: with the digits of the rest placed, the buffer has the number's. Assumes nothing.
 use mathlib.Core.Path.{◌≡◌}
-use Prim.Native.Nat.{◌≤◌, ◌<◌, ◌-◌, ◌+◌}
+use Prim.Native.Nat.{◌≤◌, ◌<◌, ◌+◌}
 use lib.ListN.{length}
 use Rattle.words.specs.Inner.Placed.{placed}
 use Rattle.printing.specs.Decimal.{digits}

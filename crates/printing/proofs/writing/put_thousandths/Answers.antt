@@ -23,9 +23,9 @@ pub put_number-point-requires : goal.put_number-point-requires
 put_number-point-requires c = omega (arith, pieces (goal.at.put_number-point-requires c).Start)
 
 pub put_decimals-requires : goal.put_decimals-requires
-put_decimals-requires c = omega (arith, pieces (start ((goal.at.put_decimals-requires c).After-put_minus-start)))
+put_decimals-requires c = omega (arith, pieces (goal.at.put_decimals-requires c).Start)
 
 pub returns : goal.returns
 returns c =
-    let known = pieces (start ((goal.at.returns c).After-put_minus-start)) in
+    let known = pieces (goal.at.returns c).Start in
     put_then c.put_minus-start.ensures (put_then c.put_number-point.ensures c.put_decimals.ensures (omega arith)) (omega arith)
