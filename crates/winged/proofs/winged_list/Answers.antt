@@ -22,6 +22,6 @@ pub returns : goal.returns
 returns c =
     let call = c.list_bytes in
     record {
-      answer = to_z-of_z w64 _ (search rules) ∙ c.answered.ensures ∙ ap host_answer call.ensures.0;
-      buffer = call.ensures.1;
+      answer = to_z-of_z w64 _ (search rules) ∙ c.answered.ensures ∙ ap host_answer call.ensures.answer;
+      buffer = call.ensures.buffer;
     }

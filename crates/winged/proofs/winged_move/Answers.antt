@@ -26,6 +26,6 @@ pub returns : goal.returns
 returns c =
     let call = c.move_bytes in
     record {
-      answer = to_z-of_z w64 _ (search rules) ∙ c.answered.ensures ∙ ap host_answer call.ensures.0;
-      buffer = call.ensures.1;
+      answer = to_z-of_z w64 _ (search rules) ∙ c.answered.ensures ∙ ap host_answer call.ensures.answer;
+      buffer = call.ensures.buffer;
     }

@@ -13,4 +13,10 @@ answered-requires c = read_small _ _ _ _ _ c.read_bytes.ensures.answer (omega ar
 
 pub returns : goal.returns
 returns c =
-    (to_z-of_z w64 _ (search rules) ∙ c.answered.ensures ∙ ap host_answer c.read_bytes.ensures.answer, c.read_bytes.ensures.1)
+    let call = c.read_bytes in
+    record {
+      answer = to_z-of_z w64 _ (search rules) ∙ c.answered.ensures ∙ ap host_answer call.ensures.answer;
+      header = call.ensures.header;
+      cells = call.ensures.cells;
+      points = call.ensures.points;
+    }

@@ -24,7 +24,8 @@ print_page-n-requires c = search rules
 pub returns-then-text-n : goal.returns-then-text-n
 returns-then-text-n c =
     let a = c.args in
-    text_short a.input.now a.text.now (omega (arith, c.if-text-n.true, c.print_page-n.ensures.count))
+    let both = text_short a.input.now a.text.now (omega (arith, c.if-text-n.true, c.print_page-n.ensures.count)) in
+    record { answer = both.0; buffer = both.1 }
 
 pub slice_bounds-put_text-end : goal.slice_bounds-put_text-end
 slice_bounds-put_text-end c = sym (cut (goal.at.slice_bounds-put_text-end c).After-print_page-n)
@@ -36,5 +37,6 @@ pub returns : goal.returns
 returns c =
     let a = c.args in
     let new = c.put_text.new.buf in
-    text_fits a.input.now a.text.now new c.put_text.result (omega (arith, c.if-text-n.false, c.print_page-n.ensures.count))
-    (subst (λ (t : List ℕ). Put 0 t a.text.now c.put_text.result new) c.print_page-n.ensures.bytes c.put_text.ensures)
+    let both = text_fits a.input.now a.text.now new c.put_text.result (omega (arith, c.if-text-n.false, c.print_page-n.ensures.count))
+    (subst (λ (t : List ℕ). Put 0 t a.text.now c.put_text.result new) c.print_page-n.ensures.bytes c.put_text.ensures) in
+    record { answer = both.0; buffer = both.1 }

@@ -29,11 +29,11 @@ put_number-end-requires c =
 pub put_byte-requires : goal.put_byte-requires
 put_byte-requires c =
     let one = left_goes word (rest (goal.at.put_byte-requires c).Start) _ _ (all (goal.at.put_byte-requires c).Start) c.put_text-at.ensures in
-    let two = left_goes (digits c.args.k) (ascii "\c.before") _ _ one c.put_number-end.ensures in
+    let two = left_goes (digits c.args.k) (ascii "\n") _ _ one c.put_number-end.ensures in
     omega (arith, two.room)
 
 pub returns : goal.returns
 returns c =
     let one = left_goes word (rest (goal.at.returns c).Start) _ _ (all (goal.at.returns c).Start) c.put_text-at.ensures in
-    let two = left_goes (digits c.args.k) (ascii "\c.before") _ _ one c.put_number-end.ensures in
-    left_last (ascii "\c.before") _ _ two c.put_byte.ensures
+    let two = left_goes (digits c.args.k) (ascii "\n") _ _ one c.put_number-end.ensures in
+    left_last (ascii "\n") _ _ two c.put_byte.ensures

@@ -10,7 +10,7 @@ use lib.ListN.{length, take}
 use lib.Seq.{length-take-le}
 use Rattle.rules.specs.Calls.{accepted}
 use Rattle.rules.specs.Limits.{swept_vertices}
-use Rattle.rules.specs.Numbers.{number_of, outcome_of}
+use Rattle.rules.specs.Numbers.{number_of}
 use Rattle.motion.specs.Move.{MoveInput, move_input, moved_levels, move_outcome}
 use Rattle.list.specs.List.{list_input, list_outcome, list_buffer}
 use Rattle.page.specs.Key.{float_room}
@@ -18,54 +18,54 @@ use Rattle.page.specs.Inner.Stages.{counted, page_after}
 use Rattle.page.proofs.Staged.{moved_limits, moved-refused, moved-accepted, list_counted, list_left}
 use Rattle.motion.proofs.Lengths.{moved_front}
 use Rattle.page.proofs.stages.moved_key.Goals as goal
-use Rattle.page.proofs.stages.moved_key.Goals.{After-move_points, In-Written-2}
+use Rattle.page.proofs.stages.moved_key.Goals.{After-move_points, In-Written}
 
 abbrev told : After-move_points → MoveInput
 told c = let a = c.args in move_input a.n a.v a.h a.step a.points.now float_room
 
-abbrev buffer : In-Written-2 → List Float
+abbrev buffer : In-Written → List Float
 buffer c = c.move_points.new.out
 
-ok : (c : In-Written-2) → move_outcome (told (goal.at.In-Written-2 c).After-move_points) ≡ accepted c.m-1.given.0.0
-ok c = sym c.move_points.ensures.answer ∙ ap outcome_of c.m-1.given.1
+ok : (c : In-Written) → move_outcome (told (goal.at.In-Written c).After-move_points) ≡ accepted c.in-Written.m
+ok c = sym c.in-Written.ensures.answer
 
-front : (c : In-Written-2) → (c.m-1.given.0.0 ≤ length (buffer c)) × (take c.m-1.given.0.0 (buffer c) ≡ moved_levels (told (goal.at.In-Written-2 c).After-move_points))
-front c = moved_front (told (goal.at.In-Written-2 c).After-move_points) _ (buffer c) c.m-1.given.0.0 c.move_points.ensures.buffer (ok c)
+front : (c : In-Written) → (c.in-Written.m ≤ length (buffer c)) × (take c.in-Written.m (buffer c) ≡ moved_levels (told (goal.at.In-Written c).After-move_points))
+front c = moved_front (told (goal.at.In-Written c).After-move_points) _ (buffer c) c.in-Written.m c.move_points.ensures.buffer (ok c)
 
-few : (c : In-Written-2) → ((told (goal.at.In-Written-2 c).After-move_points).h ≤ 64) × (((told (goal.at.In-Written-2 c).After-move_points).h + 1) * (told (goal.at.In-Written-2 c).After-move_points).v ≤ 266240)
+few : (c : In-Written) → ((told (goal.at.In-Written c).After-move_points).h ≤ 64) × (((told (goal.at.In-Written c).After-move_points).h + 1) * (told (goal.at.In-Written c).After-move_points).v ≤ 266240)
 few c =
-    let i = told (goal.at.In-Written-2 c).After-move_points in
-    let l = moved_limits i c.m-1.given.0.0 (ok c) in
+    let i = told (goal.at.In-Written c).After-move_points in
+    let l = moved_limits i c.in-Written.m (ok c) in
     (l.2, mul-le-mul {n₁ = i.h + 1} {m₁ = i.v} {n₂ = 65} {m₂ = 4096} (omega (arith, l.2)) l.1)
 
 pub overflow_add-h : goal.overflow_add-h
-overflow_add-h c = omega (arith, (few (goal.at.overflow_add-h c).In-Written-2).0)
+overflow_add-h c = omega (arith, (few (goal.at.overflow_add-h c).In-Written).0)
 
 pub overflow_mul-h : goal.overflow_mul-h
-overflow_mul-h c = omega (arith, (few (goal.at.overflow_mul-h c).In-Written-2).1)
+overflow_mul-h c = omega (arith, (few (goal.at.overflow_mul-h c).In-Written).1)
 
 pub slice_bounds-moved-end : goal.slice_bounds-moved-end
-slice_bounds-moved-end c = (front (goal.at.slice_bounds-moved-end c).In-Written-2).0
+slice_bounds-moved-end c = (front (goal.at.slice_bounds-moved-end c).In-Written).0
 
 pub slice_bounds-list-end : goal.slice_bounds-list-end
-slice_bounds-list-end c = sym (length-take-le _ (buffer (goal.at.slice_bounds-list-end c).In-Written-2) (front (goal.at.slice_bounds-list-end c).In-Written-2).0)
+slice_bounds-list-end c = sym (length-take-le _ (buffer (goal.at.slice_bounds-list-end c).In-Written) (front (goal.at.slice_bounds-list-end c).In-Written).0)
 
 pub returns-in-Written : goal.returns-in-Written
 returns-in-Written c =
-    let a = (start ((goal.at.returns-in-Written c).After-move_points)).args in
+    let a = c.args in
     let page = a.page.now in
     let vertices = ap (λ k. k * a.v) (add-one a.h) in
     let i = list_input a.version a.d a.n (swept_vertices a.v a.h) a.s a.table.now (moved_levels (told (goal.at.returns-in-Written c).After-move_points)) (length page) in
     let stage = sym
     (moved-accepted a.version a.d a.n a.v a.s a.h a.step a.table.now a.points.now (length page)
-    c.m-1.given.0.0 (ok (goal.at.returns-in-Written c).In-Written-2)) in record {
+    c.in-Written.m (ok (goal.at.returns-in-Written c).In-Written)) in record {
       answer = c.list.ensures.answer
-          ∙ ap₂ (λ v ps. list_outcome (list_input a.version a.d a.n v a.s a.table.now ps (length page))) vertices (front (goal.at.returns-in-Written c).In-Written-2).1
+          ∙ ap₂ (λ v ps. list_outcome (list_input a.version a.d a.n v a.s a.table.now ps (length page))) vertices (front (goal.at.returns-in-Written c).In-Written).1
           ∙ list_counted i
           ∙ ap counted stage;
       page = c.list.ensures.buffer
           ∙ ap₂ {C = List ℕ}
-          (λ v ps. list_buffer (list_input a.version a.d a.n v a.s a.table.now ps (length page)) page) vertices (front (goal.at.returns-in-Written c).In-Written-2).1
+          (λ v ps. list_buffer (list_input a.version a.d a.n v a.s a.table.now ps (length page)) page) vertices (front (goal.at.returns-in-Written c).In-Written).1
           ∙ list_left i page
           ∙ ap (λ o. page_after o page) stage;
     }
@@ -76,8 +76,8 @@ returns-in-Refused c =
     let page = a.page.now in
     let stage =
     sym (moved-refused a.version a.d a.n a.v a.s a.h a.step a.table.now
-    a.points.now (length page) (number_of c.r-1.given.0.0)
-    (sym c.move_points.ensures.answer ∙ ap outcome_of c.r-1.given.1)) in
+    a.points.now (length page) (number_of c.in-Refused.r)
+    (sym c.in-Refused.ensures.answer)) in
     record {
       answer = ap counted stage;
       page = ap (λ o. page_after o page) stage;

@@ -11,40 +11,40 @@ use Rattle.rules.specs.Numbers.{number_of}
 use Rattle.read.specs.declared.Header.{Header}
 use Rattle.file.specs.File.{file_points}
 use Rattle.file.specs.Tests.{file_words}
-use Rattle.read.specs.Read.{read_outcome, header_outcome}
+use Rattle.read.specs.Read.{read_outcome}
 use Rattle.page.specs.Key.{read_in}
 use Rattle.page.specs.Inner.Stages.{counted, page_after, winged_key}
 use Rattle.page.proofs.Printed.{FileFacts, file_facts, cells_front, points_front, key_long, key_refused, key_read}
 use Rattle.page.proofs.stages.page_key.Goals as goal
-use Rattle.page.proofs.stages.page_key.Goals.{After-list_words-words, After-read, In-Accepted-2}
+use Rattle.page.proofs.stages.page_key.Goals.{After-list_words-words, After-read, In-Accepted}
 
 abbrev bytes : After-read → List ℕ
 bytes c = c.args.input.now
 
-abbrev header : In-Accepted-2 → Header
-header c = c.x-1.given.0.0
+abbrev header : In-Accepted → Header
+header c = c.in-Accepted.x
 
-ok : (c : In-Accepted-2) → read_outcome (read_in (bytes (goal.at.In-Accepted-2 c).After-read)) ≡ accepted (header c)
-ok c = sym c.read.ensures.answer ∙ ap header_outcome c.x-1.given.1
+ok : (c : In-Accepted) → read_outcome (read_in (bytes (goal.at.In-Accepted c).After-read)) ≡ accepted (header c)
+ok c = sym c.in-Accepted.ensures.answer
 
-facts : (c : In-Accepted-2) → FileFacts (bytes (goal.at.In-Accepted-2 c).After-read) (header c)
-facts c = file_facts (bytes (goal.at.In-Accepted-2 c).After-read) (header c) (ok c)
+facts : (c : In-Accepted) → FileFacts (bytes (goal.at.In-Accepted c).After-read) (header c)
+facts c = file_facts (bytes (goal.at.In-Accepted c).After-read) (header c) (ok c)
 
-abbrev floats : In-Accepted-2 → ℕ
+abbrev floats : In-Accepted → ℕ
 floats c = (header c).v * (header c).n
 
-abbrev cells : In-Accepted-2 → List ℕ
+abbrev cells : In-Accepted → List ℕ
 cells c = c.read.new.cells
 
-abbrev points : In-Accepted-2 → List Float
+abbrev points : In-Accepted → List Float
 points c = c.read.new.points
 
-front : (c : After-list_words-words) → let words = c.list_words-words.result in (words ≤ length (cells (goal.at.After-list_words-words c).In-Accepted-2)) × (take words (cells (goal.at.After-list_words-words c).In-Accepted-2) ≡ file_words (bytes (goal.at.After-list_words-words c).After-read))
+front : (c : After-list_words-words) → let words = c.list_words-words.result in (words ≤ length (cells (goal.at.After-list_words-words c).In-Accepted)) × (take words (cells (goal.at.After-list_words-words c).In-Accepted) ≡ file_words (bytes (goal.at.After-list_words-words c).After-read))
 front c =
-    rw c.list_words-words.ensures (cells_front (bytes (goal.at.After-list_words-words c).After-read) (header (goal.at.After-list_words-words c).In-Accepted-2) (ok (goal.at.After-list_words-words c).In-Accepted-2) _ (cells (goal.at.After-list_words-words c).In-Accepted-2) c.read.ensures.cells)
+    rw c.list_words-words.ensures (cells_front (bytes (goal.at.After-list_words-words c).After-read) (header (goal.at.After-list_words-words c).In-Accepted) (ok (goal.at.After-list_words-words c).In-Accepted) _ (cells (goal.at.After-list_words-words c).In-Accepted) c.read.ensures.cells)
 
-front-points : (c : In-Accepted-2) → (floats c ≤ length (points c)) × (take (floats c) (points c) ≡ file_points (bytes (goal.at.In-Accepted-2 c).After-read))
-front-points c = points_front (bytes (goal.at.In-Accepted-2 c).After-read) (header c) (ok c) _ (points c) c.read.ensures.points
+front-points : (c : In-Accepted) → (floats c ≤ length (points c)) × (take (floats c) (points c) ≡ file_points (bytes (goal.at.In-Accepted c).After-read))
+front-points c = points_front (bytes (goal.at.In-Accepted c).After-read) (header c) (ok c) _ (points c) c.read.ensures.points
 
 pub returns-then-input-gt65536 : goal.returns-then-input-gt65536
 returns-then-input-gt65536 c =
@@ -56,34 +56,33 @@ returns-then-input-gt65536 c =
     }
 
 pub list_words-words-requires : goal.list_words-words-requires
-list_words-words-requires c = let f = facts (goal.at.list_words-words-requires c).In-Accepted-2 in (omega (arith, f.dimension), f.cells)
+list_words-words-requires c = let f = facts (goal.at.list_words-words-requires c).In-Accepted in (omega (arith, f.dimension), f.cells)
 
 pub overflow_mul-floats : goal.overflow_mul-floats
-overflow_mul-floats c = omega (arith, (facts (goal.at.overflow_mul-floats c).In-Accepted-2).few-floats)
+overflow_mul-floats c = omega (arith, (facts (goal.at.overflow_mul-floats c).In-Accepted).few_floats)
 
 pub slice_bounds-cells-end : goal.slice_bounds-cells-end
 slice_bounds-cells-end c = (front c).0
 
 pub slice_bounds-winged_key-end : goal.slice_bounds-winged_key-end
-slice_bounds-winged_key-end c = sym (length-take-le _ (cells (goal.at.slice_bounds-winged_key-end c).In-Accepted-2) (front (goal.at.slice_bounds-winged_key-end c).After-list_words-words).0)
+slice_bounds-winged_key-end c = sym (length-take-le _ (cells (goal.at.slice_bounds-winged_key-end c).In-Accepted) (front (goal.at.slice_bounds-winged_key-end c).After-list_words-words).0)
 
 pub slice_bounds-points-end : goal.slice_bounds-points-end
-slice_bounds-points-end c = (front-points (goal.at.slice_bounds-points-end c).In-Accepted-2).0
+slice_bounds-points-end c = (front-points (goal.at.slice_bounds-points-end c).In-Accepted).0
 
 pub slice_bounds-winged_key-end-in-Accepted : goal.slice_bounds-winged_key-end-in-Accepted
-slice_bounds-winged_key-end-in-Accepted c = sym (length-take-le _ (points (goal.at.slice_bounds-winged_key-end-in-Accepted c).In-Accepted-2) (front-points (goal.at.slice_bounds-winged_key-end-in-Accepted c).In-Accepted-2).0)
+slice_bounds-winged_key-end-in-Accepted c = sym (length-take-le _ (points (goal.at.slice_bounds-winged_key-end-in-Accepted c).In-Accepted) (front-points (goal.at.slice_bounds-winged_key-end-in-Accepted c).In-Accepted).0)
 
 pub returns-in-Accepted : goal.returns-in-Accepted
 returns-in-Accepted c =
-    let s = start ((goal.at.returns-in-Accepted c).After-read) in
     let b = bytes (goal.at.returns-in-Accepted c).After-read in
-    let h = header (goal.at.returns-in-Accepted c).In-Accepted-2 in
-    let page = s.args.page.now in
+    let h = header (goal.at.returns-in-Accepted c).In-Accepted in
+    let page = c.args.page.now in
     let stage =
     ap₂ {C = Outcome (List ℕ)} (λ ws ps. winged_key h.version h.d h.n h.v h.s h.h h.step ws ps (length page))
-    (front (goal.at.returns-in-Accepted c).After-list_words-words).1 (front-points (goal.at.returns-in-Accepted c).In-Accepted-2).1
-    ∙ ap (λ room. winged_key h.version h.d h.n h.v h.s h.h h.step (file_words b) (file_points b) room) s.requires
-    ∙ sym (key_read b h (ok (goal.at.returns-in-Accepted c).In-Accepted-2) c.if-input-gt65536.false) in
+    (front (goal.at.returns-in-Accepted c).After-list_words-words).1 (front-points (goal.at.returns-in-Accepted c).In-Accepted).1
+    ∙ ap (λ room. winged_key h.version h.d h.n h.v h.s h.h h.step (file_words b) (file_points b) room) c.requires
+    ∙ sym (key_read b h (ok (goal.at.returns-in-Accepted c).In-Accepted) c.if-input-gt65536.false) in
     record {
       answer = c.winged_key.ensures.answer ∙ ap counted stage;
       page = c.winged_key.ensures.page ∙ ap (λ o. page_after o page) stage;
@@ -93,8 +92,8 @@ pub returns-in-Refused : goal.returns-in-Refused
 returns-in-Refused c =
     let page = c.args.page.now in
     let stage =
-    sym (key_refused (bytes (goal.at.returns-in-Refused c).After-read) c.if-input-gt65536.false (number_of c.r-1.given.0.0)
-    (sym c.read.ensures.answer ∙ ap header_outcome c.r-1.given.1)) in
+    sym (key_refused (bytes (goal.at.returns-in-Refused c).After-read) c.if-input-gt65536.false (number_of c.in-Refused.r)
+    (sym c.in-Refused.ensures.answer)) in
     record {
       answer = ap counted stage;
       page = ap (λ o. page_after o page) stage;
