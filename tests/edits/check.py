@@ -4,7 +4,8 @@
 An edit is a slip in same-shaped code or in a definition. Its file has 'file:', 'old:' and 'new:' lines, as rt takes
 them, and says what the slip must bring about:
 
-    refused in: FILE    the file of the crate in which the prover refuses it
+    refused in: PLACE   where the prover refuses it: proofs/FUNCTION for a function of the code, whether or not it has a
+                        folder of that name, or a file of proofs
     fact: NAME          of a definition: the computed example in that file that no longer holds
     refuted: CASE       of a theorem: the case in which the prover shows that the edited sentence is false
     changes: CASE       of code: the case of the trial that comes out different (trial.py)
@@ -15,183 +16,123 @@ else on some input. Contracts state the whole answer, so then no proof of them c
 is worthless, and fails. worthless/*.edit are such edits, of the crate that their line 'crate:' names: they pass only if
 they are found so, in the words of their line 'worthless:'.
 
-crates/NAME/must-fail   tried by rt ci, each from nothing; its logs are read here
-crates/NAME/slips       of crates that take long to prove: tried here, over what the last check has proved
+crates/NAME/must-fail   tried by rt ci too, which asks only that they are refused
+crates/NAME/slips       of crates that take long to prove: tried here alone
 refutations/NAME.txt    cases in which an edited theorem is false: after what they share, each from a line '-- case CASE'
 
-A proof rests on its own function's code and on contracts. So slips that are each in the function whose proof refuses
-them, no two in the same, are tried at once; but a proof by hand rests on the theorems of the functions that it calls, so
-a slip in one of these is tried by itself. An example of a definition is part of its crate, and rests on
-definitions, so an edit of them is tried on the example alone (copies.py).
+Each is tried over what a check has proved of its crate, which is brought up to date first. A proof rests on its own
+function's code and on contracts. So slips that are each in the function whose proof refuses them are tried at once, if
+none of these functions calls another of them. An example of a definition rests on definitions, so an edit of them is
+tried on the example, with the definitions and the lemmas that its file cites (copies.py). Most cases of the trial are run
+many in one program.
 
-    check.py                    all of them, after rt ci
-    check.py --slips NAME..     only the slips of these crates, after rt check
+What passes is kept outside the checkout, under a sum of all that it stood on (kept.py). A run tries only what is not
+kept: an edit whose text, crate or a crate below has changed, and a case whose code has changed. With --anew it tries all.
+So the first run on a machine takes long, some half an hour on four cores, and one after which nothing has changed only
+reads files. The last lines say how much was tried.
+
+    check.py                    all of them; the libraries that rt ci has built are taken
+    check.py --slips NAME..     only the edits of these crates
+    check.py --jobs N           N at a time, in place of one for each core
 """
 import argparse
 import concurrent.futures
-import contextlib
 import functools
 import os
 import pathlib
 import re
+import subprocess
 import sys
-import tempfile
 import time
 
 HERE = pathlib.Path(__file__).resolve().parent
 sys.path[:0] = [str(HERE), str(HERE.parent)]
 
+import kept  # noqa: E402
 import trial  # noqa: E402
-from copies import definitions_with, folder_of_dev, prepared, prove, proved_already, renew, stands_alone  # noqa: E402
-from edit import ROOT, Bad, Edit, edits_of  # noqa: E402
-from refusal import is_example, refused  # noqa: E402
+from copies import copy_of, definitions_with, lemma_files, prove, renew, stands_alone  # noqa: E402
+from edit import ROOT, Bad, Edit, crates, edits_of, functions_in, own_function  # noqa: E402
+from refusal import is_example, refused, refused_functions  # noqa: E402
 from tally import Tally  # noqa: E402
 
+# How many tries one program of the trial has.
+AT_ONCE = 40
 
-def problem(edit, log, paths, text, same):
-    """What is wrong with an edit, or None: its log, how the paths of its crate go on there, the text of the file in
-    which it must be refused, and whether its case comes out the same, or its sentence is not refuted."""
+
+def text_of(edit):
+    """The text of the file of proofs in which an edit must be refused."""
+    file = ROOT / "crates" / edit.crate / edit.place
+    return file.read_text() if file.is_file() else ""
+
+
+def problem(edit, log, same):
+    """What is wrong with an edit, or None: its log, and whether its case comes out the same, or its sentence is not refuted."""
     if "\nlogic=" not in log:
         return "no verdict: " + log[-300:]
-    found = [r for r in refused(log, paths) if not r.idle()]
+    if edit.of_code():
+        functions = refused_functions(log, edit.crate)
+        if not functions:
+            return "not refused"
+        if edit.function() not in functions:
+            return f"not refused in {edit.place}, but in {', '.join(functions)}"
+        if not functions[edit.function()]:
+            return f"{edit.place} is refused only because a file of it names what is gone"
+        if not isinstance(same, bool):
+            return f"'{edit.case}' cannot be run: {same}"
+        return f"changes nothing: '{edit.case}' comes out the same, though {edit.place} is refused" if same else None
+    found = [one for one in refused(log) if not one.idle()]
     if not found:
         return "not refused"
-    here = [r for r in found if r.file == edit.place]
-    if edit.of_code():
-        if not here:
-            return f"not refused in {edit.place}, but in {found[0].file}"
-        if same is None:
-            return f"there is no case '{edit.case}', or it cannot be run"
-        return f"changes nothing: '{edit.case}' comes out the same, though {edit.place} is refused" if same else None
+    here = [one for one in found if one.file == edit.place]
     if edit.refuted:
         if not here:
             return f"not refused in {edit.place}, but in {found[0].file}"
         return f"changes nothing: it is not refuted, though {edit.place} is refused" if same else None
-    if not edit.fact or not is_example(text, edit.fact):
+    if not edit.fact or not is_example(text_of(edit), edit.fact):
         return f"{edit.place} has no computed example '{edit.fact}'"
-    of_fact = [r for r in here if r.name == edit.fact]
+    of_fact = [one for one in here if one.name == edit.fact]
     if not of_fact:
         return f"changes nothing: {edit.fact} still holds, though {found[0].file} is refused"
-    return None if any(r.two_values() for r in of_fact) else f"{edit.fact} is refused, but does not show two values"
+    return None if any(one.two_values() for one in of_fact) else f"{edit.fact} is refused, but does not show two values"
 
 
-def told(kind, edit, wrong, seconds=None):
+def told(edit, wrong, seconds=None):
     """The result of an edit: whether it passes, and a line about it."""
     took = "" if seconds is None else f" ({seconds:.0f} s)"
     if edit.worthless:
         good = (wrong or "").startswith(edit.worthless)
         return good, f"worthless {edit.label}: {'found so: ' if good else 'NOT found so: '}{wrong}{took}"
     seen = f"false {edit.refuted}" if edit.refuted else f"changes {edit.case if edit.of_code() else edit.fact}"
-    return not wrong, f"{kind} {edit.label}: {wrong or f'refused in {edit.place}; {seen}'}{took}"
-
-
-def comes_out_same(edit, root):
-    """Whether the case that an edit of code names comes out as before; None where it cannot be told."""
-    if not edit.of_code() or not edit.case or not trial.known(edit.case):
-        return None
-    try:
-        edit.apply(root / "crates" / edit.crate)
-        return trial.run(root, edit.case)[1]
-    except Bad:
-        return None
-    finally:
-        renew(root, edit.crate)
-
-
-def refutation(edit):
-    """The proof that the edited sentence is false: what the cases share, and the case that the edit names."""
-    shared, *cases = re.split(r"^-- case ", (HERE / "refutations" / f"{edit.crate}.txt").read_text(), flags=re.MULTILINE)
-    for case in cases:
-        name, text = case.split("\n", 1)
-        if name == edit.refuted:
-            return shared + text
-    raise Bad(f"there is no case '{edit.refuted}'")
-
-
-def not_refuted(edit, root):
-    """Whether the prover, given the edited definitions alone, does not show that the sentence is false."""
-    try:
-        edit.apply(root / "crates" / edit.crate)
-        return "\nlogic=proved" not in definitions_with(root, edit.crate, "Refuted", refutation(edit))
-    except Bad:
-        return True
-    finally:
-        renew(root, edit.crate)
-
-
-def own_function(edit):
-    """The function that the edit is all in and whose own proof must refuse it; None if there is none."""
-    def functions():
-        for file, old, _ in edit.pairs:
-            text = (ROOT / "crates" / edit.crate / file).read_text()
-            yield file, re.findall(r"\bfn (\w+)", text[:text.find(old)])[-1:]
-    place, found = pathlib.Path(edit.place or ""), list(functions()) if edit.of_code() else []
-    if not found or any(f != found[0] or not f[1] for f in found):
-        return None
-    if place.name == "Proof.antt":
-        return "/".join(place.parent.parts[1:]) if place.parent.name == found[0][1][0] else None
-    module = pathlib.Path(found[0][0]).with_suffix("").parts[1:]
-    return "/".join((*module, *found[0][1])).removeprefix("lib/") if edit.place == found[0][0] else None
+    return not wrong, f"{edit.kind} {edit.label}: {wrong or f'refused in {edit.place}; {seen}'}{took}"
 
 
 @functools.cache
-def bodies(name):
-    """The functions of a crate, each with its text."""
-    found = {}
+def calls(name):
+    """The functions of a crate, each with those of the crate that it may call, and so on: whose names its text has."""
+    texts = {}
     for file in sorted((ROOT / "crates" / name / "src").rglob("*.rt")):
-        module = "/".join(file.relative_to(ROOT / "crates" / name / "src").with_suffix("").parts)
-        parts = re.split(r"\bfn (\w+)", file.read_text())
-        found |= {f"{module}/{one}".removeprefix("lib/"): text for one, text in zip(parts[1::2], parts[2::2])}
+        text = file.read_text()
+        for function, module, begin, end in functions_in(file.relative_to(ROOT / "crates" / name), text):
+            texts[module + function] = text[begin:end]
+    last = lambda function: function.rpartition("/")[2]
+    direct = {one: {other for other in texts if other != one and re.search(rf"\b{last(other)}\(", text)} for one, text in texts.items()}
+    found = {}
+    for one in direct:
+        found[one], waiting = set(), [one]
+        while waiting:
+            more = direct[waiting.pop()] - found[one]
+            found[one] |= more
+            waiting += more
     return found
 
 
-def called(name, function):
-    """The functions of a crate that one calls, and those that have the same name."""
-    text = bodies(name).get(function, "")
-    return [other for other in bodies(name) if other != function and re.search(rf"\b{pathlib.Path(other).name}\(", text)]
-
-
-def cites(name, path):
-    """The proofs of a crate that one of them names, a theorem by the proof that it has."""
-    file = ROOT / "crates" / name / "proofs" / f"{path}.antt"
-    named = re.findall(rf"Rattle·{name}·proofs\.proofs\.([\w.]+)", file.read_text() if file.is_file() else "")
-    return [re.sub(r"/Met$", "/Proof", one.rstrip(".").replace(".", "/")) for one in named]
-
-
-@functools.cache
-def rests_on(name, function):
-    """The functions of a crate on whose theorems the proof of one rests: a proof by hand cites those of what it calls, and
-    a theorem that is cited rests on those of what its function calls."""
-    found, waiting = set(), cites(name, f"{function}/Proof")
-    while waiting:
-        path = waiting.pop()
-        if path not in found:
-            found.add(path)
-            waiting += cites(name, path)
-            if path.endswith("/Proof"):
-                waiting += [f"{other}/Proof" for other in called(name, path.removesuffix("/Proof"))]
-    return {path.removesuffix("/Proof") for path in found if path.endswith("/Proof")}
-
-
-def in_own_statement(edit):
-    """Whether the edit is all in a statement whose only fact is the one that it must refuse."""
-    if edit.of_code() or not edit.fact or len(edit.pairs) != 1:
-        return False
-    crate, (file, old, _) = ROOT / "crates" / edit.crate, edit.pairs[0]
-    if not (crate / edit.place).is_file():
-        return False
-    text, proofs = (crate / file).read_text(), (crate / edit.place).read_text()
-    statement = re.findall(r"^abbrev pub ([\w-]+) : Type 0$", text[:text.find(old)], re.MULTILINE)[-1:]
-    declared = re.findall(r"^(?:abbrev |unfoldable )?(?:pub )?([\w-]+) :", text[:text.find(old)], re.MULTILINE)[-1:]
-    return statement == declared != [] and re.findall(rf"^(?:pub )?([\w-]+) : {statement[0]}$", proofs, re.MULTILINE) == [edit.fact]
-
-
 def together(edit, other):
-    """Whether two edits can be tried at once: what each must bring about has nothing to do with the other."""
+    """Whether two edits can be tried at once: each is in its own function, and neither of these calls the other."""
     one, two = own_function(edit), own_function(other)
-    if one and two:
-        return edit.place != other.place and one not in rests_on(edit.crate, two) and two not in rests_on(edit.crate, one)
-    return in_own_statement(edit) and in_own_statement(other) and edit.fact != other.fact
+    if edit.worthless or other.worthless or not one or not two or one == two:
+        return False
+    of = calls(edit.crate)
+    return two not in of.get(one, ()) and one not in of.get(two, ())
 
 
 def batches(edits):
@@ -199,7 +140,7 @@ def batches(edits):
     found = []
     for edit in edits:
         for batch in found:
-            if all(together(edit, e) for e in batch):
+            if all(together(edit, one) for one in batch):
                 batch.append(edit)
                 break
         else:
@@ -207,122 +148,171 @@ def batches(edits):
     return found
 
 
-@contextlib.contextmanager
-def copy_of(name):
-    """A copy of the repository in which edits of a crate are tried."""
-    with tempfile.TemporaryDirectory() as folder:
-        root = pathlib.Path(folder)
-        prepared(root)
-        renew(root, name)
-        yield root
-
-
 def as_it_is(name):
-    """Without an edit the crate must be proved in such a copy."""
-    with copy_of(name) as root:
-        proved_already(root, name, folder_of_dev())
-        return [] if "\nlogic=proved" in prove(root, name) else [(False, f"slips of {name}: the crate itself is not proved")]
+    """Checks a crate in the checkout, so that its edits are tried over what is proved. What is wrong, or None."""
+    run = subprocess.run(["rt", "check"], cwd=ROOT / "crates" / name, text=True, errors="replace", stdin=subprocess.DEVNULL, stdout=subprocess.PIPE, stderr=subprocess.STDOUT)
+    return None if "\nlogic=proved" in "\n" + run.stdout else "the crate itself is not proved"
 
 
-def tried(batch):
+def tried(batch, same):
     """Tries edits of a crate at once, over what the last check has proved of it."""
     name, began = batch[0].crate, time.time()
     with copy_of(name) as root:
-        crate = root / "crates" / name
-        same = {e: not_refuted(e, root) if e.refuted else comes_out_same(e, root) for e in batch}
-        texts = {e: (crate / e.place).read_text() if (crate / (e.place or "?")).is_file() else "" for e in batch}
-        proved_already(root, name, folder_of_dev())
         try:
             for edit in batch:
-                edit.apply(crate)
+                edit.apply(root / "crates" / name)
             log = prove(root, name)
-            wrong = [problem(e, log, f"crates/{name}", texts[e], same[e]) for e in batch]
+            wrong = [problem(edit, log, same.get(edit)) for edit in batch]
         except Bad as bad:
             wrong = [f"BAD EDIT: {bad}"] * len(batch)
     took = (time.time() - began) / len(batch)
-    return [told("slip", e, w, took) for e, w in zip(batch, wrong)]
+    return [(edit, *told(edit, one, took)) for edit, one in zip(batch, wrong)]
 
 
 def tried_alone(edits):
     """Tries edits of definitions on the examples of one file, with the definitions alone; unedited, these must hold."""
     name, place, results = edits[0].crate, edits[0].place, []
-    file, text = pathlib.Path(place).stem, (ROOT / "crates" / name / place).read_text()
+    files = {file: (ROOT / "crates" / name / "proofs" / f"{file}.antt").read_text() for file in lemma_files(name, place)}
     with copy_of(name) as root:
-        fine = "\nlogic=proved" in definitions_with(root, name, file, text)
+        log = definitions_with(root, name, files)
+        fine = "\nlogic=proved" in log
         for edit in edits:
             began = time.time()
             try:
                 edit.apply(root / "crates" / name)
-                wrong = problem(edit, definitions_with(root, name, file, text), f"crates/{name}", text, None)
+                wrong = problem(edit, definitions_with(root, name, files), None)
             except Bad as bad:
                 wrong = f"BAD EDIT: {bad}"
-            renew(root, name)
-            wrong = wrong if fine else f"{place} does not hold with the definitions alone"
-            results.append(told("slip", edit, wrong, time.time() - began))
+                renew(root, name)
+            wrong = wrong if fine else f"{place} does not hold with the definitions alone: {log[-300:]}"
+            results.append((edit, *told(edit, wrong, time.time() - began)))
     return results
 
 
-def logged(name):
-    """Reads what rt ci said of a crate's edits."""
-    results = []
-    with copy_of(name) as root:
-        crate = root / "crates" / name
-        for edit in edits_of(name, "must-fail"):
-            log = ROOT / "target" / "must-fail" / name / edit.path.stem / ".log"
-            text = (crate / edit.place).read_text() if (crate / (edit.place or "?")).is_file() else ""
-            said = "\n" + log.read_text() if log.is_file() else "\nnot tried: run rt ci first"
-            wrong = problem(edit, said, f"must-fail/{name}/{edit.path.stem}", text, comes_out_same(edit, root))
-            results.append(told("must-fail", edit, wrong))
-    return results
+def refutation(edit):
+    """The proof that the edited sentence is false: what the cases share, and the case that the edit names."""
+    file = HERE / "refutations" / f"{edit.crate}.txt"
+    shared, *cases = re.split(r"^-- case ", file.read_text() if file.is_file() else "", flags=re.MULTILINE)
+    for case in cases:
+        name, text = case.split("\n", 1)
+        if name == edit.refuted:
+            return shared + text
+    raise Bad(f"there is no case '{edit.refuted}'")
 
 
-def work_on(name, with_logs):
-    """What is to be done for the edits of a crate, in parts that go on beside each other: with those that rt ci has tried where
-    there are logs."""
-    worthless = [e for e in map(Edit, sorted((HERE / "worthless").glob("*.edit"))) if e.crate == name]
-    slips, parts = edits_of(name, "slips") + worthless, []
-    if with_logs and edits_of(name, "must-fail"):
-        parts.append(lambda: logged(name))
-    alone = [e for e in slips if stands_alone(e)]
-    for place in sorted({e.place for e in alone}):
-        parts.append(functools.partial(tried_alone, [e for e in alone if e.place == place]))
-    tries = batches([e for e in slips if e not in alone])
-    if tries:
-        parts.append(lambda: as_it_is(name))
-    return parts + [functools.partial(tried, batch) for batch in tries]
+def not_refuted(edit):
+    """Whether the prover, given the edited definitions alone, does not show that the sentence is false."""
+    try:
+        text = refutation(edit)
+        key = kept.refuting(edit, text)
+        if kept.known(key):
+            return False
+        with copy_of(edit.crate) as root:
+            edit.apply(root / "crates" / edit.crate)
+            if "\nlogic=proved" not in definitions_with(root, edit.crate, {"Refuted": text}):
+                return True
+        kept.keep(key, "refuted")
+        return False
+    except Bad:
+        return True
 
 
-def cost(name):
-    """About how long the edits of a crate take: a part of its check for each."""
-    crate = ROOT / "crates" / name
-    return sum(p.stat().st_size for p in (crate / "proofs").rglob("*.antt")) * len(list((crate / "slips").glob("*.edit")))
+def tries_of(edits, cases):
+    """The tries of the trial that edits name: each a case and an edit. As it is, the code is tried on these cases, and on theirs."""
+    named = [(edit.case, edit) for edit in edits if edit.of_code() and edit.case and trial.known(edit.case)]
+    return named + [(case, None) for case in dict.fromkeys([*cases, *(case for case, _ in named)])]
 
 
-def trial_as_it_is():
-    with tempfile.TemporaryDirectory() as folder:
-        root = pathlib.Path(folder)
-        prepared(root)
-        said, same = trial.run(root, None)
-    return bool(same), f"the trial as it is: {'comes out as it says' if same else said}"
+class Runner:
+    """Runs the parts of the work side by side, and tells what each came to."""
+
+    def __init__(self, jobs, anew):
+        self.pool, self.anew, self.tally, self.old = concurrent.futures.ThreadPoolExecutor(jobs), anew, Tally(), 0
+
+    def known(self, key):
+        return None if self.anew else kept.known(key)
+
+    def tell(self, good, line):
+        self.tally.check(line, good)
+        if good:
+            print(line, flush=True)
+
+    def trial(self, edits, cases):
+        """Runs the cases of edits. For each edit, whether its case comes out the same, or what keeps it from being run."""
+        same, left = {}, []
+        for case, edit in tries_of(edits, cases):
+            was = self.known(kept.running(case, edit))
+            if was is None:
+                left.append((case, edit))
+            elif edit:
+                same[edit] = was == "same"
+            else:
+                self.tell(True, f"trial {case}: comes out as it says (kept)")
+        groups = [left[at:at + AT_ONCE] for at in range(0, len(left), AT_ONCE)]
+        for group, found in zip(groups, self.pool.map(trial.run, groups)):
+            for (case, edit), one in zip(group, found):
+                if isinstance(one, bool) and (edit or one):
+                    kept.keep(kept.running(case, edit), "same" if one else "different")
+                if edit:
+                    same[edit] = one
+                else:
+                    self.tell(one is True, f"trial {case}: {'comes out as it says' if one is True else 'comes out different' if one is False else one}")
+        for edit in edits:
+            if edit.of_code() and edit not in same:
+                same[edit] = "there is no such case"
+        return same
+
+    def proofs(self, edits, same):
+        """Tries edits in the prover."""
+        left = []
+        for edit in edits:
+            was = self.known(kept.proof_of(edit))
+            if was is None or edit.of_code() and same[edit] is not bool(edit.worthless):
+                left.append(edit)
+            else:
+                self.old += 1
+                self.tell(True, f"{was} (kept)")
+        names = dict.fromkeys(edit.crate for edit in left)
+        broken = {name: self.pool.submit(as_it_is, name) for name in names}
+        parts = []
+        for name in names:
+            wrong, mine = broken[name].result(), [edit for edit in left if edit.crate == name]
+            if wrong:
+                for edit in mine:
+                    self.tell(False, f"{edit.kind} {edit.label}: not tried: {wrong}")
+                continue
+            alone = [edit for edit in mine if stands_alone(edit)]
+            for place in sorted({edit.place for edit in alone}):
+                here = [edit for edit in alone if edit.place == place]
+                parts += [self.pool.submit(tried_alone, here[at:at + 8]) for at in range(0, len(here), 8)]
+            others = [edit for edit in mine if edit not in alone]
+            parts += [self.pool.submit(self.tried, batch, same) for batch in batches(others)]
+        for part in concurrent.futures.as_completed(parts):
+            for edit, good, line in part.result():
+                self.tell(good, line)
+                if good:
+                    kept.keep(kept.proof_of(edit), re.sub(r" \(\d+ s\)$", "", line))
+
+    @staticmethod
+    def tried(batch, same):
+        return tried(batch, {**same, **{edit: not_refuted(edit) for edit in batch if edit.refuted}})
 
 
 def main():
     parser = argparse.ArgumentParser(description=__doc__, formatter_class=argparse.RawDescriptionHelpFormatter)
-    parser.add_argument("--slips", nargs="+", metavar="NAME", help="only the slips of these crates")
-    given = parser.parse_args().slips
-    names = given or [c.name for c in (ROOT / "crates").iterdir()]
-    names.sort(key=lambda name: -cost(name))
-    tally = Tally()
-    # One more than there are cores, so that no core waits for a prover that reads its files.
-    with concurrent.futures.ThreadPoolExecutor(min((os.cpu_count() or 1) + 1, 4)) as pool:
-        waiting = [pool.submit(part) for name in names for part in work_on(name, not given)]
-        waiting.append(pool.submit(lambda: [trial_as_it_is()]))
-        for done in waiting:
-            for good, line in done.result():
-                tally.check(line, good)
-                if good:
-                    print(line, flush=True)
-    return tally.finish()
+    parser.add_argument("--slips", nargs="+", metavar="NAME", help="only the edits of these crates")
+    parser.add_argument("--jobs", type=int, default=min(os.cpu_count() or 1, 4), metavar="N", help="how many at a time")
+    parser.add_argument("--anew", action="store_true", help="try all, whatever is kept")
+    given = parser.parse_args()
+    names = given.slips or list(crates())
+    worthless = [edit for edit in map(Edit, sorted((HERE / "worthless").glob("*.edit"))) if edit.crate in names]
+    edits = [edit for name in names for edit in edits_of(name)] + worthless
+    kept.shrink()
+    runner = Runner(given.jobs, given.anew)
+    same = runner.trial(edits, [] if given.slips else trial.every_case())
+    runner.proofs(edits, same)
+    print(f"{len(edits)} edits: {len(edits) - runner.old} tried in the prover in this run, {runner.old} kept from earlier runs of the same text")
+    return runner.tally.finish()
 
 
 if __name__ == "__main__":

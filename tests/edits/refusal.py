@@ -1,33 +1,32 @@
 """What the prover refused, read from its log.
 
+A function is refused where the log says so itself, and not only that it calls one which is refused: for a goal that the search
+does not prove, or in a file of its proof. It counts for nothing that a proof's file names what the edit took away.
+
 A fact of a definition is a computed example: an equation without variables, proved by computing both sides. It no longer
 holds where the prover shows two different values in it. Such values are numbers and constructors; a text with anything
 else in it is a term that computes no further, and tells nothing.
-
-No comfort is taken from a declaration that only waits for a refused one, nor from a proof that asks for a need that the
-edited function does not have.
 """
 import re
 
-ERROR = re.compile(r"^(\S+?):\d+:\d+: error: (?:`(?P<name>[^`]*)`: )?(?P<text>.*(?:\n  .*)*)", re.MULTILINE)
-UNPROVED = re.compile(r"^note: (\S+?):\d+:\d+: (?P<text>it is not proved .*)", re.MULTILINE)
-IDLE = re.compile(r"was not admitted|has no `Need-|not in scope|unknown name")
+ERROR = re.compile(r"^(?:\./)?(\S+?):\d+:\d+: error: (?:`(?P<name>[^`]*)`: )?(?P<text>.*(?:\n  .*)*)", re.MULTILINE)
+FUNCTION = re.compile(r"^fn (\S+?): (?!proved$)(?P<text>.*)$", re.MULTILINE)
+WAITS = re.compile(r"no proof: it calls ")
+IDLE = re.compile(r"was not admitted|has no field|has no `|is not in scope|unknown name|declares no")
 DIFFERENT = re.compile(
     r"computed as far as they go, the two types (?:are|differ only where one has|first differ where one has) `([^`]*)`"
     r"\s+\(expected\)[^`]*`([^`]*)`\s+\(found\)"
 )
-VALUES = {"Path", "record", "true", "false", "accepted", "refused", "pos", "negsuc", "[]", "_∷_", "∷"}
+VALUES = {"Path", "record", "true", "false", "accepted", "refused", "pos", "negsuc", "neg_suc", "[]", "◌∷◌", "∷", "written"}
 TYPES = {"ℕ", "ℤ", "Bool", "List", "Outcome"}
 FIELDS = {"sign", "row", "cell", "position", "wings"}
 
 
 class Refused:
-    """A declaration that the prover refused: its file, its name (none in a proof that rattle made), what is said of it."""
+    """A declaration of a file of proofs that the prover refused: its file, its name, what is said of it."""
 
-    def __init__(self, found, crate):
-        self.file = found[1].split(f"{crate}/", 1)[-1]
-        self.name = found.groupdict().get("name")
-        self.text = found["text"]
+    def __init__(self, found):
+        self.file, self.name, self.text = found[1], found["name"], found["text"]
 
     def idle(self):
         return bool(IDLE.search(self.text))
@@ -44,9 +43,21 @@ def is_value(text):
     return all(w.isdigit() or w.rsplit(".", 1)[-1] in VALUES | TYPES | FIELDS for w in words)
 
 
-def refused(log, crate):
-    """All that was refused, in the log's order; `crate` is how the paths of the crate's files go on."""
-    return [Refused(found, crate) for form in (ERROR, UNPROVED) for found in form.finditer(log)]
+def refused(log):
+    """All that was refused, in the log's order."""
+    return [Refused(found) for found in ERROR.finditer(log)]
+
+
+def refused_functions(log, crate):
+    """The functions of the crate that were refused themselves, as their folders in proofs/ are named, each with whether more is
+    said of it than that a file of its proof names what is gone."""
+    errors, found = refused(log), {}
+    for one in FUNCTION.finditer(log):
+        name = one[1].removeprefix(f"{crate}::").replace("::", "/")
+        own = [error for error in errors if error.file.startswith(f"proofs/{name}/")]
+        if not WAITS.match(one["text"]) or own:
+            found[name] = not own or any(not error.idle() for error in own)
+    return found
 
 
 def is_example(text, name):
@@ -59,6 +70,6 @@ def is_example(text, name):
         return False
     proof = " ".join(body["proof"].split())
     if body["given"]:
-        return re.fullmatch(r"r( \.[\w-]+)+( [^λ]*)?", proof) is not None
+        return re.fullmatch(r"r(\.[\w-]+)+( [^λ]*)?", proof) is not None
     several = r"\([\w-]+(, [\w-]+)*\)"
     return re.fullmatch(rf"refl|{several}|record \{{( [\w-]+ = ([\w-]+|{several});?)+ \}}", proof) is not None

@@ -4,17 +4,40 @@ trial/all.txt       Rattle that every case may use
 trial/PART.txt      the functions of a part, and its cases: a line '// case NAME', statements, and what they write,
                     as lines that begin with '// >'
 
-A case is called 'PART: NAME'. It is made into a program and run by 'rt try'. 'program NAME' is the repository's
-program NAME on its own input.
+A case is called 'PART: NAME'. 'program NAME' is the repository's program NAME on its own input.
+
+Most of the time of 'rt try' goes into the library, which every program reads. So many tries are made into one program, which
+reads from its input which of them to run: each is a module with the text of its case, and has, under names of its own, a copy
+of every crate between the edited one and what the case calls. 'rt try --cases' builds it once and runs it once for each try,
+so that one which stops or does not end takes no other along.
 """
+import functools
 import pathlib
 import re
+import shutil
 import subprocess
+import tempfile
+
+from edit import ROOT, Bad, below, crates
 
 FOLDER = pathlib.Path(__file__).resolve().parent / "trial"
-FUNCTION = "fn case_{}() {{\n{}\n    say(b\"\\n\");\n}}\n"
+MAIN = """// Runs the try whose number stands on standard input, in three digits.
+#![tactic(auto)]
+
+{modules}
+
+fn main() {{
+    let mut text = [48u8; 3];
+    let _got = libc::read(0, &mut text);
+    let which = (text[0] % 48) as usize * 100 + (text[1] % 48) as usize * 10 + (text[2] % 48) as usize;
+{calls}
+}}
+"""
+CASE = "\npub fn run() {{\n{}\n    say(b\"\\n\");\n}}\n"
+TOLD = re.compile(r"^case=(\S+) run=(\S+).*$", re.MULTILINE)
 
 
+@functools.cache
 def parts():
     """For each part its functions and its cases: name, statements and what they write."""
     found = {}
@@ -31,45 +54,140 @@ def parts():
     return found
 
 
-def chosen(case):
-    """The parts and cases of a program: one case, or all where none is named."""
-    known = parts()
-    if case is None:
-        return [(known[part][0], list(known[part][1].values())) for part in known]
-    part, name = case.split(": ", 1)
-    return [(known["all"][0], []), (known[part][0], [known[part][1][name]])]
+def every_case():
+    return [f"{part}: {name}" for part, (_, cases) in parts().items() for name in cases]
 
 
 def known(case):
     part, _, name = case.partition(": ")
-    return case.startswith("program ") or name in parts().get(part, ("", {}))[1]
+    return name in parts().get(part, ("", {}))[1] or case.removeprefix("program ") in crates()
 
 
-def make(root, case):
-    """Writes the program of a case into a copy of the repository."""
-    texts, calls, written = [], [], ""
-    for functions, cases in chosen(case):
-        texts.append(functions)
-        for body, out in cases:
-            texts.append(FUNCTION.format(len(calls), body))
-            calls.append(f"    case_{len(calls)}();\n")
-            written += out
-    text = "\n".join(texts) + "\nfn main() {\n" + "".join(calls) + "}\n"
+def text_of(case):
+    """The text of a case as a module, and what it writes."""
+    part, name = case.split(": ", 1)
+    body, written = parts()[part][1][name]
+    return parts()["all"][0] + parts()[part][0] + CASE.format(body), written
+
+
+def used_by(text):
+    """The crates that a text of code names."""
+    return [name for name in crates() if re.search(rf"(?<![:\w.]){name}::", text)]
+
+
+def crates_of(case):
+    """The crates that a case runs."""
+    used = [case.removeprefix("program ")] if case.startswith("program ") else used_by(text_of(case)[0])
+    return {one for name in used for one in [name, *below(name)]}
+
+
+def between(edited, case):
+    """The crates from the edited one up to those that a case calls."""
+    return sorted(name for name in crates_of(case) if name == edited or edited in below(name))
+
+
+def renamed(text, names, suffix):
+    """A text of code in which these crates have names of their own, and nothing has a name for C."""
+    for name in names:
+        text = re.sub(rf"(?<![:\w.]){name}::", f"{name}{suffix}::", text)
+    return text.replace("#[unsafe(no_mangle)]\n", "").replace("extern \"C\" ", "")
+
+
+def code_of(name, edit):
+    """The files of a crate's code, with the edit if it is of this crate."""
+    folder = ROOT / "crates" / name
+    code = {str(file.relative_to(folder)): file.read_text() for file in sorted((folder / "src").rglob("*.rt"))}
+    return code | (edit.edited(folder) if edit and edit.crate == name else {})
+
+
+def add(root, number, case, edit):
+    """Adds a try to the program: the case over the crates with the edit, or as they are. The lines of its crates, and the crates
+    that it calls."""
+    text, written = text_of(case)
+    copied, suffix, lines = between(edit.crate, case) if edit else [], f"_{number}", []
+    named = lambda name: name + suffix if name in copied else name
+    code = {name: code_of(name, edit) for name in copied}
+    for name in copied:
+        for file, words in code[name].items():
+            path = root / "crates" / named(name) / file
+            path.parent.mkdir(parents=True, exist_ok=True)
+            path.write_text(renamed(words, copied, suffix))
+        lines.append(f"{named(name)}: {' '.join(map(named, crates()[name]))}")
     crate = root / "crates" / "trial"
-    (crate / "src").mkdir(parents=True, exist_ok=True)
-    (crate / "src" / "main.rt").write_text(text)
-    (crate / "stdout").write_text(written)
-    lines = [x for x in (root / "crates.txt").read_text().splitlines() if not x.startswith("trial:")]
-    named = [x.split(":")[0] for x in lines if ":" in x and not x.startswith("#")]
-    used = [name for name in named if re.search(rf"(?<![:\w]){name}::", text)]
-    (root / "crates.txt").write_text("\n".join(lines + [f"trial: {' '.join(used)} io libc"]) + "\n")
-    return "trial"
+    (crate / "src" / f"t{number}.rt").write_text(renamed(text, copied, suffix))
+    (crate / "cases" / f"{number:03}").write_text(f"{number:03}")
+    (crate / "cases" / f"{number:03}.stdout").write_text(written)
+    return lines, list(map(named, used_by(text)))
 
 
-def run(root, case):
-    """What rt says of a case, and whether it comes out as the trial says; None where it cannot be run."""
-    program = case[len("program "):] if case and case.startswith("program ") else make(root, case)
-    ran = subprocess.run(["rt", "try", program], cwd=root, text=True, stdout=subprocess.PIPE, stderr=subprocess.STDOUT)
-    if "\nFAIL: the interpreter" in "\n" + ran.stdout:
-        return ran.stdout, False
-    return ran.stdout, True if "\nok: the interpreter" in "\n" + ran.stdout else None
+def ran(folder):
+    """What 'rt try' says of the cases of a program, by their numbers."""
+    run = subprocess.run(["rt", "try", "--cases", "cases"], cwd=folder, text=True, errors="replace", stdin=subprocess.DEVNULL, stdout=subprocess.PIPE, stderr=subprocess.STDOUT)
+    # A run that stops or does not end comes out different: as it is, the code does neither.
+    found = {int(one[1]): "output=expected" in one[0] if one[2] == "ended" else False for one in TOLD.finditer(run.stdout)}
+    return found, run.stdout
+
+
+@functools.cache
+def every_code():
+    """The code of all crates, as they are."""
+    return {name: code_of(name, None) for name in crates()}
+
+
+def write_crates(root):
+    (root / ".git").mkdir()
+    for name, code in every_code().items():
+        for file, words in code.items():
+            path = root / "crates" / name / file
+            path.parent.mkdir(parents=True, exist_ok=True)
+            path.write_text(words)
+
+
+def run_program(case, edit):
+    """Whether the repository's program comes out as its file says."""
+    name = case.removeprefix("program ")
+    with tempfile.TemporaryDirectory(prefix="trial-") as folder:
+        root = pathlib.Path(folder)
+        write_crates(root)
+        shutil.copy(ROOT / "crates.txt", root)
+        crate = root / "crates" / name
+        for file, words in (code_of(edit.crate, edit) if edit else {}).items():
+            (root / "crates" / edit.crate / file).write_text(words)
+        (crate / "cases").mkdir()
+        given, wanted = ROOT / "crates" / name / "stdin", ROOT / "crates" / name / "stdout"
+        (crate / "cases" / "000").write_bytes(given.read_bytes() if given.is_file() else b"")
+        (crate / "cases" / "000.stdout").write_bytes(wanted.read_bytes() if wanted.is_file() else b"")
+        found, said = ran(crate)
+    return found.get(0, said[-500:])
+
+
+def run(tries):
+    """Runs tries, each a case and an edit, or None for the code as it is. For each, whether it comes out as the case says, or a
+    text about what keeps it from being run."""
+    found = {number: run_program(*one) for number, one in enumerate(tries) if one[0].startswith("program ")}
+    with tempfile.TemporaryDirectory(prefix="trial-") as folder:
+        root = pathlib.Path(folder)
+        write_crates(root)
+        crate, lines, used, tried = root / "crates" / "trial", [], {"io", "libc"}, []
+        (crate / "src").mkdir(parents=True)
+        (crate / "cases").mkdir()
+        for number, (case, edit) in enumerate(tries):
+            if number not in found:
+                try:
+                    more, named = add(root, number, case, edit)
+                    lines, used, tried = lines + more, used | {*named}, [*tried, number]
+                except Bad as bad:
+                    found[number] = str(bad)
+        modules = "\n".join(f"mod t{number};" for number in tried)
+        calls = "\n".join(f"    if which == {number} {{\n        t{number}::run();\n    }}" for number in tried)
+        (crate / "src" / "main.rt").write_text(MAIN.format(modules=modules, calls=calls))
+        (root / "crates.txt").write_text("\n".join([(ROOT / "crates.txt").read_text(), *lines, f"trial: {' '.join(sorted(used))}"]) + "\n")
+        told, said = ran(crate) if tried else ({}, "")
+    if tried and not told and len(tried) > 1:
+        # One of them is no program: the others are run without it.
+        half = len(tried) // 2
+        for some in (tried[:half], tried[half:]):
+            found |= dict(zip(some, run([tries[number] for number in some])))
+    else:
+        found |= {number: told.get(number, said[-500:]) for number in tried}
+    return [found[number] for number in range(len(tries))]
