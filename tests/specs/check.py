@@ -18,11 +18,13 @@ from tally import Tally  # noqa: E402
 
 THEOREMS = {"third_term", "theorems"}
 EXAMPLES = ("Examples.antt", "FirstOfTwo.antt")
-IMPORT = re.compile(r"^(?:ghost )?use Rattle·(\w+)(?:·specs)?\.specs\.([\w.]+?)(?:\.\{([^}]*)\}| as [\w-]+);?$", re.M)
+IMPORT = re.compile(r"^(?:ghost )?use Rattle\.(\w+)\.specs\.([\w.]+?)(?:\.\{([^}]*)\}| as [\w-]+);?$", re.M)
 FUNCTION = re.compile(r'^ *pub (?:extern "C" )?fn (\w+)(.*?)^ *\{', re.M | re.S)
-ANY_IMPORT = re.compile(r"^(?:ghost )?use Rattle·(\w+)(?:·\w+)?\.(specs|proofs)\.([\w.]+?)\.\{([^}]*)\};?$", re.M)
+ANY_IMPORT = re.compile(r"^(?:ghost )?use Rattle\.(\w+)\.(specs|proofs)\.([\w.]+?)\.\{([^}]*)\};?$", re.M)
 # A definition or a law, up to the empty line behind it; a field of a record has no equation.
-DECLARED = re.compile(r"^( *)(?:abbrev |unfoldable )?pub ([\w·'-]+)[^\n]* :(?:(?!\n\n).)*?\n\1\2(?![\w·'-])(?:(?!\n\n).)*", re.M | re.S)
+DECLARED = re.compile(r"^( *)(?:abbrev |unfoldable )?pub ([\w'-]+)[^\n]* :(?:(?!\n\n).)*?\n\1\2(?![\w'-])(?:(?!\n\n).)*", re.M | re.S)
+# What a function's proof answers to a goal: the prover looks it up.
+ANSWER = re.compile(r" *(?:abbrev )?pub (?:([\w'-]+) : goal\.\1(?![\w'-])|\w+_spec :)")
 # In the promises: names, and the file that has them in brackets.
 NAMED = re.compile(r"((?:`[^`]+`, )*`[^`]+`) \((\w+/proofs/\w+)\)")
 
@@ -80,14 +82,19 @@ def reached(specs):
     return seen
 
 
+def written(pattern):
+    """The files of the crates that fit a pattern, but for what rt makes, in out/."""
+    return [file for file in (ROOT / "crates").glob(pattern) if file.relative_to(ROOT / "crates").parts[1] != "out"]
+
+
 def names_in(text):
-    return re.findall(r"[\w·'-]+", text)
+    return re.findall(r"[\w'-]+", text)
 
 
 def imported():
     """What some file imports: crate, specs or proofs, module and name."""
     found = set()
-    for file in (ROOT / "crates").glob("*/*/**/*"):
+    for file in written("*/*/**/*"):
         if file.suffix in (".antt", ".rt"):
             for *module, items in ANY_IMPORT.findall(file.read_text()):
                 found |= {(*module, name) for name in names_in(items)}
@@ -97,12 +104,12 @@ def imported():
 def unnamed():
     """For each file the definitions or laws that nothing names, neither another file nor another declaration of it."""
     known = imported()
-    for file in sorted((ROOT / "crates").glob("*/*/**/*.antt")):
+    for file in sorted(written("*/*/**/*.antt")):
         crate, kind, *path = file.relative_to(ROOT / "crates").with_suffix("").parts
         text = "\n".join(line for line in file.read_text().split("\n") if not line.lstrip().startswith("--"))
         yield file, kind, [
             own[2] for own in DECLARED.finditer(text)
-            if (crate, kind, ".".join(path), own[2]) not in known and names_in(text).count(own[2]) == names_in(own[0]).count(own[2])]
+            if not ANSWER.match(own[0]) and (crate, kind, ".".join(path), own[2]) not in known and names_in(text).count(own[2]) == names_in(own[0]).count(own[2])]
 
 
 def main():
@@ -121,7 +128,7 @@ def main():
     promises = set(re.findall(r"`([^`]+)`", (ROOT / "docs" / "PROMISES.md").read_text()))
     for file, kind, names in unnamed():
         if kind == "proofs" and file.name not in EXAMPLES:
-            names = [name for name in names if name not in promises and not name.endswith("-spec")]
+            names = [name for name in names if name not in promises]
         if kind == "specs" or file.name not in EXAMPLES:
             tally.check(f"{file.relative_to(ROOT)}: nothing names {', '.join(names)}", not names)
     return tally.finish()

@@ -43,7 +43,7 @@ no_minus = refl
 
 -- a writer at place 1 of four bytes
 abbrev writer : LineWriter
-writer = record { buf = record { ref_ptr = (0, 0); now = replicate 4 0 }; at = 1 }
+writer = record { buf = record { ref_ptr = (0, 0); ghost_name = 0; now = replicate 4 0 }; at = 1 }
 
 pub two_further : (advanced writer (ascii "12")).at ≡ 3
 two_further = refl

@@ -3,7 +3,7 @@
 --   sweep_input                the call's input
 --   sweep_tests                its refusals in order, but for row 15
 --   sweep_rules, sweep_outcome, sweep_buffer
-use Rattle.std.specs.Prelude.{not, ◌&&◌, ◌||◌, List, [], ◌∷◌, ◌++◌, ℕ, suc, ◌*◌, eqb, ltb, length}
+use Rattle.std.specs.Prelude.{not, ◌&&◌, ◌||◌, List, [], ◌∷◌, ◌++◌, ℕ, suc, eqb, ltb, length}
 use Rattle.rules.specs.Limits.{max_source, max_vertices, max_cells, steps_ok, swept_vertices}
 use Rattle.rules.specs.Shapes.{shape_ok}
 use Rattle.rules.specs.Calls.{Rule, refuse, no_room, Outcome, decide, after}

@@ -20,7 +20,7 @@ use Rattle.boundary.proofs.faces.Goals as goal
 use Rattle.boundary.proofs.faces.Goals.{Else-differ, Else-not-within}
 
 limits : (c : Else-not-within) → let a = c.args in Limits max_dimension a.d a.v a.s
-limits c = limits_are _ _ _ _ (ap not (sym c.within.ensures) ∙ c.if-not-within.false)
+limits c = limits_are _ _ _ _ (ap not (sym c.within.ensures ∙ c.if-not-within.false))
 
 table : (c : Else-differ) → let a = c.args in Table a.d a.s a.table.now
 table c =
