@@ -1,11 +1,9 @@
-"""Checks that every file of Rattle and antt is in the formatter's layout, and that neither it nor a line of it is too long.
+"""Checks that no file of Rattle and antt, and no line of one, is too long. That each is in the formatter's layout rt ci sees to.
 
 Last line: 'N passed, M failed'.
 """
 
 import pathlib
-import re
-import subprocess
 import sys
 
 ROOT = pathlib.Path(__file__).resolve().parents[2]
@@ -18,13 +16,11 @@ LONGEST_LINE = 150
 
 def main():
     tally = Tally()
-    files = sorted(p for p in (ROOT / "crates").rglob("*") if p.suffix in (".rt", ".antt"))
-    said = subprocess.run(["rt", "fmt", "--check"], cwd=ROOT, text=True, stdout=subprocess.PIPE, stderr=subprocess.STDOUT, check=False)
-    tally.check(f"rt fmt --check: exit status {said.returncode}", said.returncode in (0, 1))
-    unlaid = {str(pathlib.Path(p).relative_to(ROOT)) for p in re.findall(r"^(\S+) is not in the layout$", said.stdout, re.M)}
+    # what rt makes stands in out/
+    files = sorted(p for p in (ROOT / "crates").glob("*/*/**/*") if p.suffix in (".rt", ".antt") and p.relative_to(ROOT / "crates").parts[1] != "out")
+    tally.check("there are files", len(files) > 500)
     for file in files:
         name = str(file.relative_to(ROOT))
-        tally.check(f"{name}: not in the layout of rt fmt", name not in unlaid)
         lines = file.read_text().splitlines()
         tally.check(f"{name}: over {MOST_LINES} lines", len(lines) <= MOST_LINES)
         tally.check(f"{name}: a line of over {LONGEST_LINE} characters", all(len(line) <= LONGEST_LINE for line in lines))

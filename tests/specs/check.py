@@ -82,6 +82,11 @@ def reached(specs):
     return seen
 
 
+def written(pattern):
+    """The files of the crates that fit a pattern, but for what rt makes, in out/."""
+    return [file for file in (ROOT / "crates").glob(pattern) if file.relative_to(ROOT / "crates").parts[1] != "out"]
+
+
 def names_in(text):
     return re.findall(r"[\w'-]+", text)
 
@@ -89,7 +94,7 @@ def names_in(text):
 def imported():
     """What some file imports: crate, specs or proofs, module and name."""
     found = set()
-    for file in (ROOT / "crates").glob("*/*/**/*"):
+    for file in written("*/*/**/*"):
         if file.suffix in (".antt", ".rt"):
             for *module, items in ANY_IMPORT.findall(file.read_text()):
                 found |= {(*module, name) for name in names_in(items)}
@@ -99,7 +104,7 @@ def imported():
 def unnamed():
     """For each file the definitions or laws that nothing names, neither another file nor another declaration of it."""
     known = imported()
-    for file in sorted((ROOT / "crates").glob("*/*/**/*.antt")):
+    for file in sorted(written("*/*/**/*.antt")):
         crate, kind, *path = file.relative_to(ROOT / "crates").with_suffix("").parts
         text = "\n".join(line for line in file.read_text().split("\n") if not line.lstrip().startswith("--"))
         yield file, kind, [

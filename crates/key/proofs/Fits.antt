@@ -71,8 +71,12 @@ module _ (b : List ℕ) where
       go : (o : Outcome (List ℕ)) → Fits o → length (spoken o) ≤ byte_room
       go (accepted text) h = h
       go (refused n) h =
-          omega
-          (arith, length-append (ascii "refused ") (digits_up_to 19 n ++ ascii "\n"), length-append (digits_up_to 19 n) (ascii "\n"), digits_short 19 n)
+          omega (
+            arith,
+            length-append (ascii "refused ") (digits_up_to 19 n ++ ascii "\n"),
+            length-append (digits_up_to 19 n) (ascii "\n"),
+            digits_short 19 n,
+          )
 
   module _ (out : List ℕ) (room : length out ≡ byte_room) where
     enough : ltb (length out) (length (printed b)) ≡ false

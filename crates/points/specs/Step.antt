@@ -1,6 +1,6 @@
 -- A step: slide (axis, amount), slant (two axes, an amount each) or turn (cosine, sine, rise). Paper, section 6.
 -- Each operation on floats is IEEE 754's on 64 bits, rounded once, to the nearest value.
---   inRange x         rule 4: finite, and of magnitude below 1,048,576
+--   in_range x        rule 4: finite, and of magnitude below 1,048,576
 --   on_circle t        c times c plus s times s is within 1 ± 2^-40
 --   step_fits n s      rule 5: its axes are among the n of the space, and a turn is on the circle
 --   moved_point s n p  a point of n axes after the step

@@ -198,4 +198,5 @@ module _ (x : Float) (f : fits binary64 x ≡ true) (r : in_range x ≡ true) wh
   negative_bits =
       sym
       (ap negative (fields_of x f)
-      ∙ value_sign (of_fields binary64 sign_bit (field_of x) (digits_of x)) sign_bit _ _ (fields_value sign_bit (field_of x) (digits_of x) range_fields))
+      ∙ value_sign (of_fields binary64 sign_bit (field_of x) (digits_of x)) sign_bit _ _
+      (fields_value sign_bit (field_of x) (digits_of x) range_fields))

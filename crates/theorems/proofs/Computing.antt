@@ -20,8 +20,10 @@ use Rattle.page.specs.Key.{key_outcome, printed}
 unfoldable pub computing : Unit {0}
 unfolding eq solids-computing points-computing wing_rules wing_outcome wing_buffer uploaded_buffer sweep_rules swept_words
     sweep_outcome sweep_buffer boundary_cells
-    faces_rules faces_outcome faces_buffer moved_levels move_rules move_outcome move_buffer file_points file_cells read_rules header_of file_words read_outcome
-    read_cells read_points digits thousandths coordinate first_line vertex_line face_line key_text list_text list_rules list_outcome list_buffer key_outcome
+    faces_rules faces_outcome faces_buffer moved_levels move_rules move_outcome move_buffer file_points file_cells read_rules header_of file_words
+    read_outcome
+    read_cells read_points digits thousandths coordinate first_line vertex_line face_line key_text list_text list_rules list_outcome list_buffer
+    key_outcome
     printed host_wing_outcome host_wing host_wing_buffer host_uploaded_buffer host_sweep_outcome host_sweep
     host_sweep_buffer host_faces_outcome host_faces host_faces_buffer
 computing = tt

@@ -91,11 +91,13 @@ module _ (v : ℕ) (x a : Float) (room : ℕ) where
       move_outcome slid ≡ accepted (moved_length slid)
   unfolding move_rules
   slid-accepted hv few fits hx ha hy number up =
-      sym (accepts slid [] _ _ (rw (hv, many, ha, same_range in_range v x hx, step_fits_lem, few, levels_in hx hy, carried number up, fits)) refl refl).0
+      sym (accepts slid [] _ _ (rw (hv, many, ha, same_range in_range v x hx, step_fits_lem, few, levels_in hx hy, carried number up, fits)) refl
+      refl).0
 
   pub slid-refused : (h : ℕ) → vertices_ok v ≡ true → steps_ok h ≡ true →
       ltb max_vertices (swept_vertices v h) ≡ true → in_range x ≡ true → in_range a ≡ true →
       move_outcome (move_input 1 v h (S.Slide 0 a) (replicate v x) room) ≡ refused 12
   unfolding move_rules
   slid-refused h hv hh large hx ha =
-      sym (refuses (move_input 1 v h (S.Slide 0 a) (replicate v x) room) [] 12 (rw (hv, hh, many, ha, same_range in_range v x hx, step_fits_lem, large))).0
+      sym (refuses (move_input 1 v h (S.Slide 0 a) (replicate v x) room) [] 12
+      (rw (hv, hh, many, ha, same_range in_range v x hx, step_fits_lem, large))).0

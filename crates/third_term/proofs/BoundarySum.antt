@@ -45,7 +45,8 @@ module _ (nv : ℕ) (cs : List Cell) (s : Solid nv cs) where
   bd_eq h = ap (λ F. keep (λ c. lone_in F c.row) F) (swept-facets nv h cs s)
 
   pub bd_is : (h : ℕ) (f : Functional) →
-      sum_chain f true (swept_boundary nv h cs) + swept_parts f nv h false cs ≡ swept_parts f nv h true cs + sum_chain f false (swept_boundary nv h cs)
+      sum_chain f true (swept_boundary nv h cs) + swept_parts f nv h false cs
+      ≡ swept_parts f nv h true cs + sum_chain f false (swept_boundary nv h cs)
   bd_is h f =
       omega (
         arith,
@@ -59,7 +60,8 @@ module _ (nv : ℕ) (cs : List Cell) (s : Solid nv cs) where
 
   pub boundary-sum : (h : ℕ) (f : Functional) →
       sum_chain f true (swept_boundary nv h cs)
-      + (sum_chain (at_height f (h * nv)) false cs + sum_chain (at_height f (zero * nv)) true cs + sum_chain f false (sweep_of nv h (own_boundary cs)))
+      + (sum_chain (at_height f (h * nv)) false cs + sum_chain (at_height f (zero * nv)) true cs + sum_chain f false
+      (sweep_of nv h (own_boundary cs)))
       ≡ (sum_chain (at_height f (h * nv)) true cs + sum_chain (at_height f (zero * nv)) false cs + sum_chain f true (sweep_of nv h (own_boundary cs)))
       + sum_chain f false (swept_boundary nv h cs)
   boundary-sum h f =

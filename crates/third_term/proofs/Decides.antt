@@ -54,7 +54,8 @@ pub forth : (nv h : ℕ) (xa xb : List Cell) → Same xa xb → Same (swept_boun
 forth nv h xa xb e m s w =
     made-sum nv h m xa s w
     ∙ same-material xa xb e m (over_faces (restricted (lone_in (F xa)) (plus_on w)) nv h) s
-    ∙ ap (λ (q : Row → Bool). sum_chain (over_faces (restricted q (plus_on w)) nv h) s (of_material m xb)) (fun_ext (λ v. ap (λ n. eqb n 1) (totals v)))
+    ∙ ap (λ (q : Row → Bool). sum_chain (over_faces (restricted q (plus_on w)) nv h) s (of_material m xb))
+    (fun_ext (λ v. ap (λ n. eqb n 1) (totals v)))
     ∙ sym (made-sum nv h m xb s w)
   where
     F : List Cell → List Cell
@@ -131,7 +132,8 @@ module _ (nv h : ℕ) (some : 0 < h) (w : Row) (g : Good nv w) where
   -- and so it is with each material
   made-bottom : (m : ℕ) (cs : List Cell) → Solid nv cs →
       sum_chain (plus_on w) true (of_material m (swept_boundary nv h cs)) + sum_chain (plus_on w) (times (dimension_sign w) true) (of_material m cs)
-      ≡ sum_chain (plus_on w) (times (dimension_sign w) false) (of_material m cs) + sum_chain (plus_on w) false (of_material m (swept_boundary nv h cs))
+      ≡ sum_chain (plus_on w) (times (dimension_sign w) false) (of_material m cs) + sum_chain (plus_on w) false
+      (of_material m (swept_boundary nv h cs))
   made-bottom m cs s = go (lone_in F w) refl (lone_in M w) refl
     where
       F : List Cell
@@ -151,8 +153,10 @@ module _ (nv h : ℕ) (some : 0 < h) (w : Row) (g : Good nv w) where
       own b = count-keep (lone_in M) w b M
 
       go : (t : Bool) → lone_in F w ≡ t → (u : Bool) → lone_in M w ≡ u →
-          sum_chain (plus_on w) true (of_material m (swept_boundary nv h cs)) + sum_chain (plus_on w) (times (dimension_sign w) true) (of_material m cs)
-          ≡ sum_chain (plus_on w) (times (dimension_sign w) false) (of_material m cs) + sum_chain (plus_on w) false (of_material m (swept_boundary nv h cs))
+          sum_chain (plus_on w) true (of_material m (swept_boundary nv h cs)) + sum_chain (plus_on w) (times (dimension_sign w) true)
+          (of_material m cs)
+          ≡ sum_chain (plus_on w) (times (dimension_sign w) false) (of_material m cs) + sum_chain (plus_on w) false
+          (of_material m (swept_boundary nv h cs))
       go true p true q =
           omega (
             arith,
@@ -196,7 +200,8 @@ module _ (nv h : ℕ) (xa xb : List Cell) (sa : Solid nv xa) (sb : Solid nv xb) 
       ∙ go (seen (Good nv) w xa sa.rows) (seen (Good nv) w xb sb.rows)
       ∙ sym (count-sum s w (of_material m xb))
     where
-      faces : (b : Bool) → sum_chain (plus_on w) b (of_material m (swept_boundary nv h xa)) ≡ sum_chain (plus_on w) b (of_material m (swept_boundary nv h xb))
+      faces : (b : Bool) → sum_chain (plus_on w) b (of_material m (swept_boundary nv h xa))
+          ≡ sum_chain (plus_on w) b (of_material m (swept_boundary nv h xb))
       faces b = sym (count-sum b w (of_material m (swept_boundary nv h xa))) ∙ e m b w ∙ count-sum b w (of_material m (swept_boundary nv h xb))
 
       once : (cs : List Cell) → Solid nv cs →
@@ -205,7 +210,8 @@ module _ (nv h : ℕ) (xa xb : List Cell) (sa : Solid nv xa) (sb : Solid nv xb) 
       once cs c = omega (arith, turned-total (dimension_sign w) w (of_material m cs), (made-solid nv m cs c).distinct w)
 
       same : Good nv w → (b : Bool) →
-          sum_chain (plus_on w) (times (dimension_sign w) b) (of_material m xa) ≡ sum_chain (plus_on w) (times (dimension_sign w) b) (of_material m xb)
+          sum_chain (plus_on w) (times (dimension_sign w) b) (of_material m xa)
+          ≡ sum_chain (plus_on w) (times (dimension_sign w) b) (of_material m xb)
       same g true =
           omega (arith, made-bottom nv h some w g m xa sa, made-bottom nv h some w g m xb sb, faces true, faces false, once xa sa, once xb sb)
       same g false =

@@ -10,7 +10,8 @@ returns-in-Written c =
     let n = c.in-Written.n in
     let new = c.key_text.new.text in
     let w =
-    text-written c.args.input.now c.args.text.now c.requires new n (sym (ap outcome_of c.in-Written.is) ∙ c.key_text.ensures.answer) c.key_text.ensures.buffer in
+    text-written c.args.input.now c.args.text.now c.requires new n
+    (sym (ap outcome_of c.in-Written.is) ∙ c.key_text.ensures.answer) c.key_text.ensures.buffer in
     record { fits = (w.0, sym (length-take-le n new w.0)); bytes = w.1 }
 
 pub returns-in-Refused : goal.returns-in-Refused

@@ -1,4 +1,4 @@
--- `in_range` answers `inRange`: an exponent field of all ones is in no range, and any other is a number's. Assumes nothing.
+-- `in_range` answers the definition of its name: an exponent field of all ones is in no range, and any other is a number's. Assumes nothing.
 use mathlib.Core.Path.{sym, ap, ◌∙◌}
 use lib.Ieee.{binary64, of_bits}
 use Rattle.points.specs.Step.{in_range}

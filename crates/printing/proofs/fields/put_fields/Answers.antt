@@ -15,7 +15,8 @@ loop-i-init c = (omega arith, left_starts _ _ _ c.requires)
 
 pub put_field-cur-requires : goal.put_field-cur-requires
 put_field-cur-requires c =
-    rw c.wide.ensures.value (left_item_fits field 0 (numbers (goal.at.put_field-cur-requires c).At-loop-i) c.loop-i.i (omega arith) c.loop-i.invariant.1)
+    rw c.wide.ensures.value
+    (left_item_fits field 0 (numbers (goal.at.put_field-cur-requires c).At-loop-i) c.loop-i.i (omega arith) c.loop-i.invariant.1)
 
 pub loop-i-preserved : goal.loop-i-preserved
 loop-i-preserved c =

@@ -21,8 +21,11 @@ put_point-cur-requires c =
     (all_at in_range nan (floats (goal.at.put_point-cur-requires c).At-loop-i) c.loop-i.i c.requires.0 (omega arith), room)
 
 pub loop-i-preserved : goal.loop-i-preserved
-loop-i-preserved c =
-    (omega arith, left_item point_field nan (floats (goal.at.loop-i-preserved c).At-loop-i) c.loop-i.i (omega arith) c.loop-i.invariant.1 _ _ c.put_point-cur.ensures)
+loop-i-preserved c = (
+  omega arith,
+  left_item point_field nan (floats (goal.at.loop-i-preserved c).At-loop-i) c.loop-i.i (omega arith) c.loop-i.invariant.1 _ _
+      c.put_point-cur.ensures,
+)
 
 pub shape_of-buf : goal.shape_of-buf
 shape_of-buf c = c.loop-i.invariant.1.same

@@ -42,7 +42,9 @@ loop-rest-preserved c =
       omega arith,
       length-set buf _ _ ∙ c.loop-rest.invariant.2,
       omega arith,
-      rw (place, c.digit_byte.ensures) (sym (placed-last at less (digit rest) buf (omega (arith, digit-fits (goal.at.loop-rest-preserved c).At-loop-rest)))) ∙ rw more at c.loop-rest.invariant.4,
+      rw (place, c.digit_byte.ensures)
+          (sym (placed-last at less (digit rest) buf (omega (arith, digit-fits (goal.at.loop-rest-preserved c).At-loop-rest))))
+          ∙ rw more at c.loop-rest.invariant.4,
     )
 
 pub bounds-buf-at : goal.bounds-buf-at
@@ -58,5 +60,6 @@ returns c =
     let one : digits rest ≡ digit rest ∷ [] = digits-one rest (omega arith) in
     record {
       place = omega arith;
-      content = rw c.digit_byte-2.ensures (placed_one at (digit rest) c.loop-rest.buf (omega (arith, digit-fits (goal.at.returns c).At-loop-rest))) ∙ rw one at c.loop-rest.invariant.4;
+      content = rw c.digit_byte-2.ensures (placed_one at (digit rest) c.loop-rest.buf (omega (arith, digit-fits (goal.at.returns c).At-loop-rest)))
+          ∙ rw one at c.loop-rest.invariant.4;
     }
