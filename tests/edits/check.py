@@ -22,9 +22,10 @@ refutations/NAME.txt    cases in which an edited theorem is false: after what th
 
 Each is tried over what a check has proved of its crate, which is brought up to date first. A proof rests on its own
 function's code and on contracts. So slips that are each in the function whose proof refuses them are tried at once, if
-none of these functions calls another of them. An example of a definition rests on definitions, so an edit of them is
-tried on the example, with the definitions and the lemmas that its file cites (copies.py). Most cases of the trial are run
-many in one program.
+none of these functions calls another of them. Where a proof's file only names what an edit took away, the edit is
+tried once more without that file, and the prover must then find values at which something that must hold is false. An
+example of a definition rests on definitions, so an edit of them is tried on the example, with the definitions and the
+lemmas that its file cites (copies.py). The cases of the trial are run many in one program.
 
 What passes is kept outside the checkout, under a sum of all that it stood on (kept.py). A run tries only what is not
 kept: an edit whose text, crate or a crate below has changed, and a case whose code has changed. With --anew it tries all.
@@ -41,6 +42,7 @@ import functools
 import os
 import pathlib
 import re
+import shutil
 import subprocess
 import sys
 import time
@@ -52,11 +54,12 @@ import kept  # noqa: E402
 import trial  # noqa: E402
 from copies import copy_of, definitions_with, lemma_files, prove, renew, stands_alone  # noqa: E402
 from edit import ROOT, Bad, Edit, crates, edits_of, functions_in, own_function  # noqa: E402
-from refusal import is_example, refused, refused_functions  # noqa: E402
+from refusal import false_goals, is_example, refused, refused_functions  # noqa: E402
 from tally import Tally  # noqa: E402
 
 # How many tries one program of the trial has.
 AT_ONCE = 40
+ONLY_NAMES = "is refused only because a file of its proof names what is gone"
 
 
 def text_of(edit):
@@ -76,7 +79,7 @@ def problem(edit, log, same):
         if edit.function() not in functions:
             return f"not refused in {edit.place}, but in {', '.join(functions)}"
         if not functions[edit.function()]:
-            return f"{edit.place} is refused only because a file of it names what is gone"
+            return f"{edit.place} {ONLY_NAMES}"
         if not isinstance(same, bool):
             return f"'{edit.case}' cannot be run: {same}"
         return f"changes nothing: '{edit.case}' comes out the same, though {edit.place} is refused" if same else None
@@ -154,6 +157,14 @@ def as_it_is(name):
     return None if "\nlogic=proved" in "\n" + run.stdout else "the crate itself is not proved"
 
 
+def shown_false(edit):
+    """Whether the prover, left to itself with the edited function, finds values at which something that must hold is false."""
+    with copy_of(edit.crate) as root:
+        edit.apply(root / "crates" / edit.crate)
+        shutil.rmtree(root / "crates" / edit.crate / edit.place, ignore_errors=True)
+        return edit.function() in false_goals(prove(root, edit.crate))
+
+
 def tried(batch, same):
     """Tries edits of a crate at once, over what the last check has proved of it."""
     name, began = batch[0].crate, time.time()
@@ -165,6 +176,10 @@ def tried(batch, same):
             wrong = [problem(edit, log, same.get(edit)) for edit in batch]
         except Bad as bad:
             wrong = [f"BAD EDIT: {bad}"] * len(batch)
+    for at, edit in enumerate(batch):
+        # The goals are named after the code, and a proof that cites them says nothing of an edit that renames one.
+        if (wrong[at] or "").endswith(ONLY_NAMES) and same.get(edit) is False and shown_false(edit):
+            wrong[at] = None
     took = (time.time() - began) / len(batch)
     return [(edit, *told(edit, one, took)) for edit, one in zip(batch, wrong)]
 

@@ -11,6 +11,7 @@ import re
 
 ERROR = re.compile(r"^(?:\./)?(\S+?):\d+:\d+: error: (?:`(?P<name>[^`]*)`: )?(?P<text>.*(?:\n  .*)*)", re.MULTILINE)
 FUNCTION = re.compile(r"^fn (\S+?): (?!proved$)(?P<text>.*)$", re.MULTILINE)
+FALSE = re.compile(r"^note: `[^`]*` of proofs/(\S+)/Answers\.antt may be false: the known facts allow ", re.MULTILINE)
 WAITS = re.compile(r"no proof: it calls ")
 IDLE = re.compile(r"was not admitted|has no field|has no `|is not in scope|unknown name|declares no")
 DIFFERENT = re.compile(
@@ -58,6 +59,11 @@ def refused_functions(log, crate):
         if not WAITS.match(one["text"]) or own:
             found[name] = not own or any(not error.idle() for error in own)
     return found
+
+
+def false_goals(log):
+    """The functions of which the prover found values at which one of their goals is false."""
+    return set(FALSE.findall(log))
 
 
 def is_example(text, name):
