@@ -22,7 +22,7 @@ use Rattle.words.specs.Inner.Placed.{Put}
 use Rattle.words.proofs.Records.{tabulate-length}
 use Rattle.words.proofs.Loops.{drop_next}
 use Rattle.words.proofs.Writing.{Left, left_starts, left_ends, left_fits, left_goes}
-use Rattle.simplex.specs.Cell.{Row, Cell, cell, filled, no_cell}
+use Rattle.simplex.specs.Cell.{Row, Cell, filled, no_cell}
 use Rattle.simplex.specs.Faces.{faces, keep, without}
 use Rattle.simplex.proofs.Faces.{faces-length, face_at_lem}
 use Rattle.simplex.proofs.FaceCounts.{without-filled}

@@ -40,5 +40,6 @@ abbrev unfit : Header
 unfit = record { version = 1; d = 7; n = 1; v = 8; s = 1; h = 1; step = S.Slide 1 (of_bits binary64 0) }
 
 pub sweep_before_move : calls_on eight unfit ≡ refused 2
-unfolding computing points-computing file_points file_cells file_words wing_rules wing_outcome sweep_rules sweep_outcome moved_levels move_rules move_outcome
+unfolding computing points-computing file_points file_cells file_words wing_rules wing_outcome sweep_rules sweep_outcome moved_levels move_rules
+    move_outcome
 sweep_before_move = refl

@@ -93,7 +93,8 @@ module _ (b : List ℕ) where
   unfolding printed
   printed_key n page w e c = go (key_outcome b) e c
     where
-      go : (o : Outcome (List ℕ)) → w ≡ page_after o page → accepted n ≡ counted o → (n ≡ length (spoken o)) × ((n ≤ length w) × (take n w ≡ spoken o))
+      go : (o : Outcome (List ℕ)) → w ≡ page_after o page → accepted n ≡ counted o → (n ≡ length (spoken o)) ×
+          ((n ≤ length w) × (take n w ≡ spoken o))
       go (accepted text) e c = let long : n ≡ length text = cc in (long, front_of text page w n e long)
       go (refused k) e c = let z : ◌≡◌ {A = ℕ} 0 1 = cc in absurd (omega arith)
 

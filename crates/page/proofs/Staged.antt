@@ -69,7 +69,8 @@ list_left i out = go (list_outcome i)
     go (refused n) = refl
 
 module _ (version d n v s h : ℕ) (step : Step) (ws : List ℕ) (ps : List Float) (room : ℕ) where
-  pub moved-refused : (k : ℕ) → move_outcome (move_input n v h step ps float_room) ≡ refused k → moved_key version d n v s h step ws ps room ≡ refused k
+  pub moved-refused : (k : ℕ) → move_outcome (move_input n v h step ps float_room) ≡ refused k →
+      moved_key version d n v s h step ws ps room ≡ refused k
   unfolding moved_key
   moved-refused k e = rw e refl
 
@@ -95,6 +96,7 @@ module _ (version d n v s h : ℕ) (step : Step) (ws : List ℕ) (ps : List Floa
   winged-refused k e = rw e refl
 
   pub winged-accepted : (k : ℕ) → wing_outcome (wing_input d v s ws word_room word_room) ≡ accepted k →
-      winged_key version d n v s h step ws ps room ≡ swept_key version d n v s h step (table_of_list (wing_input d v s ws word_room word_room).list) ps room
+      winged_key version d n v s h step ws ps room ≡ swept_key version d n v s h step
+      (table_of_list (wing_input d v s ws word_room word_room).list) ps room
   unfolding winged_key
   winged-accepted k e = rw e refl

@@ -51,7 +51,8 @@ by_bytes_lem true true o m h = h
 pub list-within : (k d n v s : ℕ) (table points out : List ℕ) → count_of (host_list_outcome k d n v s table points out) ≤ length out
 unfolding host_list_outcome
 list-within k d n v s table points out =
-    by_bytes_lem (version_ok k && (shape_ok max_dimension d v s && axes_ok n)) (eqb (length table) (table_length d s * 2) && eqb (length points) (v * n * 8))
+    by_bytes_lem (version_ok k && (shape_ok max_dimension d v s && axes_ok n))
+    (eqb (length table) (table_length d s * 2) && eqb (length points) (v * n * 8))
     (list_outcome (host_list_input k d n v s table points out)) (length out) (listed (host_list_input k d n v s table points out))
 
 pub move_within : (i : MoveTold) → count_of (host_move_outcome i) ≤ i.room
@@ -81,6 +82,6 @@ read-within b header cells points = go (read_outcome i) refl
         pick (ltb (length header) told_size) (passed_each i by.1).cells
     go (refused k) e = omega arith
 
-pub read_small : (o : Outcome ℕ) (b header cells points : List ℕ) → o ≡ host_read_outcome b header cells points → length cells < 18446744073709551616 →
-    count_of o < 9223372036854775808
+pub read_small : (o : Outcome ℕ) (b header cells points : List ℕ) → o ≡ host_read_outcome b header cells points →
+    length cells < 18446744073709551616 → count_of o < 9223372036854775808
 read_small o b header cells points e h = omega (arith, ap count_of e, read-within b header cells points)

@@ -30,7 +30,7 @@ use Rattle.records.specs.Layout.{list_length, record_size, table_length}
 use Rattle.solids.specs.Table.{table_of_list}
 use Rattle.solids.specs.Uploaded.{uploaded_of_list}
 use Rattle.wing.specs.Wing.{WingInput, wing_input, wing_outcome, wing_buffer, wing_rules}
-use Rattle.rules.proofs.InLimits.{limits_are, sweep_limits_are}
+use Rattle.rules.proofs.InLimits.{limits_are}
 use Rattle.wing.specs.Inner.Uploaded.{uploaded_rows}
 use Rattle.wing.proofs.Order as wing
 use Rattle.wing.proofs.Acceptance.{winged_is}
@@ -122,7 +122,8 @@ module _ (d v s : ℕ) (cells out further : List ℕ) where
 
   pub wing_host : (x most : ℕ) (o : Outcome ℕ) → small_table d s most ≡ true → x ≡ lesser (words_in out) most →
       o ≡ wing_read d v s cells x (words_in further) →
-      (host_answer o ≡ host_wing d v s cells out further) × (after o (bytes_of (table_of_list host_told)) out ≡ host_wing_buffer d v s cells out further)
+      (host_answer o ≡ host_wing d v s cells out further)
+      × (after o (bytes_of (table_of_list host_told)) out ≡ host_wing_buffer d v s cells out further)
       × (after o (bytes_of (uploaded_of_list host_told)) further ≡ host_uploaded_buffer d v s cells out further)
   unfolding wing_read host_wing host_wing_outcome host_wing_buffer host_uploaded_buffer
   wing_host x most o small room e =
@@ -175,7 +176,8 @@ module _ (d v s h : ℕ) (table : List ℕ) (x : ℕ) where
       refused 3 ≡ sweep_read d v s h table x
   unfolding sweep_read sweep_rules
   sweep_wrong ok n =
-      sym (hosted_wrong (shape_ok max_source d v s && steps_ok h) table (table_length d s) (sweep_outcome (sweep_input d v s h (words16 table) x)) ok n
+      sym (hosted_wrong (shape_ok max_source d v s && steps_ok h) table (table_length d s)
+      (sweep_outcome (sweep_input d v s h (words16 table) x)) ok n
       (λ w. sym (sweep.refuses (sweep_input d v s h (words16 table) x) [] 3 (rw (ok, ne_eqb (length (words16 table)) (table_length d s) w))).0))
 
   pub sweep_right : length table ≡ table_length d s * 2 → sweep_outcome (sweep_input d v s h (words16 table) x) ≡ sweep_read d v s h table x

@@ -1,6 +1,5 @@
 -- The goals that the search leaves. Assumes nothing.
 use mathlib.Core.Path.{ap}
-use Prim.Native.Nat.{◌-◌}
 use native.Mathlib.Omega.{arith}
 use lib.ListN.{length}
 use Rattle.boundary.proofs.Walking.{from_next, from_here, from_skip}

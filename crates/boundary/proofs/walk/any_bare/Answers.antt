@@ -1,6 +1,5 @@
 -- The goals that the search leaves. Assumes nothing.
 use mathlib.Core.Path.{refl}
-use Prim.Native.Nat.{◌-◌}
 use native.Mathlib.Omega.{arith}
 use Rattle.boundary.proofs.Walking.{between-goes, between_ends}
 use Rattle.boundary.proofs.walk.any_bare.Goals as goal

@@ -1,6 +1,5 @@
 -- The goals that the search leaves. Assumes nothing.
 use mathlib.Core.Path.{refl, sym, ◌∙◌}
-use Prim.Native.Nat.{◌-◌}
 use native.Mathlib.Omega.{arith}
 use Rattle.boundary.proofs.Walking.{from_skip}
 use Rattle.boundary.proofs.walk.next_position.Goals as goal

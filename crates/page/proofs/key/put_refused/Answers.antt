@@ -23,7 +23,8 @@ all s = left_starts 0 (word ++ rest s) s.args.page.now
 
 pub put_number-end-requires : goal.put_number-end-requires
 put_number-end-requires c =
-    let one = left_goes word (rest (goal.at.put_number-end-requires c).Start) _ _ (all (goal.at.put_number-end-requires c).Start) c.put_text-at.ensures in
+    let one = left_goes word (rest (goal.at.put_number-end-requires c).Start) _ _
+    (all (goal.at.put_number-end-requires c).Start) c.put_text-at.ensures in
     left_fits (digits c.args.k) (ascii "\n") one
 
 pub put_byte-requires : goal.put_byte-requires

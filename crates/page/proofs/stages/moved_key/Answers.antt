@@ -29,10 +29,12 @@ buffer c = c.move_points.new.out
 ok : (c : In-Written) → move_outcome (told (goal.at.In-Written c).After-move_points) ≡ accepted c.in-Written.m
 ok c = sym c.in-Written.ensures.answer
 
-front : (c : In-Written) → (c.in-Written.m ≤ length (buffer c)) × (take c.in-Written.m (buffer c) ≡ moved_levels (told (goal.at.In-Written c).After-move_points))
+front : (c : In-Written) → (c.in-Written.m ≤ length (buffer c)) ×
+    (take c.in-Written.m (buffer c) ≡ moved_levels (told (goal.at.In-Written c).After-move_points))
 front c = moved_front (told (goal.at.In-Written c).After-move_points) _ (buffer c) c.in-Written.m c.move_points.ensures.buffer (ok c)
 
-few : (c : In-Written) → ((told (goal.at.In-Written c).After-move_points).h ≤ 64) × (((told (goal.at.In-Written c).After-move_points).h + 1) * (told (goal.at.In-Written c).After-move_points).v ≤ 266240)
+few : (c : In-Written) → ((told (goal.at.In-Written c).After-move_points).h ≤ 64) ×
+    (((told (goal.at.In-Written c).After-move_points).h + 1) * (told (goal.at.In-Written c).After-move_points).v ≤ 266240)
 few c =
     let i = told (goal.at.In-Written c).After-move_points in
     let l = moved_limits i c.in-Written.m (ok c) in
@@ -48,24 +50,28 @@ pub slice_bounds-moved-end : goal.slice_bounds-moved-end
 slice_bounds-moved-end c = (front (goal.at.slice_bounds-moved-end c).In-Written).0
 
 pub slice_bounds-list-end : goal.slice_bounds-list-end
-slice_bounds-list-end c = sym (length-take-le _ (buffer (goal.at.slice_bounds-list-end c).In-Written) (front (goal.at.slice_bounds-list-end c).In-Written).0)
+slice_bounds-list-end c = sym
+    (length-take-le _ (buffer (goal.at.slice_bounds-list-end c).In-Written) (front (goal.at.slice_bounds-list-end c).In-Written).0)
 
 pub returns-in-Written : goal.returns-in-Written
 returns-in-Written c =
     let a = c.args in
     let page = a.page.now in
     let vertices = ap (λ k. k * a.v) (add-one a.h) in
-    let i = list_input a.version a.d a.n (swept_vertices a.v a.h) a.s a.table.now (moved_levels (told (goal.at.returns-in-Written c).After-move_points)) (length page) in
+    let i = list_input a.version a.d a.n (swept_vertices a.v a.h) a.s a.table.now
+    (moved_levels (told (goal.at.returns-in-Written c).After-move_points)) (length page) in
     let stage = sym
     (moved-accepted a.version a.d a.n a.v a.s a.h a.step a.table.now a.points.now (length page)
     c.in-Written.m (ok (goal.at.returns-in-Written c).In-Written)) in record {
       answer = c.list.ensures.answer
-          ∙ ap₂ (λ v ps. list_outcome (list_input a.version a.d a.n v a.s a.table.now ps (length page))) vertices (front (goal.at.returns-in-Written c).In-Written).1
+          ∙ ap₂ (λ v ps. list_outcome (list_input a.version a.d a.n v a.s a.table.now ps (length page))) vertices
+          (front (goal.at.returns-in-Written c).In-Written).1
           ∙ list_counted i
           ∙ ap counted stage;
       page = c.list.ensures.buffer
           ∙ ap₂ {C = List ℕ}
-          (λ v ps. list_buffer (list_input a.version a.d a.n v a.s a.table.now ps (length page)) page) vertices (front (goal.at.returns-in-Written c).In-Written).1
+          (λ v ps. list_buffer (list_input a.version a.d a.n v a.s a.table.now ps (length page)) page) vertices
+          (front (goal.at.returns-in-Written c).In-Written).1
           ∙ list_left i page
           ∙ ap (λ o. page_after o page) stage;
     }

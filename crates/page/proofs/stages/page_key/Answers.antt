@@ -39,11 +39,16 @@ cells c = c.read.new.cells
 abbrev points : In-Accepted → List Float
 points c = c.read.new.points
 
-front : (c : After-list_words-words) → let words = c.list_words-words.result in (words ≤ length (cells (goal.at.After-list_words-words c).In-Accepted)) × (take words (cells (goal.at.After-list_words-words c).In-Accepted) ≡ file_words (bytes (goal.at.After-list_words-words c).After-read))
+front : (c : After-list_words-words) → let words = c.list_words-words.result in
+    (words ≤ length (cells (goal.at.After-list_words-words c).In-Accepted)) ×
+    (take words (cells (goal.at.After-list_words-words c).In-Accepted) ≡ file_words (bytes (goal.at.After-list_words-words c).After-read))
 front c =
-    rw c.list_words-words.ensures (cells_front (bytes (goal.at.After-list_words-words c).After-read) (header (goal.at.After-list_words-words c).In-Accepted) (ok (goal.at.After-list_words-words c).In-Accepted) _ (cells (goal.at.After-list_words-words c).In-Accepted) c.read.ensures.cells)
+    rw c.list_words-words.ensures
+    (cells_front (bytes (goal.at.After-list_words-words c).After-read) (header (goal.at.After-list_words-words c).In-Accepted)
+    (ok (goal.at.After-list_words-words c).In-Accepted) _ (cells (goal.at.After-list_words-words c).In-Accepted) c.read.ensures.cells)
 
-front-points : (c : In-Accepted) → (floats c ≤ length (points c)) × (take (floats c) (points c) ≡ file_points (bytes (goal.at.In-Accepted c).After-read))
+front-points : (c : In-Accepted) → (floats c ≤ length (points c)) ×
+    (take (floats c) (points c) ≡ file_points (bytes (goal.at.In-Accepted c).After-read))
 front-points c = points_front (bytes (goal.at.In-Accepted c).After-read) (header c) (ok c) _ (points c) c.read.ensures.points
 
 pub returns-then-input-gt65536 : goal.returns-then-input-gt65536
@@ -65,13 +70,17 @@ pub slice_bounds-cells-end : goal.slice_bounds-cells-end
 slice_bounds-cells-end c = (front c).0
 
 pub slice_bounds-winged_key-end : goal.slice_bounds-winged_key-end
-slice_bounds-winged_key-end c = sym (length-take-le _ (cells (goal.at.slice_bounds-winged_key-end c).In-Accepted) (front (goal.at.slice_bounds-winged_key-end c).After-list_words-words).0)
+slice_bounds-winged_key-end c = sym
+    (length-take-le _ (cells (goal.at.slice_bounds-winged_key-end c).In-Accepted)
+    (front (goal.at.slice_bounds-winged_key-end c).After-list_words-words).0)
 
 pub slice_bounds-points-end : goal.slice_bounds-points-end
 slice_bounds-points-end c = (front-points (goal.at.slice_bounds-points-end c).In-Accepted).0
 
 pub slice_bounds-winged_key-end-in-Accepted : goal.slice_bounds-winged_key-end-in-Accepted
-slice_bounds-winged_key-end-in-Accepted c = sym (length-take-le _ (points (goal.at.slice_bounds-winged_key-end-in-Accepted c).In-Accepted) (front-points (goal.at.slice_bounds-winged_key-end-in-Accepted c).In-Accepted).0)
+slice_bounds-winged_key-end-in-Accepted c = sym
+    (length-take-le _ (points (goal.at.slice_bounds-winged_key-end-in-Accepted c).In-Accepted)
+    (front-points (goal.at.slice_bounds-winged_key-end-in-Accepted c).In-Accepted).0)
 
 pub returns-in-Accepted : goal.returns-in-Accepted
 returns-in-Accepted c =

@@ -26,16 +26,20 @@ buffer c = c.sweep.new.out
 ok : (c : In-Written) → sweep_outcome (told (goal.at.In-Written c).After-sweep) ≡ accepted c.in-Written.m
 ok c = sym c.in-Written.ensures.answer
 
-front : (c : In-Written) → (c.in-Written.m ≤ length (buffer c)) × (take c.in-Written.m (buffer c) ≡ swept_words (told (goal.at.In-Written c).After-sweep))
+front : (c : In-Written) → (c.in-Written.m ≤ length (buffer c)) ×
+    (take c.in-Written.m (buffer c) ≡ swept_words (told (goal.at.In-Written c).After-sweep))
 front c =
     let i = told (goal.at.In-Written c).After-sweep in
     swept_front i.d i.v i.s i.h i.table word_room c.in-Written.m (ok c) _ (buffer c) c.sweep.ensures.buffer
 
-limits : (c : In-Written) → SweepLimits (told (goal.at.In-Written c).After-sweep).d (told (goal.at.In-Written c).After-sweep).v (told (goal.at.In-Written c).After-sweep).s (told (goal.at.In-Written c).After-sweep).h
+limits : (c : In-Written) → SweepLimits (told (goal.at.In-Written c).After-sweep).d (told (goal.at.In-Written c).After-sweep).v
+    (told (goal.at.In-Written c).After-sweep).s (told (goal.at.In-Written c).After-sweep).h
 limits c = let i = told (goal.at.In-Written c).After-sweep in swept_limits i.d i.v i.s i.h i.table word_room c.in-Written.m (ok c)
 
 few : (c : In-Written) →
-    ((told (goal.at.In-Written c).After-sweep).s * ((told (goal.at.In-Written c).After-sweep).d + 1) ≤ 28672) × ((told (goal.at.In-Written c).After-sweep).h * ((told (goal.at.In-Written c).After-sweep).s * ((told (goal.at.In-Written c).After-sweep).d + 1)) ≤ 1835008)
+    ((told (goal.at.In-Written c).After-sweep).s * ((told (goal.at.In-Written c).After-sweep).d + 1) ≤ 28672) ×
+    ((told (goal.at.In-Written c).After-sweep).h *
+    ((told (goal.at.In-Written c).After-sweep).s * ((told (goal.at.In-Written c).After-sweep).d + 1)) ≤ 1835008)
 few c =
     let i = told (goal.at.In-Written c).After-sweep in
     let l = limits c in
@@ -58,7 +62,8 @@ pub slice_bounds-swept-end : goal.slice_bounds-swept-end
 slice_bounds-swept-end c = (front (goal.at.slice_bounds-swept-end c).In-Written).0
 
 pub slice_bounds-moved_key-end : goal.slice_bounds-moved_key-end
-slice_bounds-moved_key-end c = sym (length-take-le _ (buffer (goal.at.slice_bounds-moved_key-end c).In-Written) (front (goal.at.slice_bounds-moved_key-end c).In-Written).0)
+slice_bounds-moved_key-end c = sym
+    (length-take-le _ (buffer (goal.at.slice_bounds-moved_key-end c).In-Written) (front (goal.at.slice_bounds-moved_key-end c).In-Written).0)
 
 pub returns-in-Written : goal.returns-in-Written
 returns-in-Written c =

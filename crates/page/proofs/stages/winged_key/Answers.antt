@@ -24,14 +24,16 @@ buffer c = c.wing.new.table
 ok : (c : In-Written) → wing_outcome (told (goal.at.In-Written c).After-wing) ≡ accepted c.in-Written.m
 ok c = sym c.in-Written.ensures.answer
 
-front : (c : In-Written) → (c.in-Written.m ≤ length (buffer c)) × (take c.in-Written.m (buffer c) ≡ table_of_list (told (goal.at.In-Written c).After-wing).list)
+front : (c : In-Written) → (c.in-Written.m ≤ length (buffer c)) ×
+    (take c.in-Written.m (buffer c) ≡ table_of_list (told (goal.at.In-Written c).After-wing).list)
 front c = winged_front (told (goal.at.In-Written c).After-wing) _ (buffer c) c.in-Written.m c.wing.ensures.table (ok c)
 
 pub slice_bounds-table-end : goal.slice_bounds-table-end
 slice_bounds-table-end c = (front (goal.at.slice_bounds-table-end c).In-Written).0
 
 pub slice_bounds-swept_key-end : goal.slice_bounds-swept_key-end
-slice_bounds-swept_key-end c = sym (length-take-le _ (buffer (goal.at.slice_bounds-swept_key-end c).In-Written) (front (goal.at.slice_bounds-swept_key-end c).In-Written).0)
+slice_bounds-swept_key-end c = sym
+    (length-take-le _ (buffer (goal.at.slice_bounds-swept_key-end c).In-Written) (front (goal.at.slice_bounds-swept_key-end c).In-Written).0)
 
 pub returns-in-Written : goal.returns-in-Written
 returns-in-Written c =

@@ -1,7 +1,7 @@
 -- The goals that the search leaves. Assumes nothing.
 use mathlib.Core.Path.{◌≡◌}
 use mathlib.Core.List.{List}
-use Prim.Native.Nat.{ℕ, ◌+◌, ◌-◌, ◌≤◌, ◌<◌}
+use Prim.Native.Nat.{ℕ, ◌+◌, ◌≤◌, ◌<◌}
 use native.Mathlib.Omega.{arith}
 use lib.ListN.{length, drop_of_length-le}
 use borrow.Author.Rules.{Below-set}
@@ -40,12 +40,14 @@ overflow_add-next c = omega (arith, fits c)
 
 pub loop-j-preserved : goal.loop-j-preserved
 loop-j-preserved c =
-    let here : c.loop-j.j < length (words (goal.at.loop-j-preserved c).Start) = omega (arith, long (goal.at.loop-j-preserved c).Start) in
-    (omega arith, c.loop-j.invariant.1, left_bytes (words (goal.at.loop-j-preserved c).Start) c.loop-j.j here c.loop-j.invariant.2 _ c.face_word-w.ensures)
+    let s = (goal.at.loop-j-preserved c).Start in
+    let here : c.loop-j.j < length (words s) = omega (arith, long s) in
+    (omega arith, c.loop-j.invariant.1, left_bytes (words s) c.loop-j.j here c.loop-j.invariant.2 _ c.face_word-w.ensures)
 
 pub shape_of-out : goal.shape_of-out
 shape_of-out c = c.loop-j.invariant.2.same
 
 pub returns : goal.returns
 returns c =
-    left_ends (rw (drop_of_length-le (words (goal.at.returns c).Start) {i = c.loop-j.j} (omega (arith, long (goal.at.returns c).Start))) at c.loop-j.invariant.2)
+    let s = (goal.at.returns c).Start in
+    left_ends (rw (drop_of_length-le (words s) {i = c.loop-j.j} (omega (arith, long s))) at c.loop-j.invariant.2)

@@ -11,7 +11,8 @@ use Rattle.winged.proofs.faces.face_bytes.Given as goal
 
 abbrev pub invariant-loop-j : goal.invariant-loop-j
 invariant-loop-j l =
-    (l.j ≤ l.size) × (l.size ≡ face_size l.d) × Left l.at (face_bytes (face_at l.d l.table l.p l.a)) l.initial.out l.next (bytes_of (drop l.j (face_words (face_at l.d l.table l.p l.a)))) l.out
+    (l.j ≤ l.size) × (l.size ≡ face_size l.d) × Left l.at (face_bytes (face_at l.d l.table l.p l.a)) l.initial.out l.next
+    (bytes_of (drop l.j (face_words (face_at l.d l.table l.p l.a)))) l.out
 
 abbrev pub decreases-loop-j : goal.decreases-loop-j
 decreases-loop-j l = l.size - l.j

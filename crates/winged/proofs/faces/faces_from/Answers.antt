@@ -63,7 +63,8 @@ unfolding faces_rules
 returns-then-not-is_sound c =
     let a = c.args in
     let unsound = sym c.is_sound.ensures ∙ c.if-not-is_sound.true in
-    let o = sym (refuses (input (goal.at.returns-then-not-is_sound c).Start) [] 14 (rw (c.requires.0, right (goal.at.returns-then-not-is_sound c).Start, unsound))).0 in
+    let s = (goal.at.returns-then-not-is_sound c).Start in
+    let o = sym (refuses (input s) [] 14 (rw (c.requires.0, right s, unsound))).0 in
     let told = told-refused a.d a.v a.s a.table.now a.out.now 14 o in
     record {
       answer = to_z-of_z w64 _ (search rules) ∙ c.minus.ensures ∙ told.0;
@@ -83,8 +84,11 @@ pub returns-then-out-n : goal.returns-then-out-n
 unfolding faces_rules
 returns-then-out-n c =
     let a = c.args in
-    let short = lt-ltb (input (goal.at.returns-then-out-n c).Start).room (faces_length (input (goal.at.returns-then-out-n c).Start)) (omega (arith, c.if-out-n.true, needed (goal.at.returns-then-out-n c).After-face_size)) in
-    let o = sym (refuses (input (goal.at.returns-then-out-n c).Start) [] 15 (rw (c.requires.0, right (goal.at.returns-then-out-n c).Start, whole (goal.at.returns-then-out-n c).Else-not-is_sound, short))).0 in
+    let s = (goal.at.returns-then-out-n c).Start in
+    let words = needed (goal.at.returns-then-out-n c).After-face_size in
+    let short = lt-ltb (input s).room (faces_length (input s)) (omega (arith, c.if-out-n.true, words)) in
+    let fine = whole (goal.at.returns-then-out-n c).Else-not-is_sound in
+    let o = sym (refuses (input s) [] 15 (rw (c.requires.0, right s, fine, short))).0 in
     let told = told-refused a.d a.v a.s a.table.now a.out.now 15 o in
     record {
       answer = to_z-of_z w64 _ (search rules) ∙ c.minus-then-out-n.ensures ∙ told.0;
@@ -96,17 +100,23 @@ unfolding boundary_cells
 write_bytes-requires c =
     let a = c.args in
     let fs = table_faces a.d a.s a.table.now in
-    let words = words_long a.d a.s a.table.now (table (goal.at.write_bytes-requires c).Start) in
-    (table (goal.at.write_bytes-requires c).Start, omega (arith, fits (goal.at.write_bytes-requires c).Else-out-n, words, ap length (bytes-faces fs), bytes-length (faces_words fs)))
+    let t = table (goal.at.write_bytes-requires c).Start in
+    let words = words_long a.d a.s a.table.now t in
+    let room = fits (goal.at.write_bytes-requires c).Else-out-n in
+    (t, omega (arith, room, words, ap length (bytes-faces fs), bytes-length (faces_words fs)))
 
 pub returns : goal.returns
 unfolding boundary_cells faces_rules
 returns c =
     let a = c.args in
-    let room = le-ltb (input (goal.at.returns c).Start).room (faces_length (input (goal.at.returns c).Start)) (fits (goal.at.returns c).Else-out-n) in
-    let o = sym (accepts (input (goal.at.returns c).Start) [] _ _ (rw (c.requires.0, right (goal.at.returns c).Start, whole (goal.at.returns c).Else-not-is_sound, room)) refl refl).0 in
-    let told = told-accepted a.d a.v a.s a.table.now a.out.now (length (boundary_cells (input (goal.at.returns c).Start))) o in
-    let fs = table_faces a.d a.s a.table.now in record {
-      answer = to_z_pos w64 (c.count_faces.result * c.face_size.result) (omega (arith, few (goal.at.returns c).After-face_size)) ∙ ap pos (needed (goal.at.returns c).After-face_size) ∙ told.0;
+    let s = (goal.at.returns c).Start in
+    let n = (goal.at.returns c).After-face_size in
+    let room = le-ltb (input s).room (faces_length (input s)) (fits (goal.at.returns c).Else-out-n) in
+    let fine = whole (goal.at.returns c).Else-not-is_sound in
+    let o = sym (accepts (input s) [] _ _ (rw (c.requires.0, right s, fine, room)) refl refl).0 in
+    let told = told-accepted a.d a.v a.s a.table.now a.out.now (length (boundary_cells (input s))) o in
+    let fs = table_faces a.d a.s a.table.now in
+    record {
+      answer = to_z_pos w64 (c.count_faces.result * c.face_size.result) (omega (arith, few n)) ∙ ap pos (needed n) ∙ told.0;
       buffer = rw (bytes-faces fs) (c.write_bytes.ensures ∙ placed_first (faces_bytes fs) a.out.now) ∙ told.1;
     }

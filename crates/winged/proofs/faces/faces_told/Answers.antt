@@ -77,15 +77,17 @@ overflow_mul-n c = omega (arith, few c)
 pub returns-then-table-n : goal.returns-then-table-n
 returns-then-table-n c =
     let a = c.args in
-    let host =
-    host_wrong a.d a.v a.s a.table.now a.faces.now (inside (goal.at.returns-then-table-n c).Else-not-within) (λ e. c.if-table-n.true (e ∙ sym (twice (goal.at.returns-then-table-n c).After-table_words-n))) in
+    let shape = inside (goal.at.returns-then-table-n c).Else-not-within in
+    let words = twice (goal.at.returns-then-table-n c).After-table_words-n in
+    let host = host_wrong a.d a.v a.s a.table.now a.faces.now shape (λ e. c.if-table-n.true (e ∙ sym words)) in
     record {
       answer = to_z-of_z w64 _ (search rules) ∙ c.minus-then-table-n.ensures ∙ host.0;
       buffer = host.1;
     }
 
 pub faces_2048-requires : goal.faces_2048-requires
-faces_2048-requires c = at (goal.at.faces_2048-requires c).Start 2048 1 (fits 2048 (goal.at.faces_2048-requires c).Else-table-n c.if-n-le2048.true) c.if-d-eq1.true
+faces_2048-requires c =
+    at (goal.at.faces_2048-requires c).Start 2048 1 (fits 2048 (goal.at.faces_2048-requires c).Else-table-n c.if-n-le2048.true) c.if-d-eq1.true
 
 pub returns-then-d-eq1 : goal.returns-then-d-eq1
 returns-then-d-eq1 c = let k = back (goal.at.returns-then-d-eq1 c).Start 1 c.if-d-eq1.true in
@@ -98,7 +100,8 @@ pub faces_2048-requires-then-n-le2048 : goal.faces_2048-requires-then-n-le2048
 faces_2048-requires-then-n-le2048 c = fits 2048 (goal.at.faces_2048-requires-then-n-le2048 c).Else-table-n c.if-n-le2048.true
 
 pub faces_16384-requires : goal.faces_16384-requires
-faces_16384-requires c = at (goal.at.faces_16384-requires c).Start 16384 1 (fits 16384 (goal.at.faces_16384-requires c).Else-table-n c.if-n-le16384.true) c.if-d-eq1-2.true
+faces_16384-requires c =
+    at (goal.at.faces_16384-requires c).Start 16384 1 (fits 16384 (goal.at.faces_16384-requires c).Else-table-n c.if-n-le16384.true) c.if-d-eq1-2.true
 
 pub returns-then-d-eq1-2 : goal.returns-then-d-eq1-2
 returns-then-d-eq1-2 c = let k = back (goal.at.returns-then-d-eq1-2 c).Start 1 c.if-d-eq1-2.true in
@@ -111,7 +114,8 @@ pub faces_16384-requires-then-n-le16384 : goal.faces_16384-requires-then-n-le163
 faces_16384-requires-then-n-le16384 c = fits 16384 (goal.at.faces_16384-requires-then-n-le16384 c).Else-table-n c.if-n-le16384.true
 
 pub faces_40960-requires : goal.faces_40960-requires
-faces_40960-requires c = at (goal.at.faces_40960-requires c).Start 40960 1 (fits 40960 (goal.at.faces_40960-requires c).Else-table-n c.if-n-le40960.true) c.if-d-eq1-3.true
+faces_40960-requires c =
+    at (goal.at.faces_40960-requires c).Start 40960 1 (fits 40960 (goal.at.faces_40960-requires c).Else-table-n c.if-n-le40960.true) c.if-d-eq1-3.true
 
 pub returns-then-d-eq1-3 : goal.returns-then-d-eq1-3
 returns-then-d-eq1-3 c = let k = back (goal.at.returns-then-d-eq1-3 c).Start 1 c.if-d-eq1-3.true in
@@ -124,7 +128,9 @@ pub faces_40960-requires-then-n-le40960 : goal.faces_40960-requires-then-n-le409
 faces_40960-requires-then-n-le40960 c = fits 40960 (goal.at.faces_40960-requires-then-n-le40960 c).Else-table-n c.if-n-le40960.true
 
 pub faces_73728-requires : goal.faces_73728-requires
-faces_73728-requires c = at (goal.at.faces_73728-requires c).Start 73728 4 (fits 73728 (goal.at.faces_73728-requires c).Else-table-n (few (goal.at.faces_73728-requires c).After-table_words-n)) c.if-d-eq4.true
+faces_73728-requires c =
+    let room = fits 73728 (goal.at.faces_73728-requires c).Else-table-n (few (goal.at.faces_73728-requires c).After-table_words-n) in
+    at (goal.at.faces_73728-requires c).Start 73728 4 room c.if-d-eq4.true
 
 pub returns-then-d-eq4 : goal.returns-then-d-eq4
 returns-then-d-eq4 c = let k = back (goal.at.returns-then-d-eq4 c).Start 4 c.if-d-eq4.true in

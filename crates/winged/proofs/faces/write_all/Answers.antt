@@ -30,11 +30,13 @@ overflow_add-at c =
 
 pub loop-at-smaller : goal.loop-at-smaller
 loop-at-smaller c =
-    omega (arith, face_less (long (goal.at.loop-at-smaller c).Start) c.loop-at.invariant.place (inside (goal.at.loop-at-smaller c).In-loop-at) c.next_face-at-in-loop-at.ensures)
+    let cell = inside (goal.at.loop-at-smaller c).In-loop-at in
+    omega (arith, face_less (long (goal.at.loop-at-smaller c).Start) c.loop-at.invariant.place cell c.next_face-at-in-loop-at.ensures)
 
 pub loop-at-preserved : goal.loop-at-preserved
 loop-at-preserved c =
-    walk_goes c.loop-at.invariant (long (goal.at.loop-at-preserved c).Start) (inside (goal.at.loop-at-preserved c).In-loop-at) c.next_face-at-in-loop-at.ensures c.face_bytes-next.ensures
+    let cell = inside (goal.at.loop-at-preserved c).In-loop-at in
+    walk_goes c.loop-at.invariant (long (goal.at.loop-at-preserved c).Start) cell c.next_face-at-in-loop-at.ensures c.face_bytes-next.ensures
 
 pub shape_of-out : goal.shape_of-out
 shape_of-out c = c.loop-at.invariant.left.same

@@ -79,16 +79,22 @@ largest : (c : After-sweep_size-m) (k : ℕ) → words c ≤ k → Room c k 7372
 largest c k solid =
     let a = c.args in
     let l = limits (goal.at.After-sweep_size-m c).Else-not-in_limits in
+    let few = cells (goal.at.After-sweep_size-m c).Else-h-s-gt-MAX_CELLS in
     record {
       size = size (goal.at.After-sweep_size-m c).Else-table-n;
       solid = omega (arith, solid, c.table_words-n.ensures);
-      swept = table_fits (suc a.d) (swept_cells a.d a.s a.h) (omega (arith, l.dimension)) (cells (goal.at.After-sweep_size-m c).Else-h-s-gt-MAX_CELLS);
+      swept = table_fits (suc a.d) (swept_cells a.d a.s a.h) (omega (arith, l.dimension)) few;
     }
 
 every : (c : After-sweep_size-m) → words c ≤ 16384
 every c =
     let a = c.args in
-    omega (arith, point-words a.d a.s a.h (steps (goal.at.After-sweep_size-m c).Else-not-in_limits), cells (goal.at.After-sweep_size-m c).Else-h-s-gt-MAX_CELLS, c.table_words-n.ensures)
+    omega (
+      arith,
+      point-words a.d a.s a.h (steps (goal.at.After-sweep_size-m c).Else-not-in_limits),
+      cells (goal.at.After-sweep_size-m c).Else-h-s-gt-MAX_CELLS,
+      c.table_words-n.ensures,
+    )
 
 pub returns-then-not-in_limits : goal.returns-then-not-in_limits
 returns-then-not-in_limits c =
@@ -133,7 +139,9 @@ overflow_mul-h c = omega (arith, few (goal.at.overflow_mul-h c).Else-not-in_limi
 pub returns-then-h-s-gt-MAX_CELLS : goal.returns-then-h-s-gt-MAX_CELLS
 returns-then-h-s-gt-MAX_CELLS c =
     let a = c.args in
-    let row = sweep_large a.d a.v a.s a.h a.table.now (words_in a.swept.now) (inside (goal.at.returns-then-h-s-gt-MAX_CELLS c).Else-not-in_limits) (size (goal.at.returns-then-h-s-gt-MAX_CELLS c).Else-table-n) (omega (arith, c.if-h-s-gt-MAX_CELLS.true)) in
+    let ok = inside (goal.at.returns-then-h-s-gt-MAX_CELLS c).Else-not-in_limits in
+    let long = size (goal.at.returns-then-h-s-gt-MAX_CELLS c).Else-table-n in
+    let row = sweep_large a.d a.v a.s a.h a.table.now (words_in a.swept.now) ok long (omega (arith, c.if-h-s-gt-MAX_CELLS.true)) in
     let is = sweep_refused a.d a.v a.s a.h a.table.now a.swept.now 12 row in
     record {
       answer = to_z-of_z w64 _ (search rules) ∙ c.answered-then-h-s-gt-MAX_CELLS.ensures ∙ is.0;
@@ -141,7 +149,10 @@ returns-then-h-s-gt-MAX_CELLS c =
     }
 
 pub sweep_size-m-requires : goal.sweep_size-m-requires
-sweep_size-m-requires c = let l = limits (goal.at.sweep_size-m-requires c).Else-not-in_limits in (l.dimension, steps (goal.at.sweep_size-m-requires c).Else-not-in_limits, cells c)
+sweep_size-m-requires c =
+    let o = (goal.at.sweep_size-m-requires c).Else-not-in_limits in
+    let l = limits o in
+    (l.dimension, steps o, cells c)
 
 pub in_2560-requires : goal.in_2560-requires
 in_2560-requires c = small (goal.at.in_2560-requires c).After-sweep_size-m 320 2560 c.if-m-n.true

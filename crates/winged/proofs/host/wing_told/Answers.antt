@@ -17,10 +17,12 @@ pub wing_bytes-requires : goal.wing_bytes-requires
 wing_bytes-requires c = fits (goal.at.wing_bytes-requires c).Start 256 (sym c.is_small.ensures ∙ c.if-is_small.true)
 
 pub wing_bytes-requires-then-is_small-2 : goal.wing_bytes-requires-then-is_small-2
-wing_bytes-requires-then-is_small-2 c = fits (goal.at.wing_bytes-requires-then-is_small-2 c).Start 512 (sym c.is_small-2.ensures ∙ c.if-is_small-2.true)
+wing_bytes-requires-then-is_small-2 c =
+    fits (goal.at.wing_bytes-requires-then-is_small-2 c).Start 512 (sym c.is_small-2.ensures ∙ c.if-is_small-2.true)
 
 pub wing_bytes-requires-then-is_small-3 : goal.wing_bytes-requires-then-is_small-3
-wing_bytes-requires-then-is_small-3 c = fits (goal.at.wing_bytes-requires-then-is_small-3 c).Start 1024 (sym c.is_small-3.ensures ∙ c.if-is_small-3.true)
+wing_bytes-requires-then-is_small-3 c =
+    fits (goal.at.wing_bytes-requires-then-is_small-3 c).Start 1024 (sym c.is_small-3.ensures ∙ c.if-is_small-3.true)
 
 pub wing_bytes-requires-2 : goal.wing_bytes-requires-2
 wing_bytes-requires-2 c = fits (goal.at.wing_bytes-requires-2 c).Start 73728 (all_small c.args.d c.args.s)

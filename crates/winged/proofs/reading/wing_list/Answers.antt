@@ -23,7 +23,8 @@ buffer c = c.wing_table.new.table
 
 left : (c : In-Written) → TableLeft (told (goal.at.In-Written c).After-wing_table) c.in-Written.n (buffer c)
 left c =
-    table_left (told (goal.at.In-Written c).After-wing_table) _ (buffer c) _ c.in-Written.n c.wing_table.ensures.answer c.wing_table.ensures.table (ap outcome_of c.in-Written.is)
+    let made = c.wing_table.ensures in
+    table_left (told (goal.at.In-Written c).After-wing_table) _ (buffer c) _ c.in-Written.n made.answer made.table (ap outcome_of c.in-Written.is)
 
 pub slice_bounds-uploaded_bytes-end : goal.slice_bounds-uploaded_bytes-end
 slice_bounds-uploaded_bytes-end c = (left c).fits
@@ -37,10 +38,12 @@ uploaded_bytes-requires c = let l = left (goal.at.uploaded_bytes-requires c).In-
 pub returns-in-Written : goal.returns-in-Written
 returns-in-Written c =
     let i = told (goal.at.returns-in-Written c).After-wing_table in
-    let a = c.args in record {
-      answer = sym (left (goal.at.returns-in-Written c).In-Written).told;
-      buffer = c.wing_table.ensures.table ∙ wing_after _ i a.out.now (sym (left (goal.at.returns-in-Written c).In-Written).told);
-      uploaded = uploaded_after i _ _ a.uploaded.now (left (goal.at.returns-in-Written c).In-Written).told (left (goal.at.returns-in-Written c).In-Written).front _ c.uploaded_bytes.ensures;
+    let a = c.args in
+    let l = left (goal.at.returns-in-Written c).In-Written in
+    record {
+      answer = sym l.told;
+      buffer = c.wing_table.ensures.table ∙ wing_after _ i a.out.now (sym l.told);
+      uploaded = uploaded_after i _ _ a.uploaded.now l.told l.front _ c.uploaded_bytes.ensures;
     }
 
 pub returns-in-Refused : goal.returns-in-Refused

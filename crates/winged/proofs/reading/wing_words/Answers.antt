@@ -64,8 +64,10 @@ overflow_mul-n c = omega (arith, few c)
 pub returns-then-cells-n : goal.returns-then-cells-n
 returns-then-cells-n c =
     let a = c.args in
+    let shape = inside (goal.at.returns-then-cells-n c).Else-not-within in
+    let words = twice (goal.at.returns-then-cells-n c).After-list_words-n in
     record {
-      answer = wing_wrong a.d a.v a.s a.cells.now _ _ (inside (goal.at.returns-then-cells-n c).Else-not-within) (λ e. c.if-cells-n.true (e ∙ sym (twice (goal.at.returns-then-cells-n c).After-list_words-n)));
+      answer = wing_wrong a.d a.v a.s a.cells.now _ _ shape (λ e. c.if-cells-n.true (e ∙ sym words));
       buffer = refl;
       uploaded = refl;
     }

@@ -20,7 +20,9 @@ pub overflow_cast-result : goal.overflow_cast-result
 overflow_cast-result c = record { sfits = omega (arith, small c) }
 
 pub returns-in-Written : goal.returns-in-Written
-returns-in-Written c = to_z_pos w64 _ (small (goal.at.returns-in-Written c).In-Written) ∙ ap (λ (a : Answer). host_answer (outcome_of a)) (sym c.in-Written.is)
+returns-in-Written c =
+    to_z_pos w64 _ (small (goal.at.returns-in-Written c).In-Written)
+    ∙ ap (λ (a : Answer). host_answer (outcome_of a)) (sym c.in-Written.is)
 
 pub returns-in-Refused : goal.returns-in-Refused
 returns-in-Refused c =

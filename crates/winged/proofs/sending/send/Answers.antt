@@ -42,7 +42,8 @@ overflow_cast-result c = record { sfits = omega (arith, small (goal.at.overflow_
 pub returns-in-Written : goal.returns-in-Written
 returns-in-Written c =
     let n = c.in-Written.n in record {
-      answer = to_z_pos w64 n (small (goal.at.returns-in-Written c).In-Written) ∙ ap (λ (a : Answer). host_answer (outcome_of a)) (sym c.in-Written.is);
+      answer = to_z_pos w64 n (small (goal.at.returns-in-Written c).In-Written)
+          ∙ ap (λ (a : Answer). host_answer (outcome_of a)) (sym c.in-Written.is);
       buffer = c.encode.ensures
           ∙ ap (λ m. bytes_of (take n c.args.words.now) ++ drop (m * 2) c.args.out.now) (front (goal.at.returns-in-Written c).In-Written)
           ∙ ap (λ (a : Answer). sent (outcome_of a) c.args.words.now c.args.out.now) (sym c.in-Written.is);
