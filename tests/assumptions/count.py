@@ -24,7 +24,7 @@ LINKED = {"read", "write", "__errno_location", "__xpg_strerror_r", "memcpy", "me
           "__x86_get_cpuid_feature_leaf"}
 # of the toolchain's library a library of this repository names arithmetic alone
 PURE = re.compile(r"std::num::")
-REACHING = re.compile(r"\b(?:std|core)::\w+(?:::)?|\bHostRuntime\b|\bunsafe\b(?!\(no_mangle\))|\bextern\b(?! \"C\" fn winged_)|\bstatic\b")
+REACHING = re.compile(r"\b(?:std|core)::(?:\w+(?:::)?|\{)|\b(?:io|libc|os)::|\bHostRuntime\b|\bunsafe\b(?!\(no_mangle\))|\bextern\b(?! \"C\" fn winged_)|\bstatic\b")
 COMMENT = re.compile(r"//.*")
 
 
@@ -61,7 +61,7 @@ def reached(text):
 def check_itself(tally):
     good = "// unsafe\nuse words::copy;\nlet x = std::num::wrapping_add_u16(a, b);\n#[unsafe(no_mangle)]\npub extern \"C\" fn winged_key() {}\n"
     tally.check("code that reaches nothing", reached(good) == [])
-    for bad in ("use std::io;", "let x = unsafe { *p };", "unsafe extern \"C\" {", "fn f(rt: &HostRuntime) {", "static X: u8 = 0;", "use std::fs::File;"):
+    for bad in ("use std::io;", "let x = unsafe { *p };", "unsafe extern \"C\" {", "fn f(rt: &HostRuntime) {", "static X: u8 = 0;", "use std::fs::File;", "use std::{io, fs};", "let n = libc::read(0, b);", "io::count(n, b);"):
         tally.check(f"code that reaches further: {bad}", reached(good + bad) != [])
     log = "== a\naxioms libc: libc::read (1 of the 128 declared)\naxioms os: none reached of the 22 declared\nlogic=proved functions=2 axioms=1 x\nrt: a proved\n"
     tally.check("a report", told(log, "a") == ({"libc::read"}, 1))

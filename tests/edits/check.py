@@ -9,6 +9,8 @@ them, and says what the slip must bring about:
     fact: NAME          of a definition: the computed example in that file that no longer holds
     refuted: CASE       of a theorem: the case in which the prover shows that the edited sentence is false
     changes: CASE       of code: the case of the trial that comes out different (trial.py)
+    renamed: OLD NEW    a name that Rattle makes after the code, in its function's proof, and what it is after the slip:
+                        it is carried over, so that the proof is refused for what it says (as many as are needed)
 
 That the prover refuses is not enough: it also refuses what only fits a proof's text no longer. A definition has changed
 if an equation without variables now computes to another value (refusal.py), and code has changed if it writes something

@@ -14,7 +14,7 @@ class Bad(Exception):
 class Edit:
     def __init__(self, path):
         self.path = path
-        self.pairs, said, file, old = [], {}, None, None
+        self.pairs, self.renamed, said, file, old = [], {}, {}, None, None
         for line in path.read_text().splitlines():
             name, _, text = line.partition(":")
             text = text.removeprefix(" ")
@@ -24,6 +24,8 @@ class Edit:
                 old = text
             elif name == "new":
                 self.pairs.append((file, old, text))
+            elif name == "renamed":
+                self.renamed |= [text.split()]
             elif name in NAMES:
                 said[name] = text
         self.crate = said.get("crate") or path.parents[1].name
@@ -53,9 +55,13 @@ class Edit:
         return texts
 
     def apply(self, crate):
-        """Makes the replacements in a copy of the crate."""
+        """Makes the replacements in a copy of the crate, and brings names that change with the code into its function's proof."""
         for name, text in self.edited(crate).items():
             (crate / name).write_text(text)
+        if self.renamed:
+            names = re.compile("|".join(rf"{'(?<!' if name[0].isalpha() else '(?<='}\w){re.escape(name)}(?![\w'])" for name in self.renamed))
+            for file in (crate / self.place).glob("*.antt"):
+                file.write_text(names.sub(lambda found: self.renamed[found[0]], file.read_text()))
 
 
 def edits_of(name):

@@ -35,9 +35,12 @@ def text_of(name, *folders):
 
 
 def proof_of(edit):
-    """What the prover's answer to an edit stands on: its crate and those below, and what crates.txt says of them."""
+    """What the prover's answer to an edit stands on: its crate and those below, what crates.txt says of them, and the cases that
+    refute it."""
     names = [edit.crate, *below(edit.crate)]
-    return sum_of("proof", tools(), edit.label, edit.path.read_text(), [(name, crates()[name], text_of(name, "src", "specs", "proofs")) for name in names])
+    cases = pathlib.Path(__file__).resolve().parent / "refutations" / f"{edit.crate}.txt"
+    shown = cases.read_text() if edit.refuted and cases.is_file() else None
+    return sum_of("proof", tools(), edit.label, edit.path.read_text(), shown, [(name, crates()[name], text_of(name, "src", "specs", "proofs")) for name in names])
 
 
 def refuting(edit, text):

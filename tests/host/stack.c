@@ -1,6 +1,6 @@
 /* Calls the library at its largest: read, wing, sweep, move and faces, also of a table with a fault, to be run with a stack
  * of 512 KB; with the argument fault, wing of a list with a fault, with 16 KB more for the process itself; with the argument
- * long, list and key, with 1 MB. */
+ * each, wing and faces in each dimension, with as much; with the argument long, list and key, with 1 MB. */
 #include <stdint.h>
 #include <stdio.h>
 #include <string.h>
@@ -83,16 +83,25 @@ static int faulty_list(void)
     return 1;
 }
 
-int main(int count, char **names)
+/* wing and faces in each dimension, since the arrays of a call are by size. */
+static int each_dimension(void)
 {
-    if (count > 1)
-        return strcmp(names[1], "fault") == 0 ? faulty_list() : long_calls();
-    int64_t n = 0;
-    for (unsigned d = 1; d <= 7; d++) { /* in each dimension, since the arrays of a call are by size */
-        n = winged_wing(d, V, S, list, strip(d, S), table, sizeof table, uploaded, sizeof uploaded);
+    for (unsigned d = 1; d <= 7; d++) {
+        int64_t n = winged_wing(d, V, S, list, strip(d, S), table, sizeof table, uploaded, sizeof uploaded);
+
         if (refused("wing", n) || refused("faces", winged_faces(d, V, S, table, 2 * (size_t)n, out, sizeof out)))
             return 1;
     }
+    return 0;
+}
+
+int main(int count, char **names)
+{
+    if (count > 1)
+        return strcmp(names[1], "fault") == 0 ? faulty_list() : strcmp(names[1], "each") == 0 ? each_dimension() : long_calls();
+    int64_t n = winged_wing(7, V, S, list, strip(7, S), table, sizeof table, uploaded, sizeof uploaded);
+    if (refused("wing", n) || refused("faces", winged_faces(7, V, S, table, 2 * (size_t)n, out, sizeof out)))
+        return 1;
     table[2 * (size_t)n - 1] ^= 1; /* a wing that is wrong, so that all faces are matched */
     if (winged_faces(7, V, S, table, 2 * (size_t)n, out, sizeof out) != -14) {
         puts("faces: a wrong wing was not refused");
