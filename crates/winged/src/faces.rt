@@ -123,6 +123,7 @@ fn faces_2048(d: usize, v: usize, s: usize, table: &[u8], faces: &mut [u8]) -> i
 }
 
 // In the room for a table of at most 16,384 words.
+#[inline(never)]
 fn faces_16384(d: usize, v: usize, s: usize, table: &[u8], faces: &mut [u8]) -> i64
     requires { (shape_ok max_dimension d v s ≡ true) × (length table.now ≡ table_length d s * 2) × (table_length d s ≤ 16384) }
     ensures answer { result ≡ host_faces d v s table.now faces.old }
@@ -135,6 +136,7 @@ fn faces_16384(d: usize, v: usize, s: usize, table: &[u8], faces: &mut [u8]) -> 
 }
 
 // In the room for a table of at most 40,960 words.
+#[inline(never)]
 fn faces_40960(d: usize, v: usize, s: usize, table: &[u8], faces: &mut [u8]) -> i64
     requires { (shape_ok max_dimension d v s ≡ true) × (length table.now ≡ table_length d s * 2) × (table_length d s ≤ 40960) }
     ensures answer { result ≡ host_faces d v s table.now faces.old }
@@ -147,6 +149,7 @@ fn faces_40960(d: usize, v: usize, s: usize, table: &[u8], faces: &mut [u8]) -> 
 }
 
 // In the room for a table of at most 73,728 words.
+#[inline(never)]
 fn faces_73728(d: usize, v: usize, s: usize, table: &[u8], faces: &mut [u8]) -> i64
     requires { (shape_ok max_dimension d v s ≡ true) × (length table.now ≡ table_length d s * 2) × (table_length d s ≤ 73728) }
     ensures answer { result ≡ host_faces d v s table.now faces.old }
@@ -158,8 +161,7 @@ fn faces_73728(d: usize, v: usize, s: usize, table: &[u8], faces: &mut [u8]) -> 
     faces_from(d, v, s, &words[..n], faces)
 }
 
-// faces in the room for its table. The larger rooms are asked for at two places behind all tests, and decode the table themselves, so that the
-// compiler keeps them apart: a call takes the stack of its own room alone.
+// faces in the room for its table. The larger rooms stay functions of their own, so that a call takes the stack of its own room alone.
 pub(crate) fn faces_told(d: usize, v: usize, s: usize, table: &[u8], faces: &mut [u8]) -> i64
     ensures answer { result ≡ host_faces d v s table.now faces.old }
     ensures buffer { faces.new ≡ host_faces_buffer d v s table.now faces.old }
