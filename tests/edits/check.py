@@ -20,6 +20,7 @@ they are found so, in the words of their line 'worthless:'.
 
 crates/NAME/must-fail   tried by rt ci too, which asks only that they are refused
 crates/NAME/slips       of crates that take long to prove: tried here alone
+open.txt                edits, CRATE/NAME a line, of which it is not yet seen that they are refused for their meaning
 refutations/NAME.txt    cases in which an edited theorem is false: after what they share, each from a line '-- case CASE'
 
 Each is tried over what a check has proved of its crate, which is brought up to date first. A proof rests on its own
@@ -62,6 +63,14 @@ from tally import Tally  # noqa: E402
 # How many tries one program of the trial has.
 AT_ONCE = 40
 ONLY_NAMES = "is refused only because a file of its proof names what is gone"
+
+
+@functools.cache
+def still_open():
+    """The edits that open.txt names: one of them that is not refused for its meaning is told, and neither passes nor fails."""
+    file = HERE / "open.txt"
+    lines = file.read_text().splitlines() if file.is_file() else []
+    return {line for line in lines if line and not line.startswith("#")}
 
 
 def text_of(edit):
@@ -250,6 +259,10 @@ class Runner:
         return None if self.anew else kept.known(key)
 
     def tell(self, good, line):
+        label = line.split()[1].rstrip(":")
+        if not good and label in still_open():
+            print(f"open: {line}", flush=True)
+            return
         self.tally.check(line, good)
         if good:
             print(line, flush=True)
