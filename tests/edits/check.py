@@ -20,7 +20,6 @@ they are found so, in the words of their line 'worthless:'.
 
 crates/NAME/must-fail   tried by rt ci too, which asks only that they are refused
 crates/NAME/slips       of crates that take long to prove: tried here alone
-open.txt                edits of code, CRATE/NAME a line, that may still be refused by a name that they change in their proof
 refutations/NAME.txt    cases in which an edited theorem is false: after what they share, each from a line '-- case CASE'
 
 Each is tried over what a check has proved of its crate, which is brought up to date first. A proof rests on its own
@@ -63,16 +62,6 @@ from tally import Tally  # noqa: E402
 # How many tries one program of the trial has.
 AT_ONCE = 40
 ONLY_NAMES = "is refused only because a file of its proof names what is gone"
-BUT_CHANGES = "its case comes out different"
-
-
-@functools.cache
-def still_open():
-    """The edits of code that open.txt names. Each must be refused in its place and change its case, like all others; only that its
-    proof's file must not be refused for a name alone is put off for them: then it is told, and neither passes nor fails."""
-    file = HERE / "open.txt"
-    lines = file.read_text().splitlines() if file.is_file() else []
-    return {line for line in lines if line and not line.startswith("#")}
 
 
 def text_of(edit):
@@ -191,8 +180,8 @@ def tried(batch, same):
             wrong = [f"BAD EDIT: {bad}"] * len(batch)
     for at, edit in enumerate(batch):
         # The goals are named after the code, and a proof that cites them says nothing of an edit that renames one.
-        if (wrong[at] or "").endswith(ONLY_NAMES) and same.get(edit) is False:
-            wrong[at] = None if shown_false(edit) else f"{wrong[at]}; {BUT_CHANGES}"
+        if (wrong[at] or "").endswith(ONLY_NAMES) and same.get(edit) is False and shown_false(edit):
+            wrong[at] = None
     took = (time.time() - began) / len(batch)
     return [(edit, *told(edit, one, took)) for edit, one in zip(batch, wrong)]
 
@@ -261,10 +250,6 @@ class Runner:
         return None if self.anew else kept.known(key)
 
     def tell(self, good, line):
-        label = line.split()[1].rstrip(":")
-        if not good and label in still_open() and f"{ONLY_NAMES}; {BUT_CHANGES}" in line and not line.startswith("worthless"):
-            print(f"open: {line}", flush=True)
-            return
         self.tally.check(line, good)
         if good:
             print(line, flush=True)
