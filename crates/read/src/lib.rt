@@ -32,6 +32,7 @@ pub enum ReadAnswer {
     Refused(Refusal),
 }
 
+#[tactic(auto, unfolding(crate::specs::Read::header_of))]
 fn header_of(b: &[u8]) -> Header
     requires { (header_size ≤ length b.now) × (all_of in_range (tabulate 3 (amount_of b.now)) ≡ true) }
     ensures { result ≡ header_of b.now }
