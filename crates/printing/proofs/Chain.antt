@@ -1,5 +1,5 @@
 -- A line that writers write, piece by piece.
---   room_goes             a writer that is advanced by a piece has the room that is left
+--   goes_on               a writer that is advanced by a piece with room stands behind it, in as many bytes
 --   LeftAt n line ys h rest     the writer h has `rest` of the line left to write, which begins at n in bytes that were ys
 --   left_next             after its next piece the rest is left
 --   line_fits, feed_fits, line_ends     of a line of a word, two pieces and the line feed: these have room, and so has the line feed
@@ -17,10 +17,9 @@ use Rattle.words.proofs.Writing.{Left, left_starts, left_goes, left_last}
 use Rattle.printing.specs.declared.line_writer.LineWriter.{LineWriter}
 use Rattle.printing.specs.Inner.Advanced.{writer_at, advanced}
 
-pub room_goes : (h k : LineWriter) (text : List ℕ) (m : ℕ) → k ≡ advanced h text → h.at + (length text + m) ≤ length h.buf.now →
-    k.at + m ≤ length k.buf.now
-room_goes h k text m e l =
-    rw e (omega (arith, placed-length h.at text h.buf.now (omega (arith, l))))
+pub goes_on : (h k : LineWriter) (text : List ℕ) → k ≡ advanced h text → h.at + length text ≤ length h.buf.now →
+    (k.at ≡ h.at + length text) × (length k.buf.now ≡ length h.buf.now)
+goes_on h k text e l = rw e (refl, placed-length h.at text h.buf.now l)
 
 module _ (n : ℕ) (line ys : List ℕ) where
   abbrev pub LeftAt : LineWriter → List ℕ → Type 0
