@@ -14,7 +14,6 @@ so that one which stops or does not end takes no other along.
 import functools
 import pathlib
 import re
-import shutil
 import subprocess
 import tempfile
 
@@ -141,12 +140,14 @@ def every_code():
 
 
 def write_crates(root):
+    """Writes all crates, those of exports for C as plain libraries: a program can call no others."""
     (root / ".git").mkdir()
+    (root / "crates.txt").write_text((ROOT / "crates.txt").read_text().replace(" staticlib:", ":"))
     for name, code in every_code().items():
         for file, words in code.items():
             path = root / "crates" / name / file
             path.parent.mkdir(parents=True, exist_ok=True)
-            path.write_text(words)
+            path.write_text(renamed(words, [], ""))
 
 
 def run_program(case, edit):
@@ -155,7 +156,6 @@ def run_program(case, edit):
     with tempfile.TemporaryDirectory(prefix="trial-") as folder:
         root = pathlib.Path(folder)
         write_crates(root)
-        shutil.copy(ROOT / "crates.txt", root)
         crate = root / "crates" / name
         for file, words in (code_of(edit.crate, edit) if edit else {}).items():
             (root / "crates" / edit.crate / file).write_text(words)
@@ -188,7 +188,8 @@ def run(tries):
         modules = "\n".join(f"mod t{number};" for number in tried)
         calls = "\n".join(f"    if which == {number} {{\n        t{number}::run();\n    }}" for number in tried)
         (crate / "src" / "main.rt").write_text(MAIN.format(modules=modules, calls=calls))
-        (root / "crates.txt").write_text("\n".join([(ROOT / "crates.txt").read_text(), *lines, f"trial: {' '.join(sorted(used))}"]) + "\n")
+        with (root / "crates.txt").open("a") as names:
+            names.write("\n".join(["", *lines, f"trial: {' '.join(sorted(used))}"]) + "\n")
         told, said = ran(crate) if tried else ({}, "")
     if tried and not told and len(tried) > 1:
         # One of them is no program: the others are run without it.
