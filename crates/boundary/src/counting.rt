@@ -11,12 +11,10 @@ fn count_cell(d: usize, s: usize, table: &[u16], p: usize) -> usize
     ensures { result + length (faces_from d s table.now (p + 1) 0) ≡ length (faces_from d s table.now p 0) }
 {
     let mut n: usize = 0;
-    let mut a: usize = 0;
-    while a <= d {
+    for a in 0..d + 1 {
         if on_boundary(d, s, table, p, a) {
             n += 1;
         }
-        a += 1;
     }
     n
 }
@@ -28,10 +26,8 @@ fn count_all(d: usize, s: usize, table: &[u16]) -> usize
     ensures few { result ≤ 32768 }
 {
     let mut n: usize = 0;
-    let mut p: usize = 0;
-    while p < s {
+    for p in 0..s {
         n += count_cell(d, s, table, p);
-        p += 1;
     }
     n
 }

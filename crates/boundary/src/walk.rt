@@ -24,19 +24,17 @@ pub(crate) fn on_boundary(d: usize, s: usize, table: &[u16], p: usize, a: usize)
     wing(d, s, table, p, a) == EMPTY
 }
 
-// The first position of cell p on the boundary, from a on; d + 1 or more if there is none.
+// The first position of cell p on the boundary, from a on; d + 1 if there is none.
 fn next_position(d: usize, s: usize, table: &[u16], p: usize, a: usize) -> usize
     requires { Inside d s p table.now }
     ensures { NextPosition d s table.now p a result }
 {
-    let mut position = a;
-    while position <= d {
+    for position in a..d + 1 {
         if on_boundary(d, s, table, p, position) {
             return position;
         }
-        position += 1;
     }
-    position
+    d + 1
 }
 
 // Whether cell p has a face on the boundary. All are looked at, so that no branch depends on the table.
@@ -45,10 +43,8 @@ fn any_bare(d: usize, s: usize, table: &[u16], p: usize) -> bool
     ensures { Between d s table.now p (p + 1) 0 result }
 {
     let mut bare = false;
-    let mut a: usize = 0;
-    while a <= d {
-        bare = bare | on_boundary(d, s, table, p, a);
-        a += 1;
+    for a in 0..d + 1 {
+        bare |= on_boundary(d, s, table, p, a);
     }
     bare
 }
@@ -58,14 +54,12 @@ fn cell_from(d: usize, s: usize, table: &[u16], p: usize) -> usize
     requires { Table d s table.now × (p ≤ s) }
     ensures { NextCell d s table.now p result }
 {
-    let mut cell = p;
-    while cell < s {
+    for cell in p..s {
         if any_bare(d, s, table, cell) {
             return cell;
         }
-        cell += 1;
     }
-    cell
+    s
 }
 
 // The same; where the compiler knows the dimension it writes the loops out.

@@ -23,14 +23,10 @@ fn write_face(
     ensures { Put at (face_words (face_at d table.now p a)) out.old result out.new }
 {
     let size = face_size(d);
-    let mut next = at;
-    let mut j: usize = 0;
-    while j < size {
-        out[next] = face_word(d, s, table, p, a, j);
-        next += 1;
-        j += 1;
+    for j in 0..size {
+        out[at + j] = face_word(d, s, table, p, a, j);
     }
-    next
+    at + size
 }
 
 // All records; the place behind them.

@@ -2,14 +2,17 @@
 --   list_fits, table_fits     the largest list and the largest table
 --   room-made                 arrays of such lengths, as the code makes them, are a room
 --   room_small                the words of a list and of a table by its places
---   room_for                  arrays for n places are a room for a call with at most n
+--   room_for                  arrays for n places, or as long as the largest list needs, are a room for a call with at most n
 -- Assumes nothing.
+use mathlib.Core.Bool.{not}
 use mathlib.Core.List.{List}
-use Prim.Native.Nat.{ℕ, suc, ◌*◌, ◌≤◌, ◌<◌}
+use mathlib.Core.Path.{◌≡◌, ap}
+use Prim.Native.Nat.{ℕ, min, suc, ◌*◌, ◌≤◌, ◌<◌}
 use native.Mathlib.Nat.{mul_assoc, mul-le-mul}
 use native.Mathlib.Omega.{arith}
 use lib.ListN.{length, replicate, length-replicate, get_or-replicate}
 use Rattle.rules.specs.Limits.{max_cells, max_dimension}
+use Rattle.rules.proofs.InLimits.{limits_are}
 use Rattle.records.specs.Layout.{list_size, record_size, list_length, table_length}
 use Rattle.direct.specs.Inner.Direct.{Buckets, Lent}
 
@@ -50,10 +53,14 @@ room_small d s n some few =
     mul-le-mul {n₁ = s} {m₁ = record_size d} {n₂ = s} {m₂ = suc d * 3} (omega arith) (omega arith) in
     (omega (arith, list, mul_assoc s (suc d) 2), omega (arith, table, mul_assoc s (suc d) 3))
 
-pub room_for : (d v s n h : ℕ) (cells table uploaded : List ℕ) → Lent d v s cells table uploaded × (s * suc d ≤ n) → 0 < h → h ≤ 65536 →
+pub room_for : (d v s n l t h : ℕ) (cells table uploaded : List ℕ) → Lent d v s cells table uploaded × (s * suc d ≤ n) →
+    (l ≡ min (n * 2) 40960) × (t ≡ min (n * 3) 73728) × (n ≤ 32768) × (0 < h) × (h ≤ 65536) →
     (Lent d v s cells table uploaded × Buckets d s (replicate {A = ℕ} n 0) (replicate {A = ℕ} h 65535) (replicate {A = ℕ} n 0))
-    × ((list_length d s ≤ length (replicate {A = ℕ} (n * 2) 0)) × (table_length d s ≤ length (replicate {A = ℕ} (n * 3) 0)))
-room_for d v s n h cells table uploaded (lent, few) some most =
+    × ((list_length d s ≤ length (replicate {A = ℕ} l 0)) × (table_length d s ≤ length (replicate {A = ℕ} t 0)))
+room_for d v s n l t h cells table uploaded (lent, few) (list, words, _, some, most) =
     let small = room_small d s n lent.some few in
-    let room = room-made d s n (n * 2) (n * 3) h few small.0 small.1 some most in
+    let a = limits_are max_dimension d v s (ap not lent.shape) in
+    let room =
+    room-made d s n l t h few (omega (arith, small.0, list_fits d s a.dimension a.cells)) (omega (arith, small.1, table_fits d s a.dimension a.cells))
+    some most in
     ((lent, room.0), (room.1, room.2))

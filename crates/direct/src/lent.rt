@@ -5,10 +5,10 @@ ghost use Rattle.std.specs.Prelude.{◌≡◌, true, ◌≤◌, length};
 ghost use Rattle.records.specs.Layout.{list_length, table_length};
 ghost use Rattle.direct.specs.Inner.Direct.{Buckets, Direct, Lent};
 
-use crate::lent::rooms::{in_512, in_1024, in_2048, in_4096, in_8192, in_16384, in_32768};
+use crate::lent::rooms::in_places;
 use crate::uploaded::uploaded_bytes;
 use linking::try_table;
-use records::sizes::{list_words, table_words, wings_words};
+use records::sizes::{LIST_ROOM, TABLE_ROOM, list_words, table_words, wings_words};
 use rules::limits::Shape;
 use words::copy::{decode, encode};
 
@@ -75,8 +75,9 @@ fn in_arrays(
     )
 }
 
-// Tries the call in the room for so many places. True says that it is accepted and all is written; false says nothing, and nothing is.
-// Each room is asked for at two places, behind all tests, so that the compiler keeps it apart: a call takes the stack of its own room alone.
+// Tries the call in the room for so many places. True says that it is accepted and all is written; false says nothing, and nothing is. From
+// 4,096 places on, where branches are foretold less well, there are three buckets for a place, so that fewer of them are shared; in the largest
+// room the stack has no space for more.
 pub fn in_room(
     d: usize,
     v: usize,
@@ -106,43 +107,22 @@ pub fn in_room(
         return false;
     }
     if n <= 512 {
-        if d == 1 {
-            return in_512(1, v, s, cells, table, uploaded);
-        }
-        return in_512(d, v, s, cells, table, uploaded);
+        return in_places::<512, 1024, 1536, 1024>(d, v, s, cells, table, uploaded);
     }
     if n <= 1024 {
-        if d == 1 {
-            return in_1024(1, v, s, cells, table, uploaded);
-        }
-        return in_1024(d, v, s, cells, table, uploaded);
+        return in_places::<1024, 2048, 3072, 2048>(d, v, s, cells, table, uploaded);
     }
     if n <= 2048 {
-        if d == 1 {
-            return in_2048(1, v, s, cells, table, uploaded);
-        }
-        return in_2048(d, v, s, cells, table, uploaded);
+        return in_places::<2048, 4096, 6144, 4096>(d, v, s, cells, table, uploaded);
     }
     if n <= 4096 {
-        if d == 1 {
-            return in_4096(1, v, s, cells, table, uploaded);
-        }
-        return in_4096(d, v, s, cells, table, uploaded);
+        return in_places::<4096, 8192, 12288, 12288>(d, v, s, cells, table, uploaded);
     }
     if n <= 8192 {
-        if d == 1 {
-            return in_8192(1, v, s, cells, table, uploaded);
-        }
-        return in_8192(d, v, s, cells, table, uploaded);
+        return in_places::<8192, 16384, 24576, 24576>(d, v, s, cells, table, uploaded);
     }
     if n <= 16384 {
-        if d == 1 {
-            return in_16384(1, v, s, cells, table, uploaded);
-        }
-        return in_16384(d, v, s, cells, table, uploaded);
+        return in_places::<16384, 32768, 49152, 49152>(d, v, s, cells, table, uploaded);
     }
-    if d == 1 {
-        return in_32768(1, v, s, cells, table, uploaded);
-    }
-    in_32768(d, v, s, cells, table, uploaded)
+    in_places::<32768, LIST_ROOM, TABLE_ROOM, 36864>(d, v, s, cells, table, uploaded)
 }

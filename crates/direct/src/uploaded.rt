@@ -23,13 +23,10 @@ fn cell_bytes(
     ensures { Put at (bytes_of (uploaded_row d cells.now table.now p)) out.old result out.new }
 {
     let mut next = at;
-    let mut j: usize = 0;
-    while j <= d {
+    for j in 0..d + 1 {
         let w = uploaded_wing(d, s, cells, table, p, j);
-        out[next] = (w % 256) as u8;
-        out[next + 1] = (w / 256 % 256) as u8;
+        out[next..next + 2].copy_from_slice(&w.to_le_bytes());
         next += 2;
-        j += 1;
     }
     next
 }
@@ -40,10 +37,8 @@ fn uploaded_all(d: usize, s: usize, cells: &[u16], table: &[u16], out: &mut [u8]
     ensures { out.new ≡ placed 0 (bytes_of (uploaded_rows d s cells.now table.now)) out.old }
 {
     let mut next: usize = 0;
-    let mut p: usize = 0;
-    while p < s {
+    for p in 0..s {
         next = cell_bytes(d, s, cells, table, p, next, out);
-        p += 1;
     }
 }
 

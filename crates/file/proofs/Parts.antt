@@ -3,7 +3,7 @@
 --   cell_place b p         where cell p begins
 --   head_some             the sign byte is among those
 --   product_below         a product of two bounded numbers
---   cell_room_lem, cell_next  a cell is within the cells, and the next stands behind it
+--   cell_room_lem         a cell is within the cells
 --   points-length, point_at      the points: how many floats, and each by its place
 --   signs-length, sign_at_lem        the sign bytes
 --   cells-length, row_at_lem         the cells: the vertices of each are those behind its sign and material
@@ -13,7 +13,7 @@ use mathlib.Core.Path.{◌≡◌, sym, ap, ap₂, ◌∙◌}
 use mathlib.Core.Bool.{Bool, true, false, cond}
 use mathlib.Core.List.{List, ◌∷◌}
 use Prim.Native.Nat.{ℕ, suc, ◌+◌, ◌*◌, ◌≤◌, ◌<◌, zero-le}
-use native.Mathlib.Nat.{mul-le-mul_left, mul-lt-mul_of_pos_right, lt_of_le_of_lt, le_of_lt, add-mul, one-mul}
+use native.Mathlib.Nat.{mul-le-mul_left, mul-lt-mul_of_pos_right, lt_of_le_of_lt, le_of_lt}
 use native.Mathlib.Omega.{arith}
 use lib.Dec.{eqb}
 use lib.ListN.{length, drop, get_or, length-drop}
@@ -81,9 +81,6 @@ module _ (b : List ℕ) where
 
   pub sign_at_lem : (p : ℕ) → p < cell_count_of b → get_or (sign_bytes b) p 0 ≡ get_or b (cell_place b p) 0
   sign_at_lem p h = tabulate_at (cell_count_of b) (λ p. get_or (cell_part b p) 0 0) p 0 h ∙ first_byte p
-
-  pub cell_next : (p : ℕ) → cell_place b p + size b ≡ cell_place b (p + 1)
-  cell_next p = omega (arith, add-mul p 1 (size b), one-mul (size b))
 
   pub material_at_lem : (p : ℕ) → material_of b p ≡ material_from (version_of b) b (cell_place b p)
   material_at_lem p =

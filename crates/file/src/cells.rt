@@ -59,13 +59,11 @@ pub fn bad_sign(b: &[u8]) -> bool
     ensures { result ≡ any_of (λ x. not (eqb x 43 || eqb x 45)) (sign_bytes b.now) }
 {
     let count = numbers::cell_count(b);
-    let mut p: usize = 0;
-    while p < count {
+    for p in 0..count {
         let at = cell_at(b, p);
         if no_sign(b[at]) {
             return true;
         }
-        p += 1;
     }
     false
 }
@@ -75,15 +73,11 @@ fn beyond(b: &[u8], at: usize, m: usize, v: usize) -> bool
     requires { at + m * 2 ≤ length b.now }
     ensures { result ≡ any_of (λ x. leb v x) (words_from b.now at m) }
 {
-    let mut from = at;
-    let mut left = m;
-    while 0 < left {
-        let x = little::word16(b, from) as usize;
+    for k in 0..m {
+        let x = usize::from(little::word16(b, at + k * 2));
         if v <= x {
             return true;
         }
-        from += 2;
-        left -= 1;
     }
     false
 }
@@ -96,13 +90,11 @@ pub fn bad_vertex(b: &[u8]) -> bool
     let count = numbers::cell_count(b);
     let v = numbers::vertex_count(b);
     let m = numbers::dimension(b) + 1;
-    let mut p: usize = 0;
-    while p < count {
+    for p in 0..count {
         let at = vertices_at(b, p);
         if beyond(b, at, m, v) {
             return true;
         }
-        p += 1;
     }
     false
 }
@@ -112,15 +104,11 @@ fn holds(b: &[u8], at: usize, m: usize, x: u16) -> bool
     requires { at + m * 2 ≤ length b.now }
     ensures { result ≡ any_of (eqb x) (words_from b.now at m) }
 {
-    let mut from = at;
-    let mut left = m;
-    while 0 < left {
-        let y = little::word16(b, from);
+    for k in 0..m {
+        let y = little::word16(b, at + k * 2);
         if x == y {
             return true;
         }
-        from += 2;
-        left -= 1;
     }
     false
 }
@@ -130,15 +118,12 @@ fn repeated(b: &[u8], at: usize, m: usize) -> bool
     requires { at + m * 2 ≤ length b.now }
     ensures { result ≡ repeats (words_from b.now at m) }
 {
-    let mut from = at;
-    let mut left = m;
-    while 0 < left {
+    for k in 0..m {
+        let from = at + k * 2;
         let x = little::word16(b, from);
-        if holds(b, from + 2, left - 1, x) {
+        if holds(b, from + 2, m - k - 1, x) {
             return true;
         }
-        from += 2;
-        left -= 1;
     }
     false
 }
@@ -150,13 +135,11 @@ pub fn vertex_twice(b: &[u8]) -> bool
 {
     let count = numbers::cell_count(b);
     let m = numbers::dimension(b) + 1;
-    let mut p: usize = 0;
-    while p < count {
+    for p in 0..count {
         let at = vertices_at(b, p);
         if repeated(b, at, m) {
             return true;
         }
-        p += 1;
     }
     false
 }
@@ -168,13 +151,11 @@ pub fn bad_material(b: &[u8]) -> bool
 {
     let count = numbers::cell_count(b);
     let version = numbers::version(b);
-    let mut p: usize = 0;
-    while p < count {
+    for p in 0..count {
         let at = cell_at(b, p);
         if Shape::MAX_MATERIAL < material(b, version, at) {
             return true;
         }
-        p += 1;
     }
     false
 }
@@ -207,13 +188,8 @@ pub fn write_cells(b: &[u8], out: &mut [u16])
     let d = numbers::dimension(b);
     let bytes = numbers::cell_size(version, d);
     let size = list_size(d);
-    let mut p: usize = 0;
-    let mut at = numbers::cells_start(b);
-    let mut to: usize = 0;
-    while p < count {
-        write_cell(b, version, d + 1, at, out, to);
-        at += bytes;
-        to += size;
-        p += 1;
+    let start = numbers::cells_start(b);
+    for p in 0..count {
+        write_cell(b, version, d + 1, start + p * bytes, out, p * size);
     }
 }

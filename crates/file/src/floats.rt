@@ -45,11 +45,8 @@ fn points_in_range(b: &[u8]) -> bool
     ensures { result ≡ all_of in_range (file_points b.now) }
 {
     let count = numbers::point_count(b);
-    let mut k: usize = 0;
-    while k < count {
-        if in_range(b, 40 + k * 8) {
-            k += 1;
-        } else {
+    for k in 0..count {
+        if !in_range(b, 40 + k * 8) {
             return false;
         }
     }
@@ -70,9 +67,7 @@ pub fn write_points(b: &[u8], out: &mut [f64])
     ensures { out.new ≡ written (file_points b.now) out.old }
 {
     let count = numbers::point_count(b);
-    let mut k: usize = 0;
-    while k < count {
+    for k in 0..count {
         out[k] = float_at(b, 40 + k * 8);
-        k += 1;
     }
 }

@@ -1,38 +1,24 @@
 // The header of a file: its numbers, and rows 1 to 3 of the refusal table.
-ghost use Rattle.std.specs.Prelude.{◌≡◌, not, ◌+◌, ◌<◌, ◌≤◌, eqb, length, get_or, take};
-ghost use Rattle.simplex.specs.Cell.{same_row};
+ghost use Rattle.std.specs.Prelude.{◌≡◌, not, ◌+◌, ◌<◌, ◌≤◌, eqb, length, get_or};
 ghost use Rattle.file.specs.File.{header_size, version_of, dimension_of, axes_of, vertex_count_of, cell_count_of, steps_of, point_count};
 ghost use Rattle.file.specs.File.{cells_start, cell_head, cell_bytes, file_length};
 ghost use Rattle.file.specs.Tests.{not_ours, numbers_fit, numbers_ok};
 
-use rules::compare::{between, both, less};
 use rules::limits::{Shape, axes_ok, steps_ok, version_ok, with_materials};
 use words::little;
-
-fn wide(x: u8) -> usize
-    ensures { (result ≡ x) × (result < 256) }
-{
-    x as usize
-}
-
-fn long(x: u16) -> usize
-    ensures { (result ≡ x) × (result < 65536) }
-{
-    x as usize
-}
 
 pub(crate) fn byte_at(b: &[u8], at: usize) -> usize
     requires { at < length b.now }
     ensures { (result ≡ get_or b.now at 0) × (result < 256) }
 {
-    wide(b[at])
+    usize::from(b[at])
 }
 
 pub fn version(b: &[u8]) -> usize
     requires { header_size ≤ length b.now }
     ensures { (result ≡ version_of b.now) × (result < 65536) }
 {
-    long(little::word16(b, 3))
+    usize::from(little::word16(b, 3))
 }
 
 pub fn dimension(b: &[u8]) -> usize
@@ -53,21 +39,21 @@ pub fn vertex_count(b: &[u8]) -> usize
     requires { header_size ≤ length b.now }
     ensures { (result ≡ vertex_count_of b.now) × (result < 65536) }
 {
-    long(little::word16(b, 7))
+    usize::from(little::word16(b, 7))
 }
 
 pub fn cell_count(b: &[u8]) -> usize
     requires { header_size ≤ length b.now }
     ensures { (result ≡ cell_count_of b.now) × (result < 65536) }
 {
-    long(little::word16(b, 9))
+    usize::from(little::word16(b, 9))
 }
 
 pub fn steps(b: &[u8]) -> usize
     requires { header_size ≤ length b.now }
     ensures { (result ≡ steps_of b.now) × (result < 65536) }
 {
-    long(little::word16(b, 11))
+    usize::from(little::word16(b, 11))
 }
 
 // Floats of all points.
@@ -104,21 +90,6 @@ pub(crate) fn cell_size(version: usize, d: usize) -> usize
     head(version) + (d + 1) * 2
 }
 
-// Whether the bytes begin with the mark.
-fn starts_with(b: &[u8], mark: &[u8]) -> bool
-    requires { length mark.now ≤ length b.now }
-    ensures { result ≡ same_row (take (length mark.now) b.now) mark.now }
-{
-    let mut i: usize = 0;
-    while i < mark.len() {
-        if b[i] != mark[i] {
-            return false;
-        }
-        i += 1;
-    }
-    true
-}
-
 // Row 1: under 40 bytes, or mark or version wrong.
 pub fn not_ours(b: &[u8]) -> bool
     ensures { result ≡ not_ours b.now }
@@ -126,7 +97,7 @@ pub fn not_ours(b: &[u8]) -> bool
     if b.len() < 40 {
         return true;
     }
-    if starts_with(b, b"WNG") {
+    if b.starts_with(b"WNG") {
         return !version_ok(version(b));
     }
     true
@@ -136,9 +107,9 @@ fn numbers_outside(d: usize, n: usize, v: usize, s: usize, h: usize, kind: usize
     ensures { result ≡ not (numbers_fit d n v s h kind) }
 {
     let shape = Shape::within(Shape::MAX_SOURCE, d, v, s);
-    let axes = both(axes_ok(n), less(d, n));
-    let rest = both(steps_ok(h), between(1, 3, kind));
-    !both(shape, both(axes, rest))
+    let axes = axes_ok(n) && d < n;
+    let rest = steps_ok(h) && (1..=3).contains(&kind);
+    !(shape && axes && rest)
 }
 
 // Row 2: a number outside its limits, or the kind not 1 to 3.

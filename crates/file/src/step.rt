@@ -8,7 +8,7 @@ use crate::{floats, numbers};
 use points::step::{Step, Turn};
 use words::little;
 
-// The step, whose floats are in range.
+// The step, whose floats are in range: the kind, a number in the format, becomes a case of the enum here.
 pub fn step(b: &[u8]) -> Step
     requires { (header_size ≤ length b.now) × (all_of in_range (tabulate 3 (amount_of b.now)) ≡ true) }
     ensures { result ≡ step_of b.now }

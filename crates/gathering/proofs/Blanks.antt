@@ -8,10 +8,10 @@ use mathlib.Core.List.{List, [], ◌∷◌, ◌++◌, append_assoc}
 use Prim.Native.Nat.{ℕ, suc, ◌+◌, ◌≤◌, ◌<◌}
 use native.Mathlib.Numerals.{add-one}
 use native.Mathlib.Omega.{arith}
-use lib.ListN.{length, drop, get_or, replicate, set, take, length-append, length-replicate, length-set}
+use lib.ListN.{length, drop, get_or, replicate, set, take, length-append, length-set}
 use lib.Seq.{drop_at, length-take-le, take_all, take-append-le, take-take}
 use Rattle.words.specs.Inner.Placed.{placed}
-use Rattle.words.proofs.Placed.{placed-length, placed_one, placed_then, placed_word}
+use Rattle.words.proofs.Placed.{placed_one, placed_then, placed_word}
 use Rattle.simplex.specs.Cell.{Sign, cell}
 use Rattle.simplex.specs.SignWords.{sign_word}
 use Rattle.records.specs.Layout.{empty, material_place, record_size, vertex_place, wing_place}
@@ -50,14 +50,6 @@ put_before at xs ys buf room =
 
 -- the sign, the material and the wings
 module _ (d : ℕ) (t : Sign) (m at : ℕ) (buf : List ℕ) (room : at + record_size d ≤ length buf) where
-  head_long_lem : length (placed at (sign_word t ∷ m ∷ []) buf) ≡ length buf
-  head_long_lem = placed-length at (sign_word t ∷ m ∷ []) buf (omega arith)
-
-  pub around_long : length (placed (at + wing_place d 0) (replicate (suc d) empty) (placed at (sign_word t ∷ m ∷ []) buf)) ≡ length buf
-  around_long =
-      placed-length (at + wing_place d 0) (replicate (suc d) empty) (placed at (sign_word t ∷ m ∷ []) buf)
-      (omega (arith, head_long_lem, length-replicate {A = ℕ} (suc d) empty)) ∙ head_long_lem
-
   pub around : (x w : ℕ) (new : List ℕ) → x ≡ sign_word t → w ≡ wing_place d 0 →
       new ≡ placed (at + w) (replicate (d + 1) empty) (set (set buf at x) (at + material_place) m) →
       new ≡ placed (at + wing_place d 0) (replicate (suc d) empty) (placed at (sign_word t ∷ m ∷ []) buf)

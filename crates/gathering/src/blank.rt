@@ -14,12 +14,10 @@ fn store(n: usize, row: [u16; 8], to: usize, table: &mut [u16])
     requires { (n ≤ 8) × (length row ≡ 8) × (to + n ≤ length table.old) }
     ensures { table.new ≡ placed to (take n row) table.old }
 {
-    let mut j: usize = 0;
-    while j < 8 {
+    for j in 0..8 {
         if j < n {
             table[to + j] = row[j];
         }
-        j += 1;
     }
 }
 
@@ -28,11 +26,7 @@ fn clear(n: usize, to: usize, table: &mut [u16])
     requires { (n ≤ 8) × (to + n ≤ length table.old) }
     ensures { table.new ≡ placed to (replicate n empty) table.old }
 {
-    let mut j: usize = 0;
-    while j < n {
-        table[to + j] = EMPTY;
-        j += 1;
-    }
+    table[to..to + n].fill(EMPTY);
 }
 
 // Writes the sign and the material of the record at place `at`, and its d + 1 empty wings: all but its vertices.

@@ -1,6 +1,7 @@
 // The table of a list of cells before it has wings: each cell is read, put in ascending order and written.
 #![tactic(auto)]
 
+mod all;
 mod blank;
 mod cells;
 mod ranked;
@@ -11,6 +12,7 @@ ghost use Rattle.records.specs.Layout.{list_length, list_size, table_length};
 ghost use Rattle.soundness.specs.Inner.Certified.{Fine};
 ghost use Rattle.gathering.specs.Inner.Gathering.{blank_table};
 
+use crate::all::{gather_all, gather_wide};
 use soundness::rows::all_fine;
 
 // Writes the table of the s cells of a list, all wings empty. True says that the sign words are 0 and 1, and that all records are fine. Rows of
@@ -22,18 +24,18 @@ pub fn gather(d: usize, v: usize, s: usize, cells: &[u16], table: &mut [u16]) ->
     ensures signs { result ≡ true → (p : ℕ) → p < s → get_or (part (list_size d) p cells.now) 0 0 ≤ 1 }
 {
     if d == 1 {
-        return cells::gather_all(1, v, s, cells, table);
+        return gather_all::<true>(1, v, s, cells, table);
     }
     if d == 2 {
-        return cells::gather_all(2, v, s, cells, table);
+        return gather_all::<true>(2, v, s, cells, table);
     }
     if d == 3 {
-        return cells::gather_all(3, v, s, cells, table);
+        return gather_all::<true>(3, v, s, cells, table);
     }
     if d == 4 {
-        return cells::gather_all(4, v, s, cells, table);
+        return gather_all::<true>(4, v, s, cells, table);
     }
-    let signed = ranked::gather_wide(d, s, cells, table);
+    let signed = gather_wide(d, v, s, cells, table);
     let fine = all_fine(d, v, s, table);
     signed & fine
 }

@@ -1,17 +1,19 @@
 -- Floats in bytes.
 --   floats_length, float_of       how many there are, and each by its place
 --   words_front, floats_front     words and floats decoded to the front of an array
---   low-length, low_next          the bytes of a number: how many, and the lowest before the others
+--   low-length, low_le            the bytes of a number: how many, and that `to_le_bytes` has them
 --   float_bytes-length            how many bytes floats have
 -- Assumes nothing.
 use mathlib.Core.Path.{◌≡◌, refl, sym, ap, ◌∙◌}
 use mathlib.Core.List.{List, [], ◌∷◌, ◌++◌}
-use Prim.Native.Nat.{ℕ, zero, suc, ◌-◌, ◌*◌, ◌/◌, ◌%◌, ◌<◌}
-use native.Mathlib.Nat.{not-suc-le-zero}
+use Prim.Native.Nat.{ℕ, zero, suc, ◌*◌, ◌/◌, ◌%◌, ◌^◌, ◌<◌}
+use native.Mathlib.Nat.{pow-suc, div-one, div-div-eq-div-mul}
 use native.Mathlib.Omega.{arith}
 use lib.Ieee.{Float, nan, binary64, to_bits}
 use lib.ListN.{length, get_or, take, length-append}
 use lib.Seq.{take_at}
+use mir.Syntax.{w64}
+use Rattle.std.specs.Int.{byte_at, bytes_low_first, to_le_bytes}
 use Rattle.words.specs.Bytes.{float64, words16}
 use Rattle.words.proofs.Bytes.{words_count}
 use Rattle.words.proofs.Records.{tabulate-length, tabulate_at}
@@ -38,11 +40,20 @@ pub low-length : (m w : ℕ) → length (low_bytes m w) ≡ m
 low-length zero w = refl
 low-length (suc m) w = ap suc (low-length m (w / 256))
 
-pub low_next : (m w : ℕ) → 0 < m → low_bytes m w ≡ (w % 256) ∷ low_bytes (m - 1) (w / 256)
-low_next zero w h = absurd (not-suc-le-zero h)
-low_next (suc m) w h =
-    let e : m ≡ suc m - 1 = omega arith in
-    ap (λ k. (w % 256) ∷ low_bytes k (w / 256)) e
+-- the bytes from byte i on are those of what is above it
+byte-above : (i n : ℕ) → byte_at i n ≡ n / 256 ^ i % 256
+byte-above zero n = ap (λ m. m % 256) (sym (div-one n))
+byte-above (suc i) n = refl
+
+low-from : (m i n : ℕ) → bytes_low_first i m n ≡ low_bytes m (n / 256 ^ i)
+low-from zero i n = refl
+low-from (suc m) i n =
+    let above : n / 256 ^ suc i ≡ n / 256 ^ i / 256 = ap (λ k. n / k) (pow-suc 256 i) ∙ sym (div-div-eq-div-mul n (256 ^ i) 256) in
+    ap (λ b. b ∷ bytes_low_first (suc i) m n) (byte-above i n)
+    ∙ ap (λ (bs : List ℕ). (n / 256 ^ i % 256) ∷ bs) (low-from m (suc i) n ∙ ap (low_bytes m) above)
+
+pub low_le : (n : ℕ) → to_le_bytes w64 n ≡ low_bytes 8 n
+low_le n = low-from 8 0 n ∙ ap (low_bytes 8) (div-one n)
 
 pub float_bytes-length : (xs : List Float) → length (float_bytes xs) ≡ length xs * 8
 unfolding float_bytes

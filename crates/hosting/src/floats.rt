@@ -18,12 +18,8 @@ pub const FLOAT_ROOM: usize = 32768;
 pub fn all_in_range(b: &[u8]) -> bool
     ensures { result ≡ all_of in_range (floats64 b.now) }
 {
-    let count = b.len() / 8;
-    let mut k: usize = 0;
-    while k < count {
-        if bits_in_range(little::word64(b, k * 8)) {
-            k += 1;
-        } else {
+    for k in 0..b.len() / 8 {
+        if !bits_in_range(little::word64(b, k * 8)) {
             return false;
         }
     }
@@ -35,11 +31,8 @@ pub fn decode(b: &[u8], out: &mut [f64])
     requires { (all_of in_range (floats64 b.now) ≡ true) × (length b.now / 8 ≤ length out.old) }
     ensures { out.new ≡ written (floats64 b.now) out.old }
 {
-    let count = b.len() / 8;
-    let mut k: usize = 0;
-    while k < count {
+    for k in 0..b.len() / 8 {
         out[k] = float_of(little::word64(b, k * 8));
-        k += 1;
     }
 }
 
@@ -67,15 +60,7 @@ fn put_float(x: f64, out: &mut [u8], at: usize)
     requires { (in_range x ≡ true) × (at + 8 ≤ length out.old) }
     ensures { out.new ≡ placed at (low_bytes 8 (to_bits binary64 x)) out.old }
 {
-    let mut bits = f64::to_bits(x);
-    let mut to = at;
-    let mut left: usize = 8;
-    while 0 < left {
-        out[to] = (bits % 256) as u8;
-        bits = bits / 256;
-        to += 1;
-        left -= 1;
-    }
+    out[at..at + 8].copy_from_slice(&x.to_le_bytes());
 }
 
 // Writes the bytes of the floats from the start of `out`.
@@ -83,9 +68,7 @@ pub fn encode(xs: &[f64], out: &mut [u8])
     requires { (all_of in_range xs.now ≡ true) × (length xs.now * 8 ≤ length out.old) }
     ensures { out.new ≡ written (float_bytes xs.now) out.old }
 {
-    let mut k: usize = 0;
-    while k < xs.len() {
-        put_float(xs[k], out, k * 8);
-        k += 1;
+    for (k, x) in xs.iter().enumerate() {
+        put_float(*x, out, k * 8);
     }
 }

@@ -14,8 +14,7 @@ use crate::floats;
 use crate::floats::FLOAT_ROOM;
 use list::{list, numbers_fit};
 use records::sizes::{TABLE_ROOM, table_words};
-use rules::compare::{both, equal};
-use rules::refusal::{Answer, Refusal};
+use rules::refusal::Refusal;
 use words::copy;
 
 // Row 3: two bytes for each word of the table, eight for each float of the points.
@@ -23,8 +22,7 @@ fn lengths_fit(d: usize, n: usize, v: usize, s: usize, table: usize, points: usi
     requires { (d ≤ max_dimension) × (n ≤ max_axes) × (v ≤ max_vertices) × (s ≤ max_cells) }
     ensures { result ≡ (eqb table (table_length d s * 2) && eqb points (v * n * 8)) }
 {
-    let right = equal(table, table_words(d, s) * 2);
-    both(right, equal(points, v * n * 8))
+    table == table_words(d, s) * 2 && points == v * n * 8
 }
 
 // List on bytes of the right lengths, whose floats are in range.
@@ -37,7 +35,7 @@ fn list_decoded(
     table: &[u8],
     points: &[u8],
     text: &mut [u8],
-) -> Answer
+) -> Result<usize, Refusal>
     requires { (length table.now ≤ table_room * 2) × (length points.now ≤ float_room * 8) × (all_of in_range (floats64 points.now) ≡ true) }
     ensures answer { outcome_of result
         ≡ list_outcome (host_list_input version d n v s table.now points.now text.old) }
@@ -62,18 +60,18 @@ pub fn list_bytes(
     table: &[u8],
     points: &[u8],
     text: &mut [u8],
-) -> Answer
+) -> Result<usize, Refusal>
     ensures answer { outcome_of result ≡ host_list_outcome version d n v s table.now points.now text.old }
     ensures buffer { text.new ≡ host_list_buffer version d n v s table.now points.now text.old }
 {
     if !numbers_fit(version, d, n, v, s) {
-        return Answer::Refused(Refusal::OutsideLimits);
+        return Err(Refusal::OutsideLimits);
     }
     if !lengths_fit(d, n, v, s, table.len(), points.len()) {
-        return Answer::Refused(Refusal::WrongLength);
+        return Err(Refusal::WrongLength);
     }
     if !floats::all_in_range(points) {
-        return Answer::Refused(Refusal::FloatRange);
+        return Err(Refusal::FloatRange);
     }
     list_decoded(version, d, n, v, s, table, points, text)
 }

@@ -15,9 +15,8 @@ use crate::floats::FLOAT_ROOM;
 use crate::step_bits::{StepBits, step_in_range, step_of, step_unfit};
 use motion::move_points;
 use points::step::Step;
-use rules::compare::{between, both, differ, less};
 use rules::limits::{Shape, axes_ok, steps_ok, swept_vertices, vertices_ok};
-use rules::refusal::{Answer, Refusal};
+use rules::refusal::Refusal;
 
 // Floats of the most points that can be moved: a step doubles them.
 const MOVED_ROOM: usize = 16384;
@@ -26,8 +25,7 @@ const MOVED_ROOM: usize = 16384;
 fn numbers_fit(n: usize, v: usize, h: usize, kind: usize) -> bool
     ensures { result ≡ ((axes_ok n && (vertices_ok v && steps_ok h)) && within 1 3 kind) }
 {
-    let counts = both(vertices_ok(v), steps_ok(h));
-    both(both(axes_ok(n), counts), between(1, 3, kind))
+    axes_ok(n) && vertices_ok(v) && steps_ok(h) && (1..=3).contains(&kind)
 }
 
 // Row 4.
@@ -41,7 +39,14 @@ fn floats_fit(t: StepBits, points: &[u8]) -> bool
 }
 
 // The levels of decoded points.
-fn move_decoded(n: usize, v: usize, h: usize, step: Step, points: &[u8], out: &mut [f64]) -> Answer
+fn move_decoded(
+    n: usize,
+    v: usize,
+    h: usize,
+    step: Step,
+    points: &[u8],
+    out: &mut [f64],
+) -> Result<usize, Refusal>
     requires { (length points.now ≤ moved_room * 8) × (all_of in_range (floats64 points.now) ≡ true) }
     ensures answer { outcome_of result ≡ move_outcome (move_input n v h step (floats64 points.now) (length out.old)) }
     ensures buffer { out.new
@@ -54,7 +59,14 @@ fn move_decoded(n: usize, v: usize, h: usize, step: Step, points: &[u8], out: &m
 }
 
 // The levels' bytes, if the lent ones are enough.
-fn move_sent(n: usize, v: usize, h: usize, step: Step, points: &[u8], levels: &mut [u8]) -> Answer
+fn move_sent(
+    n: usize,
+    v: usize,
+    h: usize,
+    step: Step,
+    points: &[u8],
+    levels: &mut [u8],
+) -> Result<usize, Refusal>
     requires { (length points.now ≤ moved_room * 8) × (all_of in_range (floats64 points.now) ≡ true) }
     ensures answer { outcome_of result
         ≡ in_room (length levels.old / 8) (move_outcome (move_input n v h step (floats64 points.now) float_room)) }
@@ -62,16 +74,12 @@ fn move_sent(n: usize, v: usize, h: usize, step: Step, points: &[u8], levels: &m
         ≡ after (outcome_of result) (float_bytes (moved_levels (move_input n v h step (floats64 points.now) float_room))) levels.old }
 {
     let mut out = [0.0f64; FLOAT_ROOM];
-    match move_decoded(n, v, h, step, points, &mut out) {
-        Answer::Written(m) => {
-            if levels.len() / 8 < m {
-                return Answer::Refused(Refusal::NoRoom);
-            }
-            floats::encode(&out[..m], levels);
-            Answer::Written(m)
-        }
-        Answer::Refused(r) => Answer::Refused(r),
+    let m = move_decoded(n, v, h, step, points, &mut out)?;
+    if levels.len() / 8 < m {
+        return Err(Refusal::NoRoom);
     }
+    floats::encode(&out[..m], levels);
+    Ok(m)
 }
 
 pub fn move_bytes(
@@ -81,25 +89,25 @@ pub fn move_bytes(
     t: StepBits,
     points: &[u8],
     levels: &mut [u8],
-) -> Answer
+) -> Result<usize, Refusal>
     ensures answer { outcome_of result ≡ host_move_outcome (move_told n v h t points.now (length levels.old / 8)) }
     ensures buffer { levels.new
         ≡ host_move_buffer (move_told n v h t points.now (length levels.old / 8)) levels.old }
 {
     if !numbers_fit(n, v, h, t.kind) {
-        return Answer::Refused(Refusal::OutsideLimits);
+        return Err(Refusal::OutsideLimits);
     }
-    if differ(points.len(), v * n * 8) {
-        return Answer::Refused(Refusal::WrongLength);
+    if points.len() != v * n * 8 {
+        return Err(Refusal::WrongLength);
     }
     if !floats_fit(t, points) {
-        return Answer::Refused(Refusal::FloatRange);
+        return Err(Refusal::FloatRange);
     }
     if step_unfit(n, t) {
-        return Answer::Refused(Refusal::StepUnfit);
+        return Err(Refusal::StepUnfit);
     }
-    if less(Shape::MAX_VERTICES, swept_vertices(v, h)) {
-        return Answer::Refused(Refusal::SweptTooLarge);
+    if swept_vertices(v, h) > Shape::MAX_VERTICES {
+        return Err(Refusal::SweptTooLarge);
     }
     move_sent(n, v, h, step_of(t), points, levels)
 }

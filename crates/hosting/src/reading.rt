@@ -13,8 +13,8 @@ ghost use Rattle.hosting.specs.Reads.{host_read_outcome, host_read_header, host_
 use crate::floats::FLOAT_ROOM;
 use file::{cells, numbers};
 use printing::writing::put_text;
-use read::{ReadAnswer, read_cells};
-use rules::refusal::{Answer, Refusal};
+use read::read_cells;
+use rules::refusal::Refusal;
 use words::copy;
 
 // Words of the largest list that is read: 4,096 cells of dimension 6.
@@ -23,15 +23,13 @@ const WORD_ROOM: usize = 36864;
 const TOLD_SIZE: usize = 42;
 
 // The cells' words, with room for the largest file. The points are copied from the file's bytes as they stand there.
-fn read_words(file: &[u8], words: &mut [u16]) -> Answer
+fn read_words(file: &[u8], words: &mut [u16]) -> Result<usize, Refusal>
     requires { length words.old ≡ word_room }
     ensures answer { outcome_of result ≡ word_count file.now (read_outcome (read_input file.now word_room float_room)) }
     ensures buffer { words.new ≡ read_cells (read_input file.now word_room float_room) words.old }
 {
-    match read_cells(file, words, FLOAT_ROOM) {
-        ReadAnswer::Accepted(_) => Answer::Written(cells::words(file)),
-        ReadAnswer::Refused(r) => Answer::Refused(r),
-    }
+    read_cells(file, words, FLOAT_ROOM)?;
+    Ok(cells::words(file))
 }
 
 // Row 15: bytes of the three lent buffers.
@@ -60,6 +58,7 @@ fn put_numbers(file: &[u8], header: &mut [u8])
         numbers::vertex_count(file) as u16,
         numbers::cell_count(file) as u16,
         numbers::steps(file) as u16,
+        // with u16::from the proof of these three does not close
         file[13] as u16,
         file[14] as u16,
         file[15] as u16,
@@ -84,7 +83,12 @@ fn put_points(file: &[u8], points: &mut [u8])
     put_text(points, 0, &file[40..end]);
 }
 
-pub fn read_bytes(file: &[u8], header: &mut [u8], cells: &mut [u8], points: &mut [u8]) -> Answer
+pub fn read_bytes(
+    file: &[u8],
+    header: &mut [u8],
+    cells: &mut [u8],
+    points: &mut [u8],
+) -> Result<usize, Refusal>
     ensures answer { outcome_of result ≡ host_read_outcome file.now header.old cells.old points.old }
     ensures header { header.new
         ≡ host_read_header file.now header.old cells.old points.old }
@@ -93,16 +97,12 @@ pub fn read_bytes(file: &[u8], header: &mut [u8], cells: &mut [u8], points: &mut
         ≡ host_read_points file.now header.old cells.old points.old }
 {
     let mut words = [0u16; WORD_ROOM];
-    match read_words(file, &mut words) {
-        Answer::Written(n) => {
-            if no_room(file, header.len(), cells.len(), points.len()) {
-                return Answer::Refused(Refusal::NoRoom);
-            }
-            put_header(file, header);
-            copy::encode(&words[..n], cells);
-            put_points(file, points);
-            Answer::Written(n)
-        }
-        Answer::Refused(r) => Answer::Refused(r),
+    let n = read_words(file, &mut words)?;
+    if no_room(file, header.len(), cells.len(), points.len()) {
+        return Err(Refusal::NoRoom);
     }
+    put_header(file, header);
+    copy::encode(&words[..n], cells);
+    put_points(file, points);
+    Ok(n)
 }

@@ -9,7 +9,7 @@ ghost use Rattle.hosting.specs.Moves.{told_step, any_set, unused_set};
 use crate::floats::{bits_in_range, float_of};
 use points::step::{Step, Turn};
 
-// Kind 1 is a slide, 2 a slant, 3 a turn. What a kind leaves unused is to be 0.
+// Kind 1 is a slide, 2 a slant, 3 a turn: a number, since the C interface tells it so. What a kind leaves unused is to be 0.
 #[derive(Clone, Copy)]
 pub struct StepBits {
     pub kind: usize,

@@ -7,7 +7,6 @@ ghost use Rattle.io.specs.Counts.{IsPrefixLen};
 ghost use Rattle.page.specs.Key.{byte_room, printed};
 
 use page::key::key_text;
-use rules::refusal::Answer;
 use std::io::{Read, Result, Stdin};
 
 // Writes what is printed for the input from the start of the text, and answers the count of its bytes.
@@ -16,10 +15,7 @@ fn print_to(input: &[u8], text: &mut [u8]) -> usize
     ensures fits { IsPrefixLen result text.new }
     ensures bytes { take result text.new ≡ printed input.now }
 {
-    match key_text(input, text) {
-        Answer::Written(n) => n,
-        Answer::Refused(_) => 0,
-    }
+    key_text(input, text).unwrap_or(0)
 }
 
 // Reads until the input ends or the buffer is full, and answers the count of bytes; an error where a read fails, for whatever

@@ -1,15 +1,15 @@
 -- A table with one wing set: the cells and the other wings are as they were.
 -- Assumes nothing.
-use mathlib.Core.Path.{◌≡◌, refl, sym, ap, ap₂, ◌∙◌}
+use mathlib.Core.Path.{◌≡◌, sym, ap, ◌∙◌}
 use mathlib.Core.List.{List}
-use Prim.Native.Nat.{ℕ, suc, ◌+◌, ◌*◌, ◌/◌, ◌%◌, ◌≤◌, ◌<◌}
+use Prim.Native.Nat.{ℕ, ◌+◌, ◌*◌, ◌/◌, ◌%◌, ◌≤◌, ◌<◌}
 use native.Mathlib.Omega.{arith}
 use lib.ListN.{length, get_or, take, set, length-set}
 use lib.Seq.{ext_get_or, get_or-set_other, get_or-set_same, get_or-take, length-take-le}
 use Rattle.words.specs.Records.{part}
 use Rattle.matching.proofs.Quotients.{cell_of_key, place_of_key}
-use Rattle.records.specs.Layout.{cell_of, entry_in, list_size, record_size, table_length, wing_place}
-use Rattle.records.specs.Inner.Inside.{sign_in, wing_in}
+use Rattle.records.specs.Layout.{cell_of, list_size, record_size, table_length, wing_place}
+use Rattle.records.specs.Inner.Inside.{wing_in}
 use Rattle.records.proofs.Parts.{inside, part_at}
 use Rattle.records.proofs.Places.{record_long, wing_at_lem}
 use Rattle.linking.specs.Inner.Linking.{SameCells}

@@ -107,7 +107,7 @@ fn link(
     pair(d, s, table, f, p, a)
 }
 
-// All n keys, in their order; whether none is given up.
+// All n keys, in their order; whether none is given up. It is one flat loop, in which the choice by dimension costs least.
 pub fn link_all(
     d: usize,
     s: usize,
@@ -123,12 +123,10 @@ pub fn link_all(
 {
     let mut p: usize = 0;
     let mut a: usize = 0;
-    let mut g: usize = 0;
-    while g < n {
+    for g in 0..n {
         if !link(d, s, table, hash, head, next, g, p, a) {
             return false;
         }
-        g += 1;
         if a < d {
             a += 1;
         } else {

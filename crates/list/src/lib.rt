@@ -9,17 +9,15 @@ ghost use Rattle.list.specs.List.{numbers_fit, list_input, list_outcome, list_bu
 use listing::key::{key_size, put_key};
 use points::range::all_in_range;
 use records::sizes::table_words;
-use rules::compare::{both, equal, less};
 use rules::limits::{Shape, axes_ok, version_ok};
-use rules::refusal::{Answer, Refusal};
+use rules::refusal::Refusal;
 use soundness::is_sound;
 
 // Row 2: whether it passes.
 pub fn numbers_fit(version: usize, d: usize, n: usize, v: usize, s: usize) -> bool
     ensures { result ≡ numbers_fit version d n v s }
 {
-    let fits = both(Shape::within(Shape::MAX_DIMENSION, d, v, s), axes_ok(n));
-    both(version_ok(version), fits)
+    version_ok(version) && Shape::within(Shape::MAX_DIMENSION, d, v, s) && axes_ok(n)
 }
 
 // Row 3.
@@ -27,9 +25,7 @@ fn lengths_fit(d: usize, n: usize, v: usize, s: usize, table: &[u16], points: &[
     requires { (d ≤ 7) × (n ≤ 8) × (v ≤ 4096) × (s ≤ 4096) }
     ensures { result ≡ (eqb (length table.now) (table_length d s) && eqb (length points.now) (v * n)) }
 {
-    let count = v * n;
-    let right = equal(table.len(), table_words(d, s));
-    both(right, equal(points.len(), count))
+    table.len() == table_words(d, s) && points.len() == v * n
 }
 
 // Version 2 has the material at the end of each face's line; with version 1 materials are left out.
@@ -42,29 +38,29 @@ pub fn list(
     table: &[u16],
     points: &[f64],
     out: &mut [u8],
-) -> Answer
+) -> Result<usize, Refusal>
     ensures answer { outcome_of result
         ≡ list_outcome (list_input version d n v s table.now points.now (length out.old)) }
     ensures buffer { out.new
         ≡ list_buffer (list_input version d n v s table.now points.now (length out.old)) out.old }
 {
     if !numbers_fit(version, d, n, v, s) {
-        return Answer::Refused(Refusal::OutsideLimits);
+        return Err(Refusal::OutsideLimits);
     }
     if !lengths_fit(d, n, v, s, table, points) {
-        return Answer::Refused(Refusal::WrongLength);
+        return Err(Refusal::WrongLength);
     }
     if !all_in_range(points) {
-        return Answer::Refused(Refusal::FloatRange);
+        return Err(Refusal::FloatRange);
     }
     if !is_sound(d, v, s, table) {
-        return Answer::Refused(Refusal::Unsound);
+        return Err(Refusal::Unsound);
     }
     let size = key_size(version, d, n, v, s, table, points);
     let bytes = size.bytes;
-    if less(out.len(), bytes) {
-        return Answer::Refused(Refusal::NoRoom);
+    if out.len() < bytes {
+        return Err(Refusal::NoRoom);
     }
     put_key(version, d, n, v, s, size.count, table, points, out);
-    Answer::Written(bytes)
+    Ok(bytes)
 }

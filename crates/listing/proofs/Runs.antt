@@ -1,7 +1,6 @@
 -- What is left of a list, one element further.
 --   lines_rest, lines_end         of the lines f 0, f 1, ..
 --   point-within                  point p is among the floats
---   points-rest, points_end       of the coordinates of point p
 --   vertex-line                   the line of point p, from a part of the floats
 --   point-ranged                  which are in range
 -- Assumes nothing.
@@ -12,7 +11,7 @@ use Prim.Native.Nat.{ℕ, suc, ◌+◌, ◌-◌, ◌*◌, ◌≤◌, ◌<◌}
 use native.Mathlib.Nat.{suc-mul, mul-le-mul_right}
 use native.Mathlib.Numerals.{add-one}
 use native.Mathlib.Omega.{arith}
-use lib.ListN.{length, take, drop, get_or, length-drop, drop_of_length-le}
+use lib.ListN.{length, take, drop, length-drop, drop_of_length-le}
 use lib.Ieee.{Float, nan}
 use lib.Seq.{drop-cons, length-take-le, get_or-take, get_or-drop}
 use Rattle.words.specs.Records.{tabulate, part, concat, all_of}
@@ -21,7 +20,7 @@ use Rattle.words.proofs.Loops.{all_at}
 use Rattle.points.specs.Step.{in_range}
 use Rattle.points.proofs.AllOf.{all_of_true}
 use Rattle.printing.specs.Decimal.{digits, coordinate}
-use Rattle.printing.specs.Fields.{point_field, rest_of_line, line}
+use Rattle.printing.specs.Fields.{line}
 use Rattle.listing.specs.Lines.{vertex_word, vertex_line}
 
 module _ (n : ℕ) (f : ℕ → List ℕ) where
@@ -34,36 +33,16 @@ module _ (n : ℕ) (f : ℕ → List ℕ) where
   pub lines_end : (p : ℕ) → n ≤ p → concat (drop p (tabulate n f)) ≡ []
   lines_end p h = ap concat (drop_of_length-le (tabulate n f) (subst (λ (k : ℕ). k ≤ p) (sym (tabulate-length n f)) h))
 
-module _ {A : Type 0} (z : A) (n p : ℕ) (xs : List A) where
-  part_length : p * n + n ≤ length xs → length (part n p xs) ≡ n
-  part_length w = length-take-le n (drop (p * n) xs) (omega (arith, length-drop (p * n) xs))
-
-  part-rest : (j : ℕ) → j < n → p * n + n ≤ length xs → drop j (part n p xs) ≡ get_or xs (p * n + j) z ∷ drop (j + 1) (part n p xs)
-  part-rest j h w =
-      drop-cons (part n p xs) j z (subst (λ (k : ℕ). j < k) (sym (part_length w)) h)
-      ∙ ap (λ (x : A). x ∷ drop (suc j) (part n p xs)) (get_or-take n (drop (p * n) xs) j z h ∙ get_or-drop (p * n) xs j z)
-      ∙ ap (λ (k : ℕ). get_or xs (p * n + j) z ∷ drop k (part n p xs)) (sym (add-one j))
-
-  part_end : (j : ℕ) → n ≤ j → p * n + n ≤ length xs → drop j (part n p xs) ≡ []
-  part_end j h w = drop_of_length-le (part n p xs) (subst (λ (k : ℕ). k ≤ j) (sym (part_length w)) h)
+part_length : (n p : ℕ) (xs : List Float) → p * n + n ≤ length xs → length (part n p xs) ≡ n
+part_length n p xs w = length-take-le n (drop (p * n) xs) (omega (arith, length-drop (p * n) xs))
 
 -- point p is within the floats of v points
 pub point-within : (n v p len : ℕ) → len ≡ v * n → p < v → p * n + n ≤ len
 point-within n v p len e h = omega (arith, e, suc-mul p n, mul-le-mul_right {m = suc p} {n = v} n h)
 
-module _ (n p : ℕ) (ps : List Float) (within : p * n + n ≤ length ps) where
-  abbrev pub left_of : ℕ → List ℕ
-  left_of j = rest_of_line (map coordinate (drop j (part n p ps)))
-
-  pub points-rest : (j : ℕ) → j < n → left_of j ≡ point_field (get_or ps (p * n + j) nan) ++ left_of (j + 1)
-  points-rest j h = ap (λ (xs : List Float). rest_of_line (map coordinate xs)) (part-rest nan n p ps j h within)
-
-  pub points_end : (j : ℕ) → n ≤ j → left_of j ≡ 10 ∷ []
-  points_end j h = ap (λ (xs : List Float). rest_of_line (map coordinate xs)) (part_end nan n p ps j h within)
-
 -- point p as a part of the floats
 module _ (n p : ℕ) (ps : List Float) where
-  abbrev point_here : List Float
+  abbrev pub point_here : List Float
   point_here = take (p * n + n - p * n) (drop (p * n) ps)
 
   point-here : part n p ps ≡ point_here
@@ -79,6 +58,6 @@ module _ (n p : ℕ) (ps : List Float) where
   point-ranged within e =
       subst (λ (xs : List Float). all_of in_range xs ≡ true) point-here
       (all_of_true in_range nan (part n p ps) (λ k h.
-      let l = subst (λ (m : ℕ). k < m) (part_length nan n p ps within) h in
+      let l = subst (λ (m : ℕ). k < m) (part_length n p ps within) h in
       ap in_range (get_or-take n (drop (p * n) ps) k nan l ∙ get_or-drop (p * n) ps k nan)
       ∙ all_at in_range nan ps (p * n + k) e (omega (arith, within))))

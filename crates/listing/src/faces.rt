@@ -36,10 +36,8 @@ fn fill_row(d: usize, s: usize, table: &[u16], p: usize, a: usize, row: &mut [u1
     requires { Inside d s p table.now × (a ≤ d) × (d ≤ length row.old) }
     ensures { take d row.new ≡ (face_at d table.now p a).row }
 {
-    let mut k: usize = 0;
-    while k < d {
+    for k in 0..d {
         row[k] = face_vertex(d, s, table, p, a, k);
-        k += 1;
     }
 }
 
@@ -100,8 +98,8 @@ pub(crate) fn faces_size(version: usize, d: usize, s: usize, table: &[u16]) -> S
     ensures size_of { SizeOf version (table_faces d s table.now) result.count result.bytes }
     ensures count_bound { (result.count ≤ 32768) × (result.bytes ≤ 8388608) }
 {
-    let mut count: usize = 0;
-    let mut bytes: usize = 0;
+    let mut count = 0;
+    let mut bytes = 0;
     let mut at = next_face(d, s, table, 0, 0);
     while at.cell < s {
         count += 1;

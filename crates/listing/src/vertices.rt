@@ -11,27 +11,23 @@ fn vertex_len(n: usize, p: usize, points: &[f64]) -> usize
     requires { VertexOf n p points.now }
     ensures { result ≡ length (vertex_line n points.now p) }
 {
-    let mut k: usize = 3 + digits_len(p as u64);
+    let mut count = 3 + digits_len(p as u64);
     let base = p * n;
-    let mut j: usize = 0;
-    while j < n {
-        k += 1 + coordinate_len(points[base + j]);
-        j += 1;
+    for x in &points[base..base + n] {
+        count += 1 + coordinate_len(*x);
     }
-    k
+    count
 }
 
 pub(crate) fn vertices_len(n: usize, v: usize, points: &[f64]) -> usize
     requires { Points n v points.now }
     ensures { result ≡ length (vertex_lines n v points.now) }
 {
-    let mut k: usize = 0;
-    let mut p: usize = 0;
-    while p < v {
-        k += vertex_len(n, p, points);
-        p += 1;
+    let mut count = 0;
+    for p in 0..v {
+        count += vertex_len(n, p, points);
     }
-    k
+    count
 }
 
 fn put_vertex(n: usize, p: usize, points: &[f64], buf: &mut [u8], at: usize) -> usize
@@ -49,10 +45,8 @@ pub(crate) fn put_vertices(n: usize, v: usize, points: &[f64], buf: &mut [u8], a
     ensures { Put at (vertex_lines n v points.now) buf.old result buf.new }
 {
     let mut cur = at;
-    let mut p: usize = 0;
-    while p < v {
+    for p in 0..v {
         cur = put_vertex(n, p, points, buf, cur);
-        p += 1;
     }
     cur
 }

@@ -2,14 +2,14 @@
 use mathlib.Core.Path.{◌≡◌, refl, sym, ap, subst, subst⁻¹, ◌∙◌}
 use mathlib.Core.Logic.{⊎_elim}
 use mathlib.Core.Bool.{Bool, true, false, cond}
-use mathlib.Core.List.{List}
-use Prim.Native.Nat.{ℕ, ◌+◌, ◌*◌, ◌/◌, ◌%◌, ◌<◌, ◌≤◌}
+use mathlib.Core.List.{List, ◌++◌}
+use Prim.Native.Nat.{ℕ, ◌+◌, ◌-◌, ◌*◌, ◌/◌, ◌%◌, ◌<◌, ◌≤◌}
 use native.Mathlib.Nat.{div-one, eq-or-lt_of_le, le_of_suc-le-suc, not-suc-le-zero, ne_of_lt, ne_of_gt, mul-le-mul_right}
 use native.Mathlib.Numerals.{add-one}
 use native.Mathlib.Omega.{arith}
 use lib.Dec.{eqb}
-use lib.ListN.{length, get_or, set, length-set}
-use lib.Seq.{get_or-set_same, get_or-set_other}
+use lib.ListN.{length, get_or, set, take, drop, replicate, length-set, length-append, length-drop, length-replicate, get_or-append, get_or-replicate}
+use lib.Seq.{get_or-set_same, get_or-set_other, get_or-append-add, get_or-drop, length-take-le}
 use borrow.Author.Tests.{eqb-true, eqb-false}
 use Rattle.words.specs.Records.{part}
 use Rattle.simplex.specs.Cell.{same_row}
@@ -100,3 +100,28 @@ module _ (rows : List ℕ) (k w first f x u g y v : ℕ) (ex : x ≡ f / w) (eu 
   pub compared : (t : Bool) → t ≡ same_row (without (first + u) (cell_row rows k x)) (without (first + v) (cell_row rows k y)) →
       t ≡ same_row (key_row rows k w first f) (key_row rows k w first g)
   compared t e = e ∙ (λ i. same_row (without (first + eu i) (cell_row rows k (ex i))) (without (first + ev i) (cell_row rows k (ey i))))
+
+-- what stands where the first n places are filled
+pub record Filled (n x : ℕ) (old new : List ℕ) : Type 0 where
+  pub each : (g : ℕ) → g < n → get_or new g 0 ≡ x
+  pub behind : Behind n new old
+  pub long : length new ≡ length old
+
+pub filled_front : (n x : ℕ) (old front : List ℕ) → n ≤ length old → front ≡ replicate (length (take n old)) x →
+    Filled n x old (front ++ drop n old)
+filled_front n x old front few e = record {
+  each = λ g l. get_or-append front (drop n old) 0 g (omega (arith, many)) ∙ ap (λ (r : List ℕ). get_or r g 0) e
+      ∙ get_or-replicate (length (take n old)) g x 0 (omega (arith, taken));
+  behind = λ g h.
+      let at : g ≡ length front + (g - n) = omega (arith, many) in
+      let back : n + (g - n) ≡ g = omega arith in
+      ap (λ i. get_or (front ++ drop n old) i 0) at ∙ get_or-append-add front (drop n old) (g - n) 0 ∙ get_or-drop n old (g - n) 0
+      ∙ ap (λ i. get_or old i 0) back;
+  long = omega (arith, many, length-append front (drop n old), length-drop n old);
+}
+  where
+    taken : length (take n old) ≡ n
+    taken = length-take-le n old few
+
+    many : length front ≡ n
+    many = ap length e ∙ length-replicate {A = ℕ} (length (take n old)) x ∙ taken

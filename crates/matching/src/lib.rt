@@ -14,17 +14,11 @@ ghost use Rattle.matching.specs.Inner.Buckets.{term, weight, bucket_at};
 
 use crate::classes::by_classes;
 
-fn wide(x: u16) -> u64
-    ensures { (result ≡ x) × (result < 65536) }
-{
-    x as u64
-}
-
 // The weight of a vertex.
 fn term(x: u16) -> u64
     ensures { (result ≡ term x) × (result < 2 ^ 50) }
 {
-    let v = wide(x);
+    let v = u64::from(x);
     v * (v * (v + 5903) + 12421)
 }
 
@@ -43,14 +37,12 @@ fn weigh(k: usize, p: usize, rows: &[u16; 32768]) -> Terms
 {
     let mut terms = [0u64; 8];
     let mut sum: u64 = 0;
-    let mut j: usize = 0;
-    while j < 8 {
+    for j in 0..8 {
         if j < k {
             let t = term(rows[p * 8 + j]);
             terms[j] = t;
             sum += t;
         }
-        j += 1;
     }
     Terms { each: terms, sum }
 }
@@ -92,15 +84,13 @@ fn same_key(k: usize, rows: &[u16; 32768], p: usize, a: usize, q: usize, b: usiz
     if kept(k, b) != m {
         return false;
     }
-    let mut j: usize = 0;
-    while j < 8 {
+    for j in 0..8 {
         if m <= j {
             return true;
         }
         if rows[p * 8 + stands(a, j)] != rows[q * 8 + stands(b, j)] {
             return false;
         }
-        j += 1;
     }
     true
 }
@@ -125,56 +115,6 @@ pub fn place_of(f: usize, w: usize, part: usize) -> Place
     }
 }
 
-// Links the keys of cell p.
-fn link_cell(
-    k: usize,
-    w: usize,
-    first: usize,
-    p: usize,
-    rows: &[u16; 32768],
-    head: &mut [u16; 32768],
-    prev: &mut [u16; 32768],
-)
-    requires keyed { Keyed rows.now k w first × (p < 4096) }
-    requires linking { Linking (bucket_at (key_row rows.now k w first)) head.old prev.old 32768 (p * w) }
-    ensures linking_2 { Linking (bucket_at (key_row rows.now k w first)) head.new prev.new 32768 (p * w + w) }
-    ensures behind { Behind (p * w + w) prev.new prev.old }
-{
-    let weighed = weigh(k, p, rows);
-    let terms = weighed.each;
-    let sum = weighed.sum;
-    let mut i: usize = 0;
-    while i < w {
-        let b = bucket(k, first + i, sum, &terms);
-        let g = p * w + i;
-        prev[g] = head[b];
-        head[b] = g as u16;
-        i += 1;
-    }
-}
-
-// Links each key of s cells to the last earlier key of its bucket; head is lent without heads.
-fn link(
-    s: usize,
-    k: usize,
-    w: usize,
-    first: usize,
-    rows: &[u16; 32768],
-    head: &mut [u16; 32768],
-    prev: &mut [u16; 32768],
-)
-    requires { Keyed rows.now k w first × (s ≤ 4096) × (length prev.old ≡ 32768) × (head.old ≡ replicate 32768 65535) }
-    ensures linked { Linked (bucket_at (key_row rows.now k w first)) prev.new (s * w) }
-    ensures prev_len { (length prev.new ≡ 32768) × (length head.new ≡ 32768) }
-    ensures behind { Behind (s * w) prev.new prev.old }
-{
-    let mut p: usize = 0;
-    while p < s {
-        link_cell(k, w, first, p, rows, head, prev);
-        p += 1;
-    }
-}
-
 // What following links back finds, and how many steps are left; where none are, nothing is found.
 #[derive(Drop)]
 struct Found {
@@ -182,70 +122,100 @@ struct Found {
     left: usize,
 }
 
-// The last key before g with the row of g, or 65535: the links are followed back from g, in fewer steps than left.
-fn back(
+// How keys are cut from cells: a cell has w keys, each its row of k vertices less one of the positions from first; and part,
+// by which place_of finds a key's place.
+#[derive(Clone, Copy)]
+struct Keys {
     k: usize,
     w: usize,
     first: usize,
     part: usize,
-    rows: &[u16; 32768],
-    prev: &[u16; 32768],
-    g: usize,
-    left: usize,
-) -> Found
-    requires keyed { Keyed rows.now k w first × (part ≡ 1048576 / w + 1) × (g < 4096 * w) }
-    requires linked { Linked (bucket_at (key_row rows.now k w first)) prev.now (g + 1) }
-    ensures { 0 < result.left → result.key ≡ earlier rows.now k w first g }
-{
-    let here = place_of(g, w, part);
-    let mut left = left;
-    let mut f = prev[g];
-    while f != 65535 {
-        if left == 0 {
-            return Found { key: f, left };
-        }
-        left -= 1;
-        let x = f as usize;
-        let there = place_of(x, w, part);
-        let a = first + there.at;
-        let b = first + here.at;
-        if same_key(k, rows, there.cell, a, here.cell, b) {
-            return Found { key: f, left };
-        }
-        f = prev[x];
-    }
-    Found { key: 65535, left }
 }
 
-// Replaces the links of n keys by the last earlier keys with the same rows, from the last key down. Whether that was done
-// in fewer than two steps a key.
-fn settle(
-    n: usize,
-    k: usize,
-    w: usize,
-    first: usize,
-    part: usize,
-    rows: &[u16; 32768],
-    prev: &mut [u16; 32768],
-) -> bool
-    requires keyed { Keyed rows.now k w first × (part ≡ 1048576 / w + 1) × (n ≤ 4096 * w) × (length prev.old ≡ 32768) }
-    requires linked { Linked (bucket_at (key_row rows.now k w first)) prev.old n }
-    ensures prev_len { length prev.new ≡ 32768 }
-    ensures g_after { result ≡ true → (g : ℕ) → g < n → get_or prev.new g 0 ≡ earlier rows.now k w first g }
-    ensures behind { Behind n prev.new prev.old }
-{
-    let mut left = n * 2;
-    let mut g = n;
-    while 0 < g {
-        g -= 1;
-        let found = back(k, w, first, part, rows, prev, g, left);
-        left = found.left;
-        if left == 0 {
-            return false;
+impl Keys {
+    // Links the keys of cell p.
+    fn link_cell(
+        self,
+        p: usize,
+        rows: &[u16; 32768],
+        head: &mut [u16; 32768],
+        prev: &mut [u16; 32768],
+    )
+        requires keyed { Keyed rows.now self.k self.w self.first × (p < 4096) }
+        requires linking { Linking (bucket_at (key_row rows.now self.k self.w self.first)) head.old prev.old 32768 (p * self.w) }
+        ensures linking_2 { Linking (bucket_at (key_row rows.now self.k self.w self.first)) head.new prev.new 32768 (p * self.w + self.w) }
+        ensures behind { Behind (p * self.w + self.w) prev.new prev.old }
+    {
+        let weighed = weigh(self.k, p, rows);
+        let terms = weighed.each;
+        let sum = weighed.sum;
+        for i in 0..self.w {
+            let b = bucket(self.k, self.first + i, sum, &terms);
+            let g = p * self.w + i;
+            prev[g] = head[b];
+            head[b] = g as u16;
         }
-        prev[g] = found.key;
     }
-    true
+
+    // Links each key of s cells to the last earlier key of its bucket; head is lent without heads.
+    fn link(self, s: usize, rows: &[u16; 32768], head: &mut [u16; 32768], prev: &mut [u16; 32768])
+        requires { Keyed rows.now self.k self.w self.first × (s ≤ 4096) × (length prev.old ≡ 32768) × (head.old ≡ replicate 32768 65535) }
+        ensures linked { Linked (bucket_at (key_row rows.now self.k self.w self.first)) prev.new (s * self.w) }
+        ensures prev_len { (length prev.new ≡ 32768) × (length head.new ≡ 32768) }
+        ensures behind { Behind (s * self.w) prev.new prev.old }
+    {
+        for p in 0..s {
+            self.link_cell(p, rows, head, prev);
+        }
+    }
+
+    // The last key before g with the row of g, or 65535: the links are followed back from g, in fewer steps than left.
+    fn back(self, rows: &[u16; 32768], prev: &[u16; 32768], g: usize, left: usize) -> Found
+        requires keyed { Keyed rows.now self.k self.w self.first × (self.part ≡ 1048576 / self.w + 1) × (g < 4096 * self.w) }
+        requires linked { Linked (bucket_at (key_row rows.now self.k self.w self.first)) prev.now (g + 1) }
+        ensures { 0 < result.left → result.key ≡ earlier rows.now self.k self.w self.first g }
+    {
+        let here = place_of(g, self.w, self.part);
+        let mut left = left;
+        let mut f = prev[g];
+        while f != 65535 {
+            if left == 0 {
+                return Found { key: f, left };
+            }
+            left -= 1;
+            let x = f as usize;
+            let there = place_of(x, self.w, self.part);
+            let a = self.first + there.at;
+            let b = self.first + here.at;
+            if same_key(self.k, rows, there.cell, a, here.cell, b) {
+                return Found { key: f, left };
+            }
+            f = prev[x];
+        }
+        Found { key: 65535, left }
+    }
+
+    // Replaces the links of n keys by the last earlier keys with the same rows, from the last key down. Whether that was done
+    // in fewer than two steps a key.
+    fn settle(self, n: usize, rows: &[u16; 32768], prev: &mut [u16; 32768]) -> bool
+        requires keyed { Keyed rows.now self.k self.w self.first × (self.part ≡ 1048576 / self.w + 1)
+            × (n ≤ 4096 * self.w) × (length prev.old ≡ 32768) }
+        requires linked { Linked (bucket_at (key_row rows.now self.k self.w self.first)) prev.old n }
+        ensures prev_len { length prev.new ≡ 32768 }
+        ensures g_after { result ≡ true → (g : ℕ) → g < n → get_or prev.new g 0 ≡ earlier rows.now self.k self.w self.first g }
+        ensures behind { Behind n prev.new prev.old }
+    {
+        let mut left = n * 2;
+        for g in (0..n).rev() {
+            let found = self.back(rows, prev, g, left);
+            left = found.left;
+            if left == 0 {
+                return false;
+            }
+            prev[g] = found.key;
+        }
+        true
+    }
 }
 
 // For each key of s cells the last earlier key with the same row, or 65535; what stands behind the keys stays. A cell
@@ -264,9 +234,10 @@ pub fn earlier_equal(
     ensures behind { Behind (s * w) prev.new prev.old }
 {
     let part = 1048576 / w + 1;
+    let keys = Keys { k, w, first, part };
     let mut spare = [65535u16; 32768];
-    link(s, k, w, first, rows, &mut spare, prev);
-    if settle(s * w, k, w, first, part, rows, prev) {
+    keys.link(s, rows, &mut spare, prev);
+    if keys.settle(s * w, rows, prev) {
         return;
     }
     by_classes(s * w, k, w, first, part, rows, &mut spare, prev);

@@ -13,15 +13,14 @@ use points::carrying::carries;
 use points::levels::{all_stay, write_levels};
 use points::range::floats_in_range;
 use points::step::Step;
-use rules::compare::{both, differ, less};
 use rules::limits::{Shape, axes_ok, steps_ok, swept_vertices, vertices_ok};
-use rules::refusal::{Answer, Refusal};
+use rules::refusal::Refusal;
 
 // Row 2: whether the numbers are within their limits.
 fn numbers_ok(n: usize, v: usize, h: usize) -> bool
     ensures { result ≡ (axes_ok n && (vertices_ok v && steps_ok h)) }
 {
-    both(axes_ok(n), both(vertices_ok(v), steps_ok(h)))
+    axes_ok(n) && vertices_ok(v) && steps_ok(h)
 }
 
 // Row 13: whether the levels stay in range.
@@ -41,37 +40,37 @@ pub fn move_points(
     step: Step,
     points: &[f64],
     out: &mut [f64],
-) -> Answer
+) -> Result<usize, Refusal>
     ensures answer { outcome_of result ≡ move_outcome (move_input n v h step points.now (length out.old)) }
     ensures buffer { out.new
         ≡ move_buffer (move_input n v h step points.now (length out.old)) out.old }
 {
     if !numbers_ok(n, v, h) {
-        return Answer::Refused(Refusal::OutsideLimits);
+        return Err(Refusal::OutsideLimits);
     }
-    if differ(points.len(), v * n) {
-        return Answer::Refused(Refusal::WrongLength);
+    if points.len() != v * n {
+        return Err(Refusal::WrongLength);
     }
     if !floats_in_range(step, points) {
-        return Answer::Refused(Refusal::FloatRange);
+        return Err(Refusal::FloatRange);
     }
     if !step.fits(n) {
-        return Answer::Refused(Refusal::StepUnfit);
+        return Err(Refusal::StepUnfit);
     }
     let swept = swept_vertices(v, h);
-    if less(Shape::MAX_VERTICES, swept) {
-        return Answer::Refused(Refusal::SweptTooLarge);
+    if Shape::MAX_VERTICES < swept {
+        return Err(Refusal::SweptTooLarge);
     }
     if !levels_stay(step, n, v, h, points) {
-        return Answer::Refused(Refusal::MovedOutOfRange);
+        return Err(Refusal::MovedOutOfRange);
     }
     if !carries(step, n, v, h, points) {
-        return Answer::Refused(Refusal::StaysInPlane);
+        return Err(Refusal::StaysInPlane);
     }
     let count = swept * n;
-    if less(out.len(), count) {
-        return Answer::Refused(Refusal::NoRoom);
+    if out.len() < count {
+        return Err(Refusal::NoRoom);
     }
     write_levels(step, n, v, h, points, out);
-    Answer::Written(count)
+    Ok(count)
 }

@@ -7,7 +7,7 @@ ghost use Rattle.page.specs.Key.{byte_room, spoken, printed, text_outcome, text_
 
 use crate::stages::page_key;
 use printing::writing::{put_byte, put_number, put_text};
-use rules::refusal::{Answer, Refusal, number};
+use rules::refusal::Refusal;
 
 // The line for a refusal.
 fn put_refused(page: &mut [u8], k: u8) -> usize
@@ -27,20 +27,20 @@ fn print_page(input: &[u8], page: &mut [u8]) -> usize
     ensures bytes { take result page.new ≡ printed input.now }
 {
     match page_key(input, page) {
-        Answer::Written(n) => n,
-        Answer::Refused(r) => put_refused(page, number(r)),
+        Ok(n) => n,
+        Err(refusal) => put_refused(page, u8::from(refusal)),
     }
 }
 
 // Writes the printed text from the start of the lent bytes, and answers the count of its bytes.
-pub fn key_text(input: &[u8], text: &mut [u8]) -> Answer
+pub fn key_text(input: &[u8], text: &mut [u8]) -> Result<usize, Refusal>
     ensures answer { outcome_of result ≡ text_outcome input.now (length text.old) }
     ensures buffer { text.new ≡ text_buffer input.now text.old }
 {
     let mut page = [0u8; 65536];
     let n = print_page(input, &mut page);
     if text.len() < n {
-        return Answer::Refused(Refusal::NoRoom);
+        return Err(Refusal::NoRoom);
     }
-    Answer::Written(put_text(text, 0, &page[..n]))
+    Ok(put_text(text, 0, &page[..n]))
 }

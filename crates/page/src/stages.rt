@@ -6,138 +6,98 @@ ghost use Rattle.page.specs.Inner.Stages.{counted, page_after, moved_key, swept_
 
 use list::list;
 use motion::move_points;
-use points::step::Step;
-use read::{ReadAnswer, read};
+use read::{Header, read};
 use records::sizes::list_words;
-use rules::refusal::{Answer, Refusal};
+use rules::refusal::Refusal;
 use sweep::sweep;
 use wing::wing;
 
-// The points of all levels, then the key in the form of a version. d and s are the swept table's, v and h the solid's and its steps.
+// The points of all levels, then the key in the form of the header's version. d and s of the header are the swept table's, v
+// and h the solid's and its steps.
 fn moved_key(
-    version: usize,
-    d: usize,
-    n: usize,
-    v: usize,
-    s: usize,
-    h: usize,
-    step: Step,
+    header: Header,
     table: &[u16],
     points: &[f64],
     page: &mut [u8],
-) -> Answer
+) -> Result<usize, Refusal>
     ensures answer { outcome_of result
-        ≡ counted (moved_key version d n v s h step table.now points.now (length page.old)) }
+        ≡ counted (moved_key header.version header.d header.n header.v header.s header.h header.step table.now points.now (length page.old)) }
     ensures page { page.new
-        ≡ page_after (moved_key version d n v s h step table.now points.now (length page.old)) page.old }
+        ≡ page_after (moved_key header.version header.d header.n header.v header.s header.h header.step
+        table.now points.now (length page.old)) page.old }
 {
+    let Header {
+        version,
+        d,
+        n,
+        v,
+        s,
+        h,
+        step,
+    } = header;
     let mut moved = [0.0f64; 8192];
-    match move_points(n, v, h, step, points, &mut moved) {
-        Answer::Written(m) => list(version, d, n, (h + 1) * v, s, table, &moved[..m], page),
-        Answer::Refused(r) => Answer::Refused(r),
-    }
+    let m = move_points(n, v, h, step, points, &mut moved)?;
+    list(version, d, n, (h + 1) * v, s, table, &moved[..m], page)
 }
 
 // The swept table, then what follows.
 fn swept_key(
-    version: usize,
-    d: usize,
-    n: usize,
-    v: usize,
-    s: usize,
-    h: usize,
-    step: Step,
+    header: Header,
     table: &[u16],
     points: &[f64],
     page: &mut [u8],
-) -> Answer
+) -> Result<usize, Refusal>
     ensures answer { outcome_of result
-        ≡ counted (swept_key version d n v s h step table.now points.now (length page.old)) }
+        ≡ counted (swept_key header.version header.d header.n header.v header.s header.h header.step table.now points.now (length page.old)) }
     ensures page { page.new
-        ≡ page_after (swept_key version d n v s h step table.now points.now (length page.old)) page.old }
+        ≡ page_after (swept_key header.version header.d header.n header.v header.s header.h header.step
+        table.now points.now (length page.old)) page.old }
 {
+    let Header { d, v, s, h, .. } = header;
     let mut swept = [0u16; 32768];
-    match sweep(d, v, s, h, table, &mut swept) {
-        Answer::Written(m) => {
-            let cells = h * (s * (d + 1));
-            moved_key(
-                version,
-                d + 1,
-                n,
-                v,
-                cells,
-                h,
-                step,
-                &swept[..m],
-                points,
-                page,
-            )
-        }
-        Answer::Refused(r) => Answer::Refused(r),
-    }
+    let m = sweep(d, v, s, h, table, &mut swept)?;
+    let cells = h * (s * (d + 1));
+    let over = Header {
+        d: d + 1,
+        s: cells,
+        ..header
+    };
+    moved_key(over, &swept[..m], points, page)
 }
 
 // The solid's table, then what follows.
 fn winged_key(
-    version: usize,
-    d: usize,
-    n: usize,
-    v: usize,
-    s: usize,
-    h: usize,
-    step: Step,
+    header: Header,
     cells: &[u16],
     points: &[f64],
     page: &mut [u8],
-) -> Answer
+) -> Result<usize, Refusal>
     ensures answer { outcome_of result
-        ≡ counted (winged_key version d n v s h step cells.now points.now (length page.old)) }
+        ≡ counted (winged_key header.version header.d header.n header.v header.s header.h header.step cells.now points.now (length page.old)) }
     ensures page { page.new
-        ≡ page_after (winged_key version d n v s h step cells.now points.now (length page.old)) page.old }
+        ≡ page_after (winged_key header.version header.d header.n header.v header.s header.h header.step
+        cells.now points.now (length page.old)) page.old }
 {
+    let Header { d, v, s, .. } = header;
     let mut table = [0u16; 32768];
     let mut uploaded = [0u16; 32768];
-    match wing(d, v, s, cells, &mut table, &mut uploaded) {
-        Answer::Written(m) => swept_key(version, d, n, v, s, h, step, &table[..m], points, page),
-        Answer::Refused(r) => Answer::Refused(r),
-    }
+    let m = wing(d, v, s, cells, &mut table, &mut uploaded)?;
+    swept_key(header, &table[..m], points, page)
 }
 
 // The key of a file's bytes at the start of the page.
-pub fn page_key(input: &[u8], page: &mut [u8]) -> Answer
+pub fn page_key(input: &[u8], page: &mut [u8]) -> Result<usize, Refusal>
     requires { length page.old ≡ byte_room }
     ensures answer { outcome_of result ≡ counted (key_outcome input.now) }
     ensures page { page.new ≡ page_after (key_outcome input.now) page.old }
 {
     if 65536 < input.len() {
-        return Answer::Refused(Refusal::WrongLength);
+        return Err(Refusal::WrongLength);
     }
     let mut cells = [0u16; 32768];
     let mut points = [0.0f64; 8192];
-    match read(input, &mut cells, &mut points) {
-        ReadAnswer::Accepted(x) => {
-            let version = x.version;
-            let d = x.d;
-            let n = x.n;
-            let v = x.v;
-            let s = x.s;
-            let h = x.h;
-            let step = x.step;
-            let words = list_words(d, s);
-            let floats = v * n;
-            winged_key(
-                version,
-                d,
-                n,
-                v,
-                s,
-                h,
-                step,
-                &cells[..words],
-                &points[..floats],
-                page,
-            )
-        }
-        ReadAnswer::Refused(r) => Answer::Refused(r),
-    }
+    let header = read(input, &mut cells, &mut points)?;
+    let words = list_words(header.d, header.s);
+    let floats = header.v * header.n;
+    winged_key(header, &cells[..words], &points[..floats], page)
 }

@@ -3,6 +3,7 @@
 --   all_of-append, all_of-concat            of joined lists
 --   all_of-tabulate, all_of-tabulate_at     of a tabulated list
 --   and_one                               true is no further condition
+--   list_all-is                           said by the library's word
 --   same_test                             two tests are equal if each is true where the other is
 -- Assumes nothing.
 use mathlib.Core.Path.{◌≡◌, refl, sym, ap, ◌∙◌}
@@ -12,6 +13,7 @@ use Prim.Native.Nat.{ℕ, zero, suc, ◌<◌}
 use native.Mathlib.Nat.{not-suc-le-zero, le_of_suc-le-suc}
 use native.Mathlib.Omega.{arith}
 use lib.ListN.{length, get_or}
+use Rattle.std.specs.List.{list_all}
 use Rattle.words.specs.Records.{tabulate, concat, all_of}
 use Rattle.rules.proofs.Tests.{and_parts}
 
@@ -55,3 +57,7 @@ module _ {ℓ} {A : Type ℓ} (q : A → Bool) where
   all_of-tabulate_at (suc n) f e zero l = (and_parts (q (f 0)) (all_of q (tabulate n (λ i. f (suc i)))) e).0
   all_of-tabulate_at (suc n) f e (suc k) l =
       all_of-tabulate_at n (λ i. f (suc i)) (and_parts (q (f 0)) (all_of q (tabulate n (λ i. f (suc i)))) e).1 k (le_of_suc-le-suc l)
+
+pub list_all-is : {A : Type 0} (q : A → Bool) (xs : List A) → list_all q xs ≡ all_of q xs
+list_all-is q [] = refl
+list_all-is q (x ∷ xs) = ap (λ (b : Bool). q x && b) (list_all-is q xs)

@@ -103,9 +103,8 @@ axis_carries_lem step n a m adds (suc w) h ps l long =
     ∙ axis_carried m h (get_or (part n 0 ps) a nan) (tabulate w (λ k. get_or (part n (suc k) ps) a nan))
 
 -- the first of the sums that are left
-pub sums-one : (m : Float) (left : ℕ) (y : Float) → 0 < left → sums m left y ≡ add binary64 y m ∷ sums m (left - 1) (add binary64 y m)
-sums-one m zero y l = absurd (not-suc-le-zero l)
-sums-one m (suc left) y l = let less : suc left - 1 ≡ left = omega arith in rw less
+pub sums-one : (m : Float) (left rest : ℕ) (y : Float) → left ≡ suc rest → sums m left y ≡ add binary64 y m ∷ sums m rest (add binary64 y m)
+sums-one m left rest y e = rw e
 
 -- a step by its kind; without vertices every step is carried
 module _ (n v h : ℕ) (ps : List Float) (some : 0 < v) (long : length ps ≡ v * n) where

@@ -5,7 +5,7 @@
 use mathlib.Core.Path.{◌≡◌, refl, sym, ap, ◌∙◌}
 use mathlib.Core.Bool.{true, ◌&&◌}
 use mathlib.Core.List.{List}
-use Prim.Native.Nat.{ℕ, zero, suc, ◌*◌, ◌-◌, ◌<◌}
+use Prim.Native.Nat.{ℕ, zero, suc, ◌*◌, ◌<◌}
 use native.Mathlib.Nat.{not-suc-le-zero, le_of_suc-le-suc}
 use native.Mathlib.Omega.{arith}
 use lib.Ieee.{Float}
@@ -19,10 +19,9 @@ use Rattle.points.specs.declared.step.Step.{Step}
 use Rattle.points.proofs.AllOf.{same_test, all_of-concat, all_of-tabulate, all_of-tabulate_at}
 use Rattle.points.proofs.LevelLaws.{climbed, part-level}
 
-pub stays_one : (step : Step) (n left : ℕ) (p : List Float) → 0 < left →
-    stays_in step n left p ≡ (all_of in_range (moved_point step n p) && stays_in step n (left - 1) (moved_point step n p))
-stays_one step n zero p l = absurd (not-suc-le-zero l)
-stays_one step n (suc left) p l = let less : suc left - 1 ≡ left = omega arith in rw less
+pub stays_one : (step : Step) (n left rest : ℕ) (p : List Float) → left ≡ suc rest →
+    stays_in step n left p ≡ (all_of in_range (moved_point step n p) && stays_in step n rest (moved_point step n p))
+stays_one step n left rest p e = rw e
 
 climbed_first : (step : Step) (n i : ℕ) (p : List Float) → climbed step n i (moved_point step n p) ≡ climbed step n (suc i) p
 climbed_first step n zero p = refl

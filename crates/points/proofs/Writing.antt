@@ -1,20 +1,22 @@
 -- How the writer of the levels goes on.
 --   Moving step n v at d k out    d becomes out: the first k of its v points from `at` on are moved
 --   moving_starts, moving_goes, moving_ends
+--   copied            what a copy within a buffer writes
 --   level_copied      a level that is copied, and then moved, is the moved level
 --   Climbing step n v h ps d i out    d becomes out: levels 0 to i of h are written
 --   climbing_starts, climbing_goes, climbing_ends
 --   inside            where the next level goes
 -- Assumes nothing.
 use mathlib.Core.Path.{◌≡◌, refl, sym, ap, ◌∙◌}
-use mathlib.Core.List.{List, ◌++◌}
+use mathlib.Core.List.{List, ◌++◌, append_assoc}
 use Prim.Native.Nat.{ℕ, suc, ◌+◌, ◌*◌, ◌<◌, ◌≤◌}
-use native.Mathlib.Nat.{suc-mul, one-mul, zero-mul, add-zero, mul_assoc}
+use native.Mathlib.Nat.{add-sub_cancel_left, suc-mul, one-mul, zero-mul, add-zero, mul_assoc}
 use native.Mathlib.Numerals.{add-one}
 use native.Mathlib.Omega.{arith}
 use lib.Ieee.{Float}
 use lib.ListN.{length, take, drop, length-drop}
 use lib.Seq.{length-take-le, drop-drop}
+use Rattle.std.specs.List.{copy_within}
 use Rattle.words.specs.Records.{tabulate, part, concat}
 use Rattle.words.specs.Inner.Placed.{placed}
 use Rattle.words.proofs.Records.{record_fits, record_next, read_take, part_tabulated}
@@ -57,6 +59,13 @@ module _ (step : Step) (n v at : ℕ) (d : List Float) (room : at + v * n ≤ le
 
   pub moving_ends : (k : ℕ) (out : List Float) → v ≤ k → Moving step n v at d k out → out ≡ placed at (moved_all step n v (source n v at d)) d
   moving_ends k out h left = (left_records v k (λ p. moved_point step n (part n p (source n v at d))) h left).content
+
+pub copied : (w from to : ℕ) (d new : List Float) → from + w ≤ length d → new ≡ copy_within d from (from + w) to →
+    new ≡ placed to (take w (drop from d)) d
+unfolding placed
+copied w from to d new h e =
+    let size : length (take w (drop from d)) ≡ w = length-take-le w (drop from d) (omega (arith, length-drop from d)) in
+    e ∙ rw (add-sub_cancel_left from w, size, append_assoc)
 
 pub level_copied : (step : Step) (n v from to : ℕ) (d : List Float) → from + v * n ≤ to → to + v * n ≤ length d →
     let s = source n v from d in let p = placed to s d in

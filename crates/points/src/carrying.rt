@@ -14,12 +14,10 @@ fn flat(n: usize, v: usize, a: usize, points: &[f64]) -> bool
     ensures { result ≡ flat (column n v a points.now) }
 {
     let x = points[a];
-    let mut k: usize = 0;
-    while k < v {
+    for k in 0..v {
         if !(x == points[k * n + a]) {
             return false;
         }
-        k += 1;
     }
     true
 }
@@ -31,13 +29,11 @@ fn climbs(x: f64, amount: f64, h: usize) -> bool
     let mut y = x;
     let mut rising = true;
     let mut falling = true;
-    let mut left = h;
-    while 0 < left {
+    for _ in 0..h {
         let z = y + amount;
-        rising = rising & (y < z);
-        falling = falling & (z < y);
+        rising &= y < z;
+        falling &= z < y;
         y = z;
-        left -= 1;
     }
     rising | falling
 }

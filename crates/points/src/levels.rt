@@ -15,13 +15,11 @@ fn stays(step: Step, n: usize, h: usize, p: [f64; 8]) -> bool
     ensures { result ≡ stays_in step n h (take n p) }
 {
     let mut q = p;
-    let mut left = h;
-    while 0 < left {
+    for _ in 0..h {
         crate::point::move_point(step, n, &mut q[..n]);
         if !crate::range::all_in_range(&q[..n]) {
             return false;
         }
-        left -= 1;
     }
     true
 }
@@ -32,28 +30,14 @@ pub fn all_stay(step: Step, n: usize, v: usize, h: usize, points: &[f64]) -> boo
     requires points_len { length points.now ≡ v * n }
     ensures { result ≡ all_stay step n v h points.now }
 {
-    let mut k: usize = 0;
-    while k < v {
+    for k in 0..v {
         let a = k * n;
         let p = crate::point::load(&points[a..a + n]);
         if !stays(step, n, h, p) {
             return false;
         }
-        k += 1;
     }
     true
-}
-
-// Copies w floats from one place of out to a later one.
-fn copy_up(w: usize, from: usize, to: usize, out: &mut [f64])
-    requires { (from + w ≤ to) × (to + w ≤ length out.old) }
-    ensures { out.new ≡ placed to (take w (drop from out.old)) out.old }
-{
-    let mut j: usize = 0;
-    while j < w {
-        out[to + j] = out[from + j];
-        j += 1;
-    }
 }
 
 // Moves the v points of out from at on by one step.
@@ -62,11 +46,9 @@ fn move_level(step: Step, n: usize, v: usize, at: usize, out: &mut [f64])
     requires n_in_bounds { at + v * n ≤ length out.old }
     ensures { out.new ≡ placed at (moved_all step n v (take (v * n) (drop at out.old))) out.old }
 {
-    let mut k: usize = 0;
-    while k < v {
+    for k in 0..v {
         let a = at + k * n;
         crate::point::move_point(step, n, &mut out[a..a + n]);
-        k += 1;
     }
 }
 
@@ -76,8 +58,7 @@ fn write_level(step: Step, n: usize, v: usize, from: usize, to: usize, out: &mut
     requires n_bound { (from + v * n ≤ to) × (to + v * n ≤ length out.old) }
     ensures { out.new ≡ placed to (moved_all step n v (take (v * n) (drop from out.old))) out.old }
 {
-    let w = v * n;
-    copy_up(w, from, to, out);
+    out.copy_within(from..from + v * n, to);
     move_level(step, n, v, to, out);
 }
 
@@ -89,9 +70,7 @@ pub fn write_levels(step: Step, n: usize, v: usize, h: usize, points: &[f64], ou
 {
     let w = v * n;
     crate::point::put(points, out);
-    let mut i: usize = 0;
-    while i < h {
+    for i in 0..h {
         write_level(step, n, v, i * w, (i + 1) * w, out);
-        i += 1;
     }
 }

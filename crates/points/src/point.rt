@@ -9,7 +9,7 @@ fn add_at(a: usize, x: f64, p: &mut [f64])
     requires { a < length p.old }
     ensures { p.new ≡ add_at a x p.old }
 {
-    p[a] = p[a] + x;
+    p[a] += x;
 }
 
 // The first two axes turned: both are read before either is set.
@@ -49,11 +49,7 @@ pub(crate) fn put(xs: &[f64], out: &mut [f64])
     requires { length xs.now ≤ length out.old }
     ensures { out.new ≡ xs.now ++ drop (length xs.now) out.old }
 {
-    let mut i: usize = 0;
-    while i < xs.len() {
-        out[i] = xs[i];
-        i += 1;
-    }
+    out[..xs.len()].copy_from_slice(xs);
 }
 
 // A row of eight floats that begins with xs.

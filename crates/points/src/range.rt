@@ -14,14 +14,7 @@ pub fn in_range(x: f64) -> bool
 pub fn all_in_range(xs: &[f64]) -> bool
     ensures { result ≡ all_of in_range xs.now }
 {
-    let mut i: usize = 0;
-    while i < xs.len() {
-        if !in_range(xs[i]) {
-            return false;
-        }
-        i += 1;
-    }
-    true
+    xs.iter().all(|x| in_range(*x))
 }
 
 // Of the numbers that the step holds.

@@ -4,6 +4,8 @@
 --   digits_are_digits     each byte is 48 to 57, of any n
 --   digits-one, digits_more       one digit, or those of n / 10 and one more
 --   digits-length         there are at most 20
+--   digits-log            from 10^k on and below 10^(k + 1) there are k + 1
+--   digit-less            with the last of the first m + 1 digits in its place, the first m are left
 -- Assumes nothing.
 use mathlib.Core.Path.{◌≡◌, refl, ◌∙◌, sym, ap}
 use mathlib.Core.Bool.{Bool, true, false, cond, ◌&&◌}
@@ -13,9 +15,12 @@ use native.Mathlib.Nat.{pow-suc}
 use native.Mathlib.Omega.{arith}
 use native.Mathlib.Decide.{dec_lt}
 use lib.Dec.{ltb}
-use lib.ListN.{length, get_or, length-append, get_or-append}
+use lib.ListN.{length, get_or, length-append, get_or-append, take, set}
+use lib.Seq.{length-take-le, take-take, take_at}
 use borrow.Author.Tests.{lt-ltb, le-ltb, le-leb}
 use Rattle.words.specs.Records.{all_of}
+use Rattle.words.specs.Inner.Placed.{placed}
+use Rattle.words.proofs.Placed.{placed-last}
 use Rattle.printing.specs.Decimal.{digit, digits_up_to, digits}
 use Rattle.printing.specs.Reading.{is_digit, value_of}
 
@@ -132,3 +137,55 @@ up_to_length (suc k) n =
 pub digits-length : (n : ℕ) → length (digits n) ≤ 20
 unfolding digits
 digits-length n = up_to_length 19 n
+
+-- from 10^k on and below 10^(k + 1) there are k + 1 digits
+abbrev Logged : ℕ → List ℕ → Type 0
+Logged n bs = (k : ℕ) → 10 ^ k ≤ n → n < 10 * 10 ^ k → length bs ≡ suc k
+
+one-logged : (n : ℕ) → n < 10 → Logged n (digit n ∷ [])
+one-logged n h zero low high = refl
+one-logged n h (suc k) low high = let e = pow-suc 10 k in absurd (omega arith)
+
+more-logged : (n : ℕ) (bs : List ℕ) → 10 ≤ n → Logged (n / 10) bs → Logged n (bs ++ digit n ∷ [])
+more-logged n bs h l zero low high = absurd (omega arith)
+more-logged n bs h l (suc k) low high =
+    let e = pow-suc 10 k in
+    let less = l k (omega arith) (omega arith) in
+    omega (arith, length-append bs (digit n ∷ []))
+
+pub digits-log : (n k : ℕ) → n < 10 ^ 20 → 10 ^ k ≤ n → n < 10 * 10 ^ k → length (digits n) ≡ suc k
+digits-log n k h = by_digits Logged one-logged more-logged n h k
+
+-- the last of the first m + 1 digits, and those before it
+module _ (at m d : ℕ) (less all buf : List ℕ) (is : less ++ d ∷ [] ≡ take (suc m) all) (there : suc m ≤ length all)
+    (room : at + m < length buf) where
+  before : length less ≡ m
+  before = omega (arith, length-append less (d ∷ []), ap length is, length-take-le (suc m) all there)
+
+  pub digits-before : take m all ≡ less
+  digits-before = sym (take-take m (suc m) all (omega arith)) ∙ sym (ap (take m) is) ∙ take_at less (d ∷ []) m before
+
+  pub digit-placed : placed at (take m all) (set buf (at + m) d) ≡ placed at (take (suc m) all) buf
+  digit-placed =
+      let last = placed-last at less d buf (omega (arith, before)) in
+      rw (digits-before, sym is) (sym (rw before at last))
+
+-- one digit less is left of the first m + 1 digits of a number
+module _ (at m rest : ℕ) (all buf : List ℕ) (small : rest < 10 ^ 20) (is : digits rest ≡ take (suc m) all)
+    (there : suc m ≤ length all) (room : at + m < length buf) where
+  abbrev Less : Type 0
+  Less = (0 < m → digits (rest / 10) ≡ take m all)
+      × (placed at (take m all) (set buf (at + m) (digit rest)) ≡ placed at (take (suc m) all) buf)
+
+  less_by : Dec (rest < 10) → Less
+  less_by (yes p) =
+      let one : [] ++ digit rest ∷ [] ≡ take (suc m) all = sym (digits-one rest p) ∙ is in
+      (λ h. absurd (omega (arith, ap length one, length-take-le (suc m) all there)), digit-placed at m (digit rest) [] all buf one there room)
+  less_by (no p) =
+      let more : digits (rest / 10) ++ digit rest ∷ [] ≡ take (suc m) all = sym (digits_more rest (omega arith) small) ∙ is in (
+        λ h. sym (digits-before at m (digit rest) (digits (rest / 10)) all buf more there room),
+        digit-placed at m (digit rest) (digits (rest / 10)) all buf more there room,
+      )
+
+  pub digit-less : Less
+  digit-less = less_by (dec_lt rest 10)

@@ -8,25 +8,16 @@ ghost use Rattle.words.specs.Inner.Placed.{Put};
 use crate::lengths::digits_len;
 use crate::writing::{put_field, put_point};
 
-fn wide(x: u16) -> u64
-    ensures value { result ≡ x }
-    ensures upper_bound { result ≤ 65535 }
-{
-    x as u64
-}
-
 // How many bytes the fields of at most 8 numbers have.
 pub fn fields_len(words: &[u16]) -> usize
     requires { length words.now ≤ 8 }
     ensures { result ≡ length (fields words.now) }
 {
-    let mut k: usize = 0;
-    let mut i: usize = 0;
-    while i < words.len() {
-        k += 1 + digits_len(wide(words[i]));
-        i += 1;
+    let mut count = 0;
+    for word in words {
+        count += 1 + digits_len(u64::from(*word));
     }
-    k
+    count
 }
 
 pub(crate) fn put_fields(buf: &mut [u8], at: usize, words: &[u16]) -> usize
@@ -34,10 +25,8 @@ pub(crate) fn put_fields(buf: &mut [u8], at: usize, words: &[u16]) -> usize
     ensures { Put at (fields words.now) buf.old result buf.new }
 {
     let mut cur = at;
-    let mut i: usize = 0;
-    while i < words.len() {
-        cur = put_field(buf, cur, wide(words[i]));
-        i += 1;
+    for word in words {
+        cur = put_field(buf, cur, u64::from(*word));
     }
     cur
 }
@@ -47,10 +36,8 @@ pub(crate) fn put_points(buf: &mut [u8], at: usize, points: &[f64]) -> usize
     ensures { Put at (point_fields points.now) buf.old result buf.new }
 {
     let mut cur = at;
-    let mut i: usize = 0;
-    while i < points.len() {
-        cur = put_point(buf, cur, points[i]);
-        i += 1;
+    for point in points {
+        cur = put_point(buf, cur, *point);
     }
     cur
 }

@@ -4,17 +4,16 @@ ghost use Rattle.points.specs.Step.{in_range};
 ghost use Rattle.printing.specs.Decimal.{digits, coordinate};
 ghost use Rattle.printing.specs.Fields.{minus_text};
 
+use crate::nearest::{is_negative, thousandths_of};
+
 // Of a number in decimal.
 pub fn digits_len(n: u64) -> usize
     ensures { result ≡ length (digits n) }
 {
-    let mut rest = n;
-    let mut k: usize = 1;
-    while 10 <= rest {
-        rest /= 10;
-        k += 1;
+    if n == 0 {
+        return 1;
     }
-    k
+    n.ilog10() as usize + 1
 }
 
 fn minus_len(minus: bool, t: u64) -> usize
@@ -31,6 +30,6 @@ pub fn coordinate_len(x: f64) -> usize
     requires { in_range x ≡ true }
     ensures { result ≡ length (coordinate x) }
 {
-    let t = crate::nearest::thousandths_of(x);
-    minus_len(crate::nearest::is_negative(x), t) + digits_len(t / 1000) + 4
+    let t = thousandths_of(x);
+    minus_len(is_negative(x), t) + digits_len(t / 1000) + 4
 }

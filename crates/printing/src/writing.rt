@@ -5,6 +5,9 @@ ghost use Rattle.printing.specs.Decimal.{digit, digits, coordinate};
 ghost use Rattle.printing.specs.Fields.{minus_text, decimals_text, thousandths_text, field, point_field};
 ghost use Rattle.words.specs.Inner.Placed.{Put};
 
+use crate::lengths::digits_len;
+use crate::nearest::{is_negative, thousandths_of};
+
 pub fn put_byte(buf: &mut [u8], at: usize, b: u8) -> usize
     requires { at < length buf.old }
     ensures { Put at (b ∷ []) buf.old result buf.new }
@@ -18,13 +21,9 @@ pub fn put_text(buf: &mut [u8], at: usize, text: &[u8]) -> usize
     requires { at + length text.now ≤ length buf.old }
     ensures { Put at text.now buf.old result buf.new }
 {
-    let mut cur = at;
-    let mut i: usize = 0;
-    while i < text.len() {
-        cur = put_byte(buf, cur, text[i]);
-        i += 1;
-    }
-    cur
+    let end = at + text.len();
+    buf[at..end].copy_from_slice(text);
+    end
 }
 
 // The byte of a number's last digit.
@@ -39,15 +38,12 @@ pub fn put_number(buf: &mut [u8], at: usize, n: u64) -> usize
     requires { at + length (digits n) ≤ length buf.old }
     ensures { Put at (digits n) buf.old result buf.new }
 {
-    let end = at + crate::lengths::digits_len(n);
-    let mut i = end;
+    let end = at + digits_len(n);
     let mut rest = n;
-    while 10 <= rest {
-        i -= 1;
-        buf[i] = digit_byte(rest);
+    for place in (at..end).rev() {
+        buf[place] = digit_byte(rest);
         rest /= 10;
     }
-    buf[at] = digit_byte(rest);
     end
 }
 
@@ -95,8 +91,8 @@ fn put_coordinate(buf: &mut [u8], at: usize, x: f64) -> usize
     requires { (in_range x ≡ true) × (at + length (coordinate x) ≤ length buf.old) }
     ensures { Put at (coordinate x) buf.old result buf.new }
 {
-    let t = crate::nearest::thousandths_of(x);
-    put_thousandths(buf, at, crate::nearest::is_negative(x), t)
+    let t = thousandths_of(x);
+    put_thousandths(buf, at, is_negative(x), t)
 }
 
 // A number's field, with the space before it.

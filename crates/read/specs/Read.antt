@@ -3,7 +3,7 @@
 --   header_of b            the header's numbers, its version among them, and the step
 --   read_tests             its refusals in order, but for row 15
 --   read_rules, read_outcome (the header), read_cells and read_points (the two lent buffers)
-use Rattle.std.specs.Prelude.{not, ◌||◌, List, [], ◌∷◌, ◌++◌, ℕ, eqb, ltb, length, Float}
+use Rattle.std.specs.Prelude.{not, ◌||◌, List, [], ◌∷◌, ◌++◌, ℕ, eqb, ltb, length, Float, Result, Ok, Err}
 use Rattle.words.specs.Records.{any_of}
 use Rattle.rules.specs.Calls.{Rule, refuse, Outcome, accepted, refused, decide, after}
 use Rattle.rules.specs.Numbers.{number_of}
@@ -14,8 +14,7 @@ use Rattle.file.specs.File.{file_length}
 use Rattle.file.specs.File.{file_points, sign_bytes, file_cells}
 use Rattle.file.specs.Tests.{not_ours, numbers_ok, floats_ok, cells_length, file_words}
 use Rattle.read.specs.declared.Header.{Header}
-use Rattle.read.specs.declared.ReadAnswer.{ReadAnswer}
-use Rattle.read.specs.declared.ReadAnswer.TheVariants as A
+use Rattle.rules.specs.declared.refusal.Refusal.{Refusal}
 
 pub record ReadInput : Type 0 where
   pub bytes : List ℕ
@@ -55,6 +54,6 @@ unfoldable pub read_points : ReadInput → List Float → List Float
 read_points i out = after (read_outcome i) (file_points i.bytes) out
 
 -- what the cases of read's answer mean
-abbrev pub header_outcome : ReadAnswer → Outcome Header
-header_outcome (A.Accepted h) = accepted h
-header_outcome (A.Refused r) = refused (number_of r)
+abbrev pub header_outcome : Result Header Refusal → Outcome Header
+header_outcome (Ok h) = accepted h
+header_outcome (Err r) = refused (number_of r)

@@ -12,10 +12,10 @@ ghost use Rattle.read.specs.Read.{header_of, read_input, read_rules, read_outcom
 
 use file::{cells, floats, numbers, step as steps};
 use points::step::Step;
-use rules::refusal::{Refusal, Verdict};
+use rules::refusal::Refusal;
 
 // The header's numbers and the step. Files of version 1 have no materials.
-#[derive(Drop)]
+#[derive(Clone, Copy)]
 pub struct Header {
     pub version: usize,
     pub d: usize,
@@ -24,12 +24,6 @@ pub struct Header {
     pub s: usize,
     pub h: usize,
     pub step: Step,
-}
-
-#[derive(Drop)]
-pub enum ReadAnswer {
-    Accepted(Header),
-    Refused(Refusal),
 }
 
 #[tactic(auto, unfolding(crate::specs::Read::header_of))]
@@ -62,60 +56,57 @@ fn no_room(b: &[u8], room: usize, space: usize) -> bool
 
 // The first of rows 1 to 8, 18 and 15 that refuses the bytes, with `room` words and `space` floats lent. Each is tried over
 // the whole file.
-fn first_refusal(b: &[u8], room: usize, space: usize) -> Verdict
+fn first_refusal(b: &[u8], room: usize, space: usize) -> Result<(), Refusal>
     ensures { verdict_of result ≡ first_refusal read_rules (read_input b.now room space) }
 {
     if numbers::not_ours(b) {
-        return Verdict::Refuse(Refusal::NotOurs);
+        return Err(Refusal::NotOurs);
     }
     if numbers::outside_limits(b) {
-        return Verdict::Refuse(Refusal::OutsideLimits);
+        return Err(Refusal::OutsideLimits);
     }
     if numbers::wrong_length(b) {
-        return Verdict::Refuse(Refusal::WrongLength);
+        return Err(Refusal::WrongLength);
     }
     if floats::out_of_range(b) {
-        return Verdict::Refuse(Refusal::FloatRange);
+        return Err(Refusal::FloatRange);
     }
     if steps::step_unfit(b) {
-        return Verdict::Refuse(Refusal::StepUnfit);
+        return Err(Refusal::StepUnfit);
     }
     if cells::bad_sign(b) {
-        return Verdict::Refuse(Refusal::BadSign);
+        return Err(Refusal::BadSign);
     }
     if cells::bad_vertex(b) {
-        return Verdict::Refuse(Refusal::BadVertex);
+        return Err(Refusal::BadVertex);
     }
     if cells::vertex_twice(b) {
-        return Verdict::Refuse(Refusal::VertexTwice);
+        return Err(Refusal::VertexTwice);
     }
     if cells::bad_material(b) {
-        return Verdict::Refuse(Refusal::BadMaterial);
+        return Err(Refusal::BadMaterial);
     }
     if no_room(b, room, space) {
-        return Verdict::Refuse(Refusal::NoRoom);
+        return Err(Refusal::NoRoom);
     }
-    Verdict::Pass
+    Ok(())
 }
 
 // Reads a file but for its points, whose room is told: its cells go to the buffer, and the header is the answer. A refused
 // call writes nothing.
-pub fn read_cells(bytes: &[u8], cells: &mut [u16], space: usize) -> ReadAnswer
+pub fn read_cells(bytes: &[u8], cells: &mut [u16], space: usize) -> Result<Header, Refusal>
     ensures answer { header_outcome result ≡ read_outcome (read_input bytes.now (length cells.old) space) }
     ensures cells { cells.new
         ≡ read_cells (read_input bytes.now (length cells.old) space) cells.old }
 {
-    let verdict = first_refusal(bytes, cells.len(), space);
-    if let Verdict::Refuse(why) = verdict {
-        return ReadAnswer::Refused(why);
-    }
+    first_refusal(bytes, cells.len(), space)?;
     cells::write_cells(bytes, cells);
-    ReadAnswer::Accepted(header_of(bytes))
+    Ok(header_of(bytes))
 }
 
 // Reads a file: its cells go to one buffer, its points to another, and the header is the answer. A refused call writes
 // nothing.
-pub fn read(bytes: &[u8], cells: &mut [u16], points: &mut [f64]) -> ReadAnswer
+pub fn read(bytes: &[u8], cells: &mut [u16], points: &mut [f64]) -> Result<Header, Refusal>
     ensures answer { header_outcome result
         ≡ read_outcome (read_input bytes.now (length cells.old) (length points.old)) }
     ensures cells { cells.new
@@ -123,11 +114,7 @@ pub fn read(bytes: &[u8], cells: &mut [u16], points: &mut [f64]) -> ReadAnswer
     ensures points { points.new
         ≡ read_points (read_input bytes.now (length cells.old) (length points.old)) points.old }
 {
-    match read_cells(bytes, cells, points.len()) {
-        ReadAnswer::Accepted(header) => {
-            floats::write_points(bytes, points);
-            ReadAnswer::Accepted(header)
-        }
-        ReadAnswer::Refused(why) => ReadAnswer::Refused(why),
-    }
+    let header = read_cells(bytes, cells, points.len())?;
+    floats::write_points(bytes, points);
+    Ok(header)
 }

@@ -3,13 +3,14 @@
 --   number_of_range            refusals are numbered 1 to 18,
 --   number_of_injective        each differently
 --   outcome_of_injective       so the outcome determines the answer
+--   refused_with, passed_with  the refusal that the tests of a part have found, or that they pass
 --   all_numbered rs            whether every rule has a number from 1 on, so that 0 says that none applies
 --   first_refusal-append       of rules rs and then qs, the first refusal is that of rs, or that of qs where rs has none
 --   first_refusal-refused, first_refusal_passed     its two cases
 --   first_refusal-on_part       rules on a part of the input refuse what they refuse of the part
 -- Assumes nothing.
 use mathlib.Core.Path.{◌≡◌, refl, ap, ◌∙◌, sym}
-use mathlib.Core.Bool.{Bool, true, false, cond, ◌&&◌}
+use mathlib.Core.Bool.{Bool, true, false, cond, ◌&&◌, true≢false}
 use mathlib.Core.List.{List, [], ◌∷◌, ◌++◌, map}
 use Prim.Native.Nat.{ℕ, zero, suc, ◌≤◌, ◌<◌}
 use native.Mathlib.Omega.{arith}
@@ -17,11 +18,10 @@ use lib.Dec.{eqb, leb}
 use borrow.Author.Tests.{leb-true}
 use Rattle.rules.specs.Limits.{within}
 use Rattle.rules.specs.Calls.{Rule, on_part, first_refusal, Outcome, accepted, refused}
-use Rattle.rules.specs.Numbers.{number_of, outcome_of}
+use Rattle.rules.specs.Numbers.{number_of, verdict_of, outcome_of}
 use Rattle.rules.specs.declared.refusal.Refusal.{Refusal}
 use Rattle.rules.specs.declared.refusal.Refusal.TheVariants as R
-use Rattle.rules.specs.declared.refusal.Answer.{Answer}
-use Rattle.rules.specs.declared.refusal.Answer.TheVariants as A
+use Rattle.std.specs.Prelude.{Result, Ok, Err, is_err}
 use Rattle.rules.proofs.Tests.{and_parts}
 
 refusals : List Refusal
@@ -74,11 +74,21 @@ refused_injective n m e = cc
 accepted_not_refused : (n m : ℕ) → accepted n ≡ refused m → ⊥
 accepted_not_refused n m e = let z : ◌≡◌ {A = ℕ} 0 1 = cc in omega arith
 
-pub outcome_of_injective : (a b : Answer) → outcome_of a ≡ outcome_of b → a ≡ b
-outcome_of_injective (A.Written n) (A.Written m) e = ap A.Written (accepted_injective n m e)
-outcome_of_injective (A.Refused r) (A.Refused q) e = ap A.Refused (number_of_injective r q (refused_injective (number_of r) (number_of q) e))
-outcome_of_injective (A.Written n) (A.Refused q) e = absurd (accepted_not_refused n (number_of q) e)
-outcome_of_injective (A.Refused r) (A.Written m) e = absurd (accepted_not_refused m (number_of r) (sym e))
+pub outcome_of_injective : (a b : Result ℕ Refusal) → outcome_of a ≡ outcome_of b → a ≡ b
+outcome_of_injective (Ok n) (Ok m) e = ap Ok (accepted_injective n m e)
+outcome_of_injective (Err r) (Err q) e = ap Err (number_of_injective r q (refused_injective (number_of r) (number_of q) e))
+outcome_of_injective (Ok n) (Err q) e = absurd (accepted_not_refused n (number_of q) e)
+outcome_of_injective (Err r) (Ok m) e = absurd (accepted_not_refused m (number_of r) (sym e))
+
+-- what tests of a part have found: a refusal, whose number it is,
+pub refused_with : (v : Result Unit Refusal) → is_err v ≡ true → (r : Refusal) × (number_of r ≡ verdict_of v)
+refused_with (Err r) e = (r, refl)
+refused_with (Ok _) e = absurd (true≢false (sym e))
+
+-- or none
+pub passed_with : (v : Result Unit Refusal) → is_err v ≡ false → verdict_of v ≡ 0
+passed_with (Err r) e = absurd (true≢false e)
+passed_with (Ok _) e = refl
 
 -- n, or k where n is 0
 abbrev pub or_else : ℕ → ℕ → ℕ

@@ -1,15 +1,11 @@
 -- What the cases of an answer mean: numbers of the refusal table. Paper, section 9.
 --   number_of r        the number of a refusal in the refusal table
---   verdict_of v       the number of the refusal, 0 if it passes
+--   verdict_of v       the number of the refusal, 0 where the tests pass
 --   outcome_of a       the count that was written, or the number of the refusal
-use Rattle.std.specs.Prelude.{ℕ}
+use Rattle.std.specs.Prelude.{ℕ, Result, Ok, Err}
 use Rattle.rules.specs.Calls.{Outcome, accepted, refused}
 use Rattle.rules.specs.declared.refusal.Refusal.{Refusal}
 use Rattle.rules.specs.declared.refusal.Refusal.TheVariants as R
-use Rattle.rules.specs.declared.refusal.Answer.{Answer}
-use Rattle.rules.specs.declared.refusal.Answer.TheVariants as A
-use Rattle.rules.specs.declared.refusal.Verdict.{Verdict}
-use Rattle.rules.specs.declared.refusal.Verdict.TheVariants as Found
 
 abbrev pub number_of : Refusal → ℕ
 number_of R.NotOurs = 1
@@ -30,10 +26,10 @@ number_of R.NoRoom = 15
 number_of R.StaysInPlane = 17
 number_of R.BadMaterial = 18
 
-abbrev pub verdict_of : Verdict → ℕ
-verdict_of Found.Pass = 0
-verdict_of (Found.Refuse r) = number_of r
+abbrev pub verdict_of : Result Unit Refusal → ℕ
+verdict_of (Ok _) = 0
+verdict_of (Err r) = number_of r
 
-abbrev pub outcome_of : Answer → Outcome ℕ
-outcome_of (A.Written n) = accepted n
-outcome_of (A.Refused r) = refused (number_of r)
+abbrev pub outcome_of : Result ℕ Refusal → Outcome ℕ
+outcome_of (Ok n) = accepted n
+outcome_of (Err r) = refused (number_of r)

@@ -4,65 +4,56 @@ ghost use Rattle.rules.specs.Limits.{axes_ok, vertices_ok, cells_ok, sizes_ok, s
 ghost use Rattle.rules.specs.Limits.{max_vertices, max_steps, swept_vertices};
 ghost use Rattle.rules.specs.Shapes.{shape_of, shape_ok};
 
-use crate::compare::{at_most, between, both, either, equal};
-
 // Dimension, vertex count and cell count of a table.
-#[derive(Drop)]
+#[derive(Clone, Copy, Debug, PartialEq, Eq)]
 pub struct Shape {
     pub d: usize,
     pub v: usize,
     pub s: usize,
 }
 
-#[derive(Drop)]
-pub enum Shaped {
-    Within(Shape),
-    Outside,
-}
-
 pub fn axes_ok(n: usize) -> bool
     ensures { result ≡ axes_ok n }
 {
-    between(1, Shape::MAX_AXES, n)
+    (1..=Shape::MAX_AXES).contains(&n)
 }
 
 pub fn vertices_ok(v: usize) -> bool
     ensures { result ≡ vertices_ok v }
 {
-    at_most(v, Shape::MAX_VERTICES)
+    v <= Shape::MAX_VERTICES
 }
 
 pub fn cells_ok(s: usize) -> bool
     ensures { result ≡ cells_ok s }
 {
-    at_most(s, Shape::MAX_CELLS)
+    s <= Shape::MAX_CELLS
 }
 
 pub fn steps_ok(h: usize) -> bool
     ensures { result ≡ steps_ok h }
 {
-    between(1, Shape::MAX_STEPS, h)
+    (1..=Shape::MAX_STEPS).contains(&h)
 }
 
 pub fn version_ok(version: usize) -> bool
     ensures { result ≡ version_ok version }
 {
-    between(1, Shape::MAX_VERSION, version)
+    (1..=Shape::MAX_VERSION).contains(&version)
 }
 
 // Whether files and keys of that version have materials.
 pub fn with_materials(version: usize) -> bool
     ensures { result ≡ with_materials version }
 {
-    equal(version, 2)
+    version == 2
 }
 
 // A solid may be without cells, and only then without vertices.
 pub fn sizes_ok(v: usize, s: usize) -> bool
     ensures { result ≡ sizes_ok v s }
 {
-    let counts = both(vertices_ok(v), cells_ok(s));
-    both(counts, either(equal(s, 0), at_most(1, v)))
+    vertices_ok(v) && cells_ok(s) && (s == 0 || 1 <= v)
 }
 
 // Vertices of a sweep in h steps.
@@ -96,16 +87,16 @@ impl Shape {
     pub fn within(top: usize, d: usize, v: usize, s: usize) -> bool
         ensures { result ≡ shape_ok top d v s }
     {
-        both(at_most(d, top), sizes_ok(v, s))
+        d <= top && sizes_ok(v, s)
     }
 
     // The shape, if the numbers make one.
-    pub fn new(top: usize, d: usize, v: usize, s: usize) -> Shaped
+    pub fn new(top: usize, d: usize, v: usize, s: usize) -> Option<Shape>
         ensures { result ≡ shape_of top d v s }
     {
         if Shape::within(top, d, v, s) {
-            return Shaped::Within(Shape { d, v, s });
+            return Some(Shape { d, v, s });
         }
-        Shaped::Outside
+        None
     }
 }

@@ -1,8 +1,8 @@
-// Why a call says no, what a call answers, and what a part of it finds.
+// Why a call says no. What a call answers is a Result: the count of what was written, or the refusal.
 ghost use Rattle.std.specs.Prelude.{◌≡◌};
 ghost use Rattle.rules.specs.Numbers.{number_of};
 
-#[derive(Drop)]
+#[derive(Clone, Copy, Debug, PartialEq, Eq)]
 pub enum Refusal {
     NotOurs,
     OutsideLimits,
@@ -23,41 +23,29 @@ pub enum Refusal {
     BadMaterial,
 }
 
-// The count of what was written, or the refusal.
-#[derive(Drop)]
-pub enum Answer {
-    Written(usize),
-    Refused(Refusal),
-}
-
-// What the tests of a part of the input come to.
-#[derive(Drop)]
-pub enum Verdict {
-    Pass,
-    Refuse(Refusal),
-}
-
 // A refusal's number in the paper, section 9.
-pub fn number(r: Refusal) -> u8
-    ensures { result ≡ number_of r }
-{
-    match r {
-        Refusal::NotOurs => 1,
-        Refusal::OutsideLimits => 2,
-        Refusal::WrongLength => 3,
-        Refusal::FloatRange => 4,
-        Refusal::StepUnfit => 5,
-        Refusal::BadSign => 6,
-        Refusal::BadVertex => 7,
-        Refusal::VertexTwice => 8,
-        Refusal::CellTwice => 9,
-        Refusal::CrowdedFace => 10,
-        Refusal::EqualSigns => 11,
-        Refusal::SweptTooLarge => 12,
-        Refusal::MovedOutOfRange => 13,
-        Refusal::Unsound => 14,
-        Refusal::NoRoom => 15,
-        Refusal::StaysInPlane => 17,
-        Refusal::BadMaterial => 18,
+impl From<Refusal> for u8 {
+    ghost from_gives = { λ refusal number. number ≡ number_of refusal };
+
+    fn from(refusal: Refusal) -> u8 {
+        match refusal {
+            Refusal::NotOurs => 1,
+            Refusal::OutsideLimits => 2,
+            Refusal::WrongLength => 3,
+            Refusal::FloatRange => 4,
+            Refusal::StepUnfit => 5,
+            Refusal::BadSign => 6,
+            Refusal::BadVertex => 7,
+            Refusal::VertexTwice => 8,
+            Refusal::CellTwice => 9,
+            Refusal::CrowdedFace => 10,
+            Refusal::EqualSigns => 11,
+            Refusal::SweptTooLarge => 12,
+            Refusal::MovedOutOfRange => 13,
+            Refusal::Unsound => 14,
+            Refusal::NoRoom => 15,
+            Refusal::StaysInPlane => 17,
+            Refusal::BadMaterial => 18,
+        }
     }
 }

@@ -1,11 +1,10 @@
 -- A table that is fine, linked and apart is sound.
 -- Assumes nothing.
-use mathlib.Core.Path.{◌≡◌, refl, sym, ap, ap₂, ◌∙◌, subst}
+use mathlib.Core.Path.{◌≡◌, refl, sym, ap, ◌∙◌, subst}
 use mathlib.Core.Bool.{true}
 use mathlib.Core.List.{List, [], ◌∷◌, ◌++◌, map}
 use Prim.Native.Nat.{ℕ, zero, suc, ◌≤◌, ◌<◌}
 use native.Mathlib.Omega.{arith}
-use lib.Dec.{eqb}
 use lib.ListN.{length, get_or, take, drop, take-append-drop}
 use lib.Seq.{length-take-le, ext_get_or, get_or-take, take_all}
 use Rattle.words.specs.Records.{tabulate, concat, part}
@@ -13,18 +12,16 @@ use Rattle.words.proofs.Records.{tabulate_at, tabulate-length, tabulate_ext, tab
 use Rattle.rules.specs.Limits.{max_dimension}
 use Rattle.rules.specs.Shapes.{shape_ok}
 use Rattle.simplex.specs.Cell.{Cell, no_cell}
-use Rattle.simplex.specs.Faces.{without}
 use Rattle.simplex.specs.SignWords.{sign_of, sign_word}
 use Rattle.records.specs.Layout.{empty, Entry, cell_of, cell_words, entry_in, entry_of, entry_words, list_size, record_size, table_length}
 use Rattle.records.specs.Layout.{table_words}
-use Rattle.records.specs.Inner.Inside.{sign_in, wing_in}
 use Rattle.records.proofs.Places.{record_long, row-long, wings-long}
 use Rattle.solids.specs.Table.{entry_at, sound, table_of}
 use Rattle.solids.specs.Wings.{neighbour, wings_of}
 use Rattle.solids.proofs.OwnTable.{table-sound}
 use Rattle.solids.proofs.Tables.{cell_at, entries_length, table_at, wings_tabulated}
 use Rattle.tables.proofs.Filling.{parts_of}
-use Rattle.soundness.specs.Inner.Certified.{row_in, face_in, Fine, Linked, Apart}
+use Rattle.soundness.specs.Inner.Certified.{face_in, Fine, Linked, Apart}
 use Rattle.soundness.proofs.Certifying.{cells_in, count, cell_at_lem, rows_long, solid, wing_is}
 
 -- a sign word of 0 or 1 is that of its sign

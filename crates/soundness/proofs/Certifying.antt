@@ -3,24 +3,24 @@
 --   solid                 they are a solid
 --   wing_is               each wing is the neighbour told from the cells
 -- Assumes nothing.
-use mathlib.Core.Path.{◌≡◌, refl, sym, ap, ◌∙◌, subst}
+use mathlib.Core.Path.{◌≡◌, sym, ap, ◌∙◌, subst}
 use mathlib.Core.Logic.{◌⊎◌, ◌≢◌, inl, inr}
-use mathlib.Core.Bool.{Bool, true, false}
+use mathlib.Core.Bool.{true, false}
 use mathlib.Core.List.{List, [], ◌∷◌}
 use Prim.Native.Nat.{ℕ, suc, ◌+◌, ◌*◌, ◌/◌, ◌%◌, ◌≤◌, ◌<◌}
 use native.Mathlib.Omega.{arith}
 use native.Mathlib.Decide.{dec_lt, ℕ_discrete}
 use native.Mathlib.Nat.{div-add-mod', mod-lt, zero-add}
-use lib.Dec.{eqb, leb}
+use lib.Dec.{leb}
 use lib.ListN.{length, get_or}
-use borrow.Author.Tests.{eqb-true, eqb-false, lt-leb}
+use borrow.Author.Tests.{eqb-false, lt-leb}
 use Rattle.words.specs.Records.{tabulate, any_of}
 use Rattle.words.proofs.Records.{tabulate_at, tabulate-length}
 use Rattle.rules.specs.Limits.{max_material}
 use Rattle.rules.proofs.Tests.{and_parts}
 use Rattle.simplex.specs.Cell.{Cell, Row, Sign, no_cell, one, alternating, times}
 use Rattle.simplex.specs.Chain.{total}
-use Rattle.simplex.specs.Faces.{face, facets, without}
+use Rattle.simplex.specs.Faces.{facets, without}
 use Rattle.simplex.specs.Sort.{Asc}
 use Rattle.simplex.specs.SignWords.{sign_of, sign_word}
 use Rattle.simplex.proofs.Ascending.{ascending_of_asc}
@@ -33,7 +33,7 @@ use Rattle.records.specs.Layout.{empty, entry_in, table_length}
 use Rattle.records.specs.Inner.Inside.{sign_in, vertex_in, wing_in}
 use Rattle.records.proofs.Places.{record_long, row-long, sign_at_lem}
 use Rattle.solids.specs.Wings.{has_face, neighbour}
-use Rattle.solids.proofs.Neighbours.{Wing, has_face_lem, has_is, neighbour-empty, neighbour_is, others_with_ge}
+use Rattle.solids.proofs.Neighbours.{has_face_lem, has_is, neighbour-empty, neighbour_is, others_with_ge}
 use Rattle.solids.proofs.Solid.{Solid, row_at, all_at, all_tabulated, each_tabulated}
 use Rattle.solids.proofs.Tables.{cell_at}
 use Rattle.solids.proofs.Tests.{all_below, of_none}

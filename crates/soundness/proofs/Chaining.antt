@@ -17,7 +17,6 @@ use lib.Dec.{eqb}
 use lib.ListN.{length, get_or, set, length-set}
 use lib.Seq.{get_or-set_same, get_or-set_other}
 use borrow.Author.Tests.{eq-eqb, eqb-true, eqb-false, ne_eqb}
-use Rattle.matching.specs.Inner.Matching.{last_below}
 use Rattle.matching.proofs.Earlier.{last_bounds, last_passes}
 use Rattle.soundness.specs.Inner.Hashing.{last_in, Chain, Chained, Chains, Kept, bucket_at}
 

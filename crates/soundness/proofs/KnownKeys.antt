@@ -1,13 +1,13 @@
 -- What is known of the keys of a table, key by key; and keys that meet.
 --   three             the words of one key put
---   coded_none, coded_more, rooms_more    no key, and one more
+--   coded_more, rooms_more    one more key
 --   coded_alike       keys with equal faces have equal hashes
 --   coded_met         when two keys meet
-use mathlib.Core.Path.{◌≡◌, refl, sym, ap, ◌∙◌, subst, subst⁻¹}
+use mathlib.Core.Path.{◌≡◌, sym, ap, ◌∙◌, subst, subst⁻¹}
 use mathlib.Core.List.{List}
 use Prim.Native.Nat.{ℕ, zero, suc, ◌+◌, ◌*◌, ◌-◌, ◌/◌, ◌%◌, ◌≤◌, ◌<◌}
 use native.Mathlib.Decide.{dec_lt}
-use native.Mathlib.Nat.{add-zero, div-lt_iff_lt-mul, mod-lt, not-suc-le-zero}
+use native.Mathlib.Nat.{add-zero, div-lt_iff_lt-mul, mod-lt}
 use native.Mathlib.Omega.{arith}
 use lib.Arith.{digits_div}
 use lib.ListN.{length, length-set, get_or, set}
@@ -25,15 +25,6 @@ use Rattle.soundness.specs.Inner.Pairing.{MeetsAt, wing_of}
 use Rattle.soundness.specs.Inner.Coding.{apex_at, Coded, code_of, CodedTo, mixed, Rooms, sign_at, Under}
 use Rattle.soundness.proofs.Coding.{code_same, under_at, under-without}
 use Rattle.soundness.proofs.Filled.{filled_more}
-
-pub coded_none : (d b : ℕ) (ws hash code known : List ℕ) → CodedTo d b ws hash code known 0
-coded_none d b ws hash code known = record {
-  hash_is = λ g l. absurd (not-suc-le-zero l);
-  code_is = λ g l. absurd (not-suc-le-zero l);
-  wing_is = λ g l. absurd (not-suc-le-zero l);
-  cell_is = λ g l. absurd (not-suc-le-zero l);
-  apex_is = λ g l. absurd (not-suc-le-zero l);
-}
 
 -- the three words of key g put
 abbrev pub three : List ℕ → ℕ → ℕ → ℕ → ℕ → List ℕ

@@ -1,6 +1,6 @@
 -- When all keys are passed the places are linked, and those that lead are apart.
 -- Assumes nothing.
-use mathlib.Core.Path.{◌≡◌, refl, sym, ap, ◌∙◌, subst}
+use mathlib.Core.Path.{◌≡◌, sym, ap, ◌∙◌, subst}
 use mathlib.Core.Logic.{◌⊎◌, inl, inr}
 use mathlib.Core.List.{List}
 use Prim.Native.Nat.{ℕ, suc, ◌+◌, ◌*◌, ◌/◌, ◌%◌, ◌≤◌, ◌<◌}
@@ -10,7 +10,6 @@ use native.Mathlib.Omega.{arith}
 use lib.ListN.{length}
 use Rattle.simplex.specs.Sort.{Asc}
 use Rattle.matching.proofs.Quotients.{cell_of_key, place_of_key}
-use Rattle.records.specs.Layout.{empty}
 use Rattle.records.specs.Inner.Inside.{wing_in}
 use Rattle.soundness.specs.Inner.Certified.{Apart, Linked, face_in, row_in}
 use Rattle.soundness.specs.Inner.Hashing.{face_of}

@@ -1,13 +1,12 @@
 -- Two places of a table with the same face meet, and no third place has it.
 -- Assumes nothing.
-use mathlib.Core.Path.{◌≡◌, refl, sym, ap, ◌∙◌, subst}
+use mathlib.Core.Path.{◌≡◌, sym, ap, ◌∙◌, subst}
 use mathlib.Core.Logic.{◌⊎◌, inl, inr}
 use mathlib.Core.List.{List}
 use Prim.Native.Nat.{ℕ, suc, ◌≤◌, ◌<◌}
 use native.Mathlib.Omega.{arith}
-use native.Mathlib.Decide.{dec_lt, ℕ_discrete}
+use native.Mathlib.Decide.{dec_lt}
 use lib.ListN.{length}
-use Rattle.simplex.specs.Faces.{without}
 use Rattle.simplex.specs.Sort.{Asc}
 use Rattle.records.specs.Inner.Inside.{wing_in}
 use Rattle.soundness.specs.Inner.Certified.{row_in, face_in, Meets, Leads, Linked, Apart}

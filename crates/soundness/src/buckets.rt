@@ -2,21 +2,14 @@
 ghost use Rattle.std.specs.Prelude.{◌≡◌, ℕ, ◌+◌, ◌≤◌, ◌<◌, length, get_or};
 ghost use Rattle.soundness.specs.Inner.Hashing.{bucket_in, Chain, Chains};
 
-use crate::keys::wide;
 use records::sizes::EMPTY;
-
-fn widest(x: u32) -> u64
-    ensures { (result ≡ x) × (result < 4294967296) }
-{
-    x as u64
-}
 
 // The bucket of a hash, of n.
 fn bucket(h: u32, n: usize) -> usize
     requires { (0 < n) × (n ≤ 65536) }
     ensures { (result ≡ bucket_in n h) × (result < n) }
 {
-    (widest(h) * n as u64 / 4294967296) as usize
+    (u64::from(h) * n as u64 / 4294967296) as usize
 }
 
 // A key before g with its hash, 65535 where there is none, or g where more than so many are to be looked at. The last in its bucket is `first`.
@@ -26,20 +19,18 @@ fn find(hash: &[u32], next: &[u16], buckets: usize, g: usize, first: u16, most: 
     ensures none { result ≡ 65535 → (j : ℕ) → j < g → get_or hash.now j 0 ≡ get_or hash.now g 0 → ⊥ }
     ensures found { result < g → get_or hash.now result 0 ≡ get_or hash.now g 0 }
 {
-    let mut left = most;
     let mut f = first;
-    while f != EMPTY {
-        if left == 0 {
-            return g;
+    for _ in 0..most {
+        if f == EMPTY {
+            return 65535;
         }
-        left -= 1;
-        let j = wide(f);
+        let j = usize::from(f);
         if hash[j] == hash[g] {
             return j;
         }
         f = next[j];
     }
-    65535
+    if f == EMPTY { 65535 } else { g }
 }
 
 // A key before g with its hash: 65535 where there is none, and then key g is put into its bucket; g where more than so many are to be looked at.

@@ -94,13 +94,11 @@ pub(crate) fn all_coded(
 {
     let keys = wings_words(d, s);
     let mut n: usize = 0;
-    let mut g: usize = 0;
-    while g < keys {
+    for g in 0..keys {
         n = pass(d, s, table, hash, code, known, head, next, g, n);
         if n == GIVEN_UP {
             return false;
         }
-        g += 1;
     }
     n == 0
 }

@@ -8,12 +8,6 @@ use crate::keys::key;
 use records::reading::{sign, vertex, wing};
 use simplex::sign_words::turned;
 
-fn widest(x: u16) -> u64
-    ensures { result ≡ x }
-{
-    x as u64
-}
-
 // The hash of a code.
 fn mixed(n: u64) -> u32
     ensures { result ≡ mixed n }
@@ -28,10 +22,8 @@ fn row_code(d: usize, b: u64, s: usize, table: &[u16], p: usize) -> u64
     ensures { result ≡ code_of b (row_in d table.now p) }
 {
     let mut c: u64 = 0;
-    let mut j = d + 1;
-    while 0 < j {
-        j -= 1;
-        c = c * b + widest(vertex(d, s, table, p, j));
+    for j in (0..d + 1).rev() {
+        c = c * b + u64::from(vertex(d, s, table, p, j));
     }
     c
 }
@@ -57,7 +49,7 @@ fn put_key(
 {
     let g = key(d, s, p, a);
     hash[g] = mixed(face);
-    code[g] = face * 2 + widest(turned(sign(d, s, table, p), a));
+    code[g] = face * 2 + u64::from(turned(sign(d, s, table, p), a));
     known[g * 3] = wing(d, s, table, p, a);
     known[g * 3 + 1] = p as u16;
     known[g * 3 + 2] = vertex(d, s, table, p, a);
@@ -83,8 +75,7 @@ fn put_cell(
 {
     let c = row_code(d, b, s, table, p);
     let mut one: u64 = 1;
-    let mut a: usize = 0;
-    while a <= d {
+    for a in 0..d + 1 {
         put_key(
             d,
             b,
@@ -97,8 +88,7 @@ fn put_cell(
             code,
             known,
         );
-        one = one * b;
-        a += 1;
+        one *= b;
     }
 }
 
@@ -116,10 +106,8 @@ fn put_all(
         × Rooms (s * suc d) hash.old code.old known.old }
     ensures { Coded d s table.now hash.new code.new known.new }
 {
-    let mut p: usize = 0;
-    while p < s {
+    for p in 0..s {
         put_cell(d, b, s, table, p, hash, code, known);
-        p += 1;
     }
 }
 

@@ -20,8 +20,7 @@ pub fn same_face(d: usize, s: usize, table: &[u16], p: usize, a: usize, q: usize
     requires { Inside d s p table.now × Inside d s q table.now × (a ≤ d) × (b ≤ d) }
     ensures { result ≡ same_row (face_in d table.now p a) (face_in d table.now q b) }
 {
-    let mut j: usize = 0;
-    while j < 7 {
+    for j in 0..7 {
         if d <= j {
             return true;
         }
@@ -30,7 +29,6 @@ pub fn same_face(d: usize, s: usize, table: &[u16], p: usize, a: usize, q: usize
         if x != y {
             return false;
         }
-        j += 1;
     }
     true
 }

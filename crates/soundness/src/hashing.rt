@@ -7,17 +7,11 @@ ghost use Rattle.soundness.specs.Inner.Hashing.{term, weight, scattered, linear,
 use crate::keys::key;
 use records::reading::vertex;
 
-fn widest(x: u16) -> u64
-    ensures { (result ≡ x) × (result < 65536) }
-{
-    x as u64
-}
-
 // The weight of a vertex: a polynomial of degree three, so that two faces of one weight are rare.
 fn term(x: u16) -> u64
     ensures { (result ≡ term x) × (result < 2 ^ 60) }
 {
-    let v = widest(x);
+    let v = u64::from(x);
     v * (v * (v + 123456789) + 362436069)
 }
 
@@ -33,7 +27,7 @@ fn scattered(sum: u64, t: u64) -> u32
 fn linear(x: u16) -> u32
     ensures { result ≡ linear x }
 {
-    (widest(x) * 2654435769 % 4294967296) as u32
+    (u64::from(x) * 2654435769 % 4294967296) as u32
 }
 
 // The weights of a cell's vertices, and their sum.
@@ -51,12 +45,10 @@ fn terms(d: usize, s: usize, table: &[u16], p: usize) -> Weights
 {
     let mut each = [0u64; 8];
     let mut sum: u64 = 0;
-    let mut j: usize = 0;
-    while j <= d {
+    for j in 0..d + 1 {
         let t = term(vertex(d, s, table, p, j));
         each[j] = t;
         sum += t;
-        j += 1;
     }
     Weights { each, sum }
 }
@@ -68,11 +60,9 @@ fn hash_cell(d: usize, s: usize, table: &[u16], p: usize, hash: &mut [u32])
     ensures long { length hash.new ≡ length hash.old }
 {
     let cell = terms(d, s, table, p);
-    let mut a: usize = 0;
-    while a <= d {
+    for a in 0..d + 1 {
         let g = key(d, s, p, a);
         hash[g] = scattered(cell.sum, cell.each[a]);
-        a += 1;
     }
 }
 
@@ -82,10 +72,8 @@ fn hash_all(d: usize, s: usize, table: &[u16], hash: &mut [u32])
     ensures hashed { Hashes d table.now hash.new (s * suc d) }
     ensures long { length hash.new ≡ length hash.old }
 {
-    let mut p: usize = 0;
-    while p < s {
+    for p in 0..s {
         hash_cell(d, s, table, p, hash);
-        p += 1;
     }
 }
 
@@ -107,10 +95,8 @@ fn hash_segments(s: usize, table: &[u16], hash: &mut [u32])
     ensures hashed { Hashes 1 table.now hash.new (s * 2) }
     ensures long { length hash.new ≡ length hash.old }
 {
-    let mut p: usize = 0;
-    while p < s {
+    for p in 0..s {
         hash_segment(s, table, p, hash);
-        p += 1;
     }
 }
 

@@ -8,9 +8,3 @@ pub fn key(d: usize, s: usize, p: usize, a: usize) -> usize
 {
     p * (d + 1) + a
 }
-
-pub fn wide(x: u16) -> usize
-    ensures { result ≡ x }
-{
-    x as usize
-}

@@ -1,5 +1,5 @@
-// The test in rooms for so many places, since memory is cleared before it is used: by codes up to 16,384 of them, by hashes beyond. Each of the
-// larger ones is asked for at two places, behind all tests, so that the compiler keeps it apart: a call takes the stack of its own room alone.
+// The test in rooms for so many places, since memory is cleared before it is used: by codes up to 16,384 of them, by hashes beyond. A call takes
+// the stack of its own room alone.
 ghost use Rattle.std.specs.Prelude.{◌≡◌, true, ℕ, suc, ◌*◌, ◌≤◌, ◌<◌};
 ghost use Rattle.rules.specs.Limits.{max_dimension};
 ghost use Rattle.rules.specs.Shapes.{shape_ok};
@@ -15,7 +15,6 @@ use crate::hashing::hashes;
 use crate::rows::all_fine;
 use crate::wings::all_right;
 use records::sizes::{EMPTY, table_words, wings_words};
-use rules::compare::differ;
 use rules::limits::Shape;
 
 // Whether a table of fine records is sound, told in lent arrays whose buckets are empty. False says nothing.
@@ -59,97 +58,30 @@ fn in_codes(
     all_coded(d, s, table, hash, code, known, head, next)
 }
 
-// By codes, for at most 256 places.
-fn coded_256(d: usize, v: usize, s: usize, table: &[u16]) -> bool
-    requires { Table d s table.now × (1 ≤ d) × (s * suc d ≤ 256) × (shape_ok max_dimension d v s ≡ true) × (v ≤ base_of d) }
+// By codes, in a room for so many places. It stays a call, so that a caller's frame has no room in it.
+#[inline(never)]
+fn coded<const PLACES: usize, const KNOWN: usize, const BUCKETS: usize>(
+    d: usize,
+    v: usize,
+    s: usize,
+    table: &[u16],
+) -> bool
+    requires { Table d s table.now × (1 ≤ d) × (s * suc d ≤ PLACES) × (shape_ok max_dimension d v s ≡ true) × (v ≤ base_of d)
+        × (PLACES * 3 ≤ KNOWN) × (KNOWN ≤ 65536) × (0 < BUCKETS) × (BUCKETS ≤ 65536) }
     ensures { result ≡ true → sound d v s table.now ≡ true }
 {
-    let mut hash = [0u32; 256];
-    let mut code = [0u64; 256];
-    let mut known = [0u16; 768];
-    let mut head = [EMPTY; 512];
-    let mut next = [0u16; 256];
+    let mut hash = [0u32; PLACES];
+    let mut code = [0u64; PLACES];
+    let mut known = [0u16; KNOWN];
+    let mut head = [EMPTY; BUCKETS];
+    let mut next = [0u16; PLACES];
     in_codes(
         d, v, s, table, &mut hash, &mut code, &mut known, &mut head, &mut next,
     )
 }
 
-// By codes, for at most 1,024 places.
-fn coded_1024(d: usize, v: usize, s: usize, table: &[u16]) -> bool
-    requires { Table d s table.now × (1 ≤ d) × (s * suc d ≤ 1024) × (shape_ok max_dimension d v s ≡ true) × (v ≤ base_of d) }
-    ensures { result ≡ true → sound d v s table.now ≡ true }
-{
-    let mut hash = [0u32; 1024];
-    let mut code = [0u64; 1024];
-    let mut known = [0u16; 3072];
-    let mut head = [EMPTY; 2048];
-    let mut next = [0u16; 1024];
-    in_codes(
-        d, v, s, table, &mut hash, &mut code, &mut known, &mut head, &mut next,
-    )
-}
-
-// By codes, for at most 2,048 places.
-fn coded_2048(d: usize, v: usize, s: usize, table: &[u16]) -> bool
-    requires { Table d s table.now × (1 ≤ d) × (s * suc d ≤ 2048) × (shape_ok max_dimension d v s ≡ true) × (v ≤ base_of d) }
-    ensures { result ≡ true → sound d v s table.now ≡ true }
-{
-    let mut hash = [0u32; 2048];
-    let mut code = [0u64; 2048];
-    let mut known = [0u16; 6144];
-    let mut head = [EMPTY; 4096];
-    let mut next = [0u16; 2048];
-    in_codes(
-        d, v, s, table, &mut hash, &mut code, &mut known, &mut head, &mut next,
-    )
-}
-
-// By codes, for at most 4,096 places.
-fn coded_4096(d: usize, v: usize, s: usize, table: &[u16]) -> bool
-    requires { Table d s table.now × (1 ≤ d) × (s * suc d ≤ 4096) × (shape_ok max_dimension d v s ≡ true) × (v ≤ base_of d) }
-    ensures { result ≡ true → sound d v s table.now ≡ true }
-{
-    let mut hash = [0u32; 4096];
-    let mut code = [0u64; 4096];
-    let mut known = [0u16; 12288];
-    let mut head = [EMPTY; 8192];
-    let mut next = [0u16; 4096];
-    in_codes(
-        d, v, s, table, &mut hash, &mut code, &mut known, &mut head, &mut next,
-    )
-}
-
-// By codes, for at most 8,192 places.
-fn coded_8192(d: usize, v: usize, s: usize, table: &[u16]) -> bool
-    requires { Table d s table.now × (1 ≤ d) × (s * suc d ≤ 8192) × (shape_ok max_dimension d v s ≡ true) × (v ≤ base_of d) }
-    ensures { result ≡ true → sound d v s table.now ≡ true }
-{
-    let mut hash = [0u32; 8192];
-    let mut code = [0u64; 8192];
-    let mut known = [0u16; 24576];
-    let mut head = [EMPTY; 16384];
-    let mut next = [0u16; 8192];
-    in_codes(
-        d, v, s, table, &mut hash, &mut code, &mut known, &mut head, &mut next,
-    )
-}
-
-// By codes, for at most 16,384 places.
-fn coded_16384(d: usize, v: usize, s: usize, table: &[u16]) -> bool
-    requires { Table d s table.now × (1 ≤ d) × (s * suc d ≤ 16384) × (shape_ok max_dimension d v s ≡ true) × (v ≤ base_of d) }
-    ensures { result ≡ true → sound d v s table.now ≡ true }
-{
-    let mut hash = [0u32; 16384];
-    let mut code = [0u64; 16384];
-    let mut known = [0u16; 49152];
-    let mut head = [EMPTY; 24576];
-    let mut next = [0u16; 16384];
-    in_codes(
-        d, v, s, table, &mut hash, &mut code, &mut known, &mut head, &mut next,
-    )
-}
-
-// By hashes, for at most 32,768 places.
+// By hashes, in the room for all places that there may be; it stays a call too.
+#[inline(never)]
 fn in_32768(d: usize, v: usize, s: usize, table: &[u16]) -> bool
     requires { Table d s table.now × (1 ≤ d) × (s * suc d ≤ 32768) × (shape_ok max_dimension d v s ≡ true) }
     ensures { result ≡ true → sound d v s table.now ≡ true }
@@ -171,45 +103,27 @@ pub fn is_certified(d: usize, v: usize, s: usize, table: &[u16]) -> bool
     if !Shape::within(Shape::MAX_DIMENSION, d, v, s) {
         return false;
     }
-    if differ(table.len(), table_words(d, s)) {
+    if table.len() != table_words(d, s) {
         return false;
     }
     let n = wings_words(d, s);
     if (n <= 16384) & (v <= base(d)) {
         if n <= 256 {
-            return coded_256(d, v, s, table);
+            return coded::<256, 768, 512>(d, v, s, table);
         }
         if n <= 1024 {
-            if d == 1 {
-                return coded_1024(1, v, s, table);
-            }
-            return coded_1024(d, v, s, table);
+            return coded::<1024, 3072, 2048>(d, v, s, table);
         }
         if n <= 2048 {
-            if d == 1 {
-                return coded_2048(1, v, s, table);
-            }
-            return coded_2048(d, v, s, table);
+            return coded::<2048, 6144, 4096>(d, v, s, table);
         }
         if n <= 4096 {
-            if d == 1 {
-                return coded_4096(1, v, s, table);
-            }
-            return coded_4096(d, v, s, table);
+            return coded::<4096, 12288, 8192>(d, v, s, table);
         }
         if n <= 8192 {
-            if d == 1 {
-                return coded_8192(1, v, s, table);
-            }
-            return coded_8192(d, v, s, table);
+            return coded::<8192, 24576, 16384>(d, v, s, table);
         }
-        if d == 3 {
-            return coded_16384(3, v, s, table);
-        }
-        return coded_16384(d, v, s, table);
-    }
-    if d == 4 {
-        return in_32768(4, v, s, table);
+        return coded::<16384, 49152, 24576>(d, v, s, table);
     }
     in_32768(d, v, s, table)
 }

@@ -3,7 +3,6 @@ ghost use Rattle.std.specs.Prelude.{◌≡◌, true, ℕ, suc, ◌<◌};
 ghost use Rattle.records.specs.Inner.Inside.{Table, Inside, vertex_in};
 ghost use Rattle.soundness.specs.Inner.Certified.{Fine};
 
-use crate::keys::wide;
 use records::reading::{material, sign, vertex};
 use rules::limits::Shape;
 
@@ -12,12 +11,10 @@ fn ascends(d: usize, s: usize, table: &[u16], p: usize) -> bool
     requires { Inside d s p table.now }
     ensures { result ≡ true → (j : ℕ) → j < d → vertex_in d table.now p j < vertex_in d table.now p (suc j) }
 {
-    let mut j: usize = 0;
-    while j < d {
+    for j in 0..d {
         if vertex(d, s, table, p, j + 1) <= vertex(d, s, table, p, j) {
             return false;
         }
-        j += 1;
     }
     true
 }
@@ -33,7 +30,7 @@ fn is_fine(d: usize, v: usize, s: usize, table: &[u16], p: usize) -> bool
     if Shape::MAX_MATERIAL < material(d, s, table, p) {
         return false;
     }
-    if v <= wide(vertex(d, s, table, p, d)) {
+    if v <= usize::from(vertex(d, s, table, p, d)) {
         return false;
     }
     ascends(d, s, table, p)
@@ -44,12 +41,10 @@ fn every_fine(d: usize, v: usize, s: usize, table: &[u16]) -> bool
     requires { Table d s table.now }
     ensures { result ≡ true → (p : ℕ) → p < s → Fine d v table.now p }
 {
-    let mut p: usize = 0;
-    while p < s {
+    for p in 0..s {
         if !is_fine(d, v, s, table, p) {
             return false;
         }
-        p += 1;
     }
     true
 }

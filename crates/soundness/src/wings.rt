@@ -7,7 +7,6 @@ ghost use Rattle.soundness.specs.Inner.Pairing.{First, Second, Passing};
 
 use crate::buckets::put;
 use crate::faces::{opposite, same_face};
-use crate::keys::wide;
 use records::reading::{sign, vertex, wing};
 use records::sizes::{EMPTY, wings_words};
 
@@ -16,10 +15,10 @@ fn meets(d: usize, s: usize, table: &[u16], q: usize, b: usize, p: usize, a: usi
     requires { Inside d s q table.now × Inside d s p table.now × (b ≤ d) × (a ≤ d) }
     ensures { result ≡ true → Meets d table.now q b p a }
 {
-    if wide(wing(d, s, table, q, b)) != p {
+    if usize::from(wing(d, s, table, q, b)) != p {
         return false;
     }
-    if wide(wing(d, s, table, p, a)) != q {
+    if usize::from(wing(d, s, table, p, a)) != q {
         return false;
     }
     if vertex(d, s, table, q, b) == vertex(d, s, table, p, a) {
@@ -121,13 +120,11 @@ pub(crate) fn all_right(
     let mut n: usize = 0;
     let mut p: usize = 0;
     let mut a: usize = 0;
-    let mut g: usize = 0;
-    while g < keys {
+    for g in 0..keys {
         n = pass(d, s, table, hash, head, next, g, p, a, n);
         if n == GIVEN_UP {
             return false;
         }
-        g += 1;
         if a < d {
             a += 1;
         } else {

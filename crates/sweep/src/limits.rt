@@ -6,13 +6,12 @@ ghost use Rattle.records.specs.Layout.{table_length};
 ghost use Rattle.prism.specs.Swept.{swept_cells};
 
 use records::sizes::table_words;
-use rules::compare::{both, either, less};
 use rules::limits::{Shape, steps_ok, swept_vertices};
 
 pub fn in_limits(d: usize, v: usize, s: usize, h: usize) -> bool
     ensures { result ≡ (shape_ok max_source d v s && steps_ok h) }
 {
-    both(Shape::within(Shape::MAX_SOURCE, d, v, s), steps_ok(h))
+    Shape::within(Shape::MAX_SOURCE, d, v, s) && steps_ok(h)
 }
 
 fn swept_cells(d: usize, s: usize, h: usize) -> usize
@@ -27,12 +26,7 @@ pub(crate) fn too_large(d: usize, v: usize, s: usize, h: usize) -> bool
     requires { not (shape_ok max_source d v s && steps_ok h) ≡ false }
     ensures { result ≡ (ltb max_vertices (swept_vertices v h) || ltb max_cells (swept_cells d s h)) }
 {
-    let vertices = swept_vertices(v, h);
-    let cells = swept_cells(d, s, h);
-    either(
-        less(Shape::MAX_VERTICES, vertices),
-        less(Shape::MAX_CELLS, cells),
-    )
+    Shape::MAX_VERTICES < swept_vertices(v, h) || Shape::MAX_CELLS < swept_cells(d, s, h)
 }
 
 // Words of the swept table.

@@ -15,11 +15,5 @@ module _ (d s h i p k : ℕ) (hi : i < h) (hp : p < s) (hk : k ≤ d) where
       let here : p * suc d + k < s * suc d = inside s (suc d) p k hp (omega arith) in
       omega (arith, inside h (s * suc d) i (p * suc d + k) hi here)
 
-  pub level-inside : s * suc d ≤ swept_cells d s h
-  level-inside = omega (arith, suc-mul i (s * suc d), mul-le-mul_right {m = suc i} {n = h} (s * suc d) hi)
-
-  pub prism-inside : suc d ≤ s * suc d
-  prism-inside = omega (arith, suc-mul p (suc d), mul-le-mul_right {m = suc p} {n = s} (suc d) hp)
-
 pub vertex-inside : (v h i x : ℕ) → i ≤ h → x < v → at_level v i x < swept_vertices v h
 vertex-inside v h i x hi hx = omega (arith, suc-mul h v, mul-le-mul_right {m = i} {n = h} v hi)

@@ -4,6 +4,7 @@
 --   kept_set, set-right           one right word is written, and is right
 --   Stored, stored                one word is written into what there was
 --   rights_from, rights_more      one right word more
+--   placed_right, placed_outside  a list that is placed is right, and the rest is as it was
 --   filled                        with all words right the list is placed
 -- Assumes nothing.
 use Rattle.std.proofs.Common.{◌≡◌, ℕ, ◌+◌, ◌-◌, ◌<◌, ◌≤◌, Bool, true, false, eqb, List, length, get_or, drop, set, sym, refl, ap, ◌∙◌, arith}
@@ -82,8 +83,8 @@ module _ (at : ℕ) (xs : List ℕ) where
     abbrev whole : List ℕ
     whole = placed at xs old
 
-    inside_at : (e : ℕ) → e < length xs → get_or whole (at + e) 0 ≡ get_or xs e 0
-    inside_at e h =
+    pub placed_right : (e : ℕ) → e < length xs → Right at xs whole e
+    placed_right e h =
         sym (get_or-drop at whole e 0) ∙ sym (get_or-take (length xs) (drop at whole) e 0 h)
         ∙ ap (λ (l : List ℕ). get_or l e 0) (placed-read at xs old (omega arith))
 
@@ -92,15 +93,22 @@ module _ (at : ℕ) (xs : List ℕ) where
         sym (get_or-drop (at + length xs) whole e 0) ∙ ap (λ (l : List ℕ). get_or l e 0) (placed-behind at xs old room)
         ∙ get_or-drop (at + length xs) old e 0
 
+    pub placed_outside : Outside at (length xs) old whole
+    placed_outside =
+        record {
+          same = placed-length at xs old room;
+          before = λ x l. placed-before at xs old x 0 l (omega arith);
+          behind = λ x l.
+              let here : x ≡ at + length xs + (x - (at + length xs)) = omega arith in rw here (behind_at (x - (at + length xs)));
+        }
+
     pub filled : (new : List ℕ) → Outside at (length xs) old new → ((e : ℕ) → e < length xs → Right at xs new e) → new ≡ placed at xs old
     filled new o all =
-        ext_get_or 0 new whole (o.same ∙ sym (placed-length at xs old room)) (λ x less. go x (dec_lt x at) (dec_lt x (at + length xs)))
+        ext_get_or 0 new whole (o.same ∙ sym placed_outside.same) (λ x less. go x (dec_lt x at) (dec_lt x (at + length xs)))
       where
         go : (x : ℕ) → Dec (x < at) → Dec (x < at + length xs) → get_or new x 0 ≡ get_or whole x 0
-        go x (yes l) m = o.before x l ∙ sym (placed-before at xs old x 0 l (omega arith))
+        go x (yes l) m = o.before x l ∙ sym (placed_outside.before x l)
         go x (no l) (yes m) =
             let here : x ≡ at + (x - at) = omega arith in
-            rw here (all (x - at) (omega arith) ∙ sym (inside_at (x - at) (omega arith)))
-        go x (no l) (no m) =
-            let here : x ≡ at + length xs + (x - (at + length xs)) = omega arith in
-            o.behind x (omega arith) ∙ rw here (sym (behind_at (x - (at + length xs))))
+            rw here (all (x - at) (omega arith) ∙ sym (placed_right (x - at) (omega arith)))
+        go x (no l) (no m) = o.behind x (omega arith) ∙ sym (placed_outside.behind x (omega arith))

@@ -7,7 +7,6 @@ ghost use Rattle.sweeping.specs.Inner.PrismPlaces.{side_at};
 ghost use Rattle.sweeping.specs.Inner.SweptWords.{prism_words, Ready};
 
 use crate::places::record_place;
-use crate::reading::wide;
 use crate::sides::pair_at;
 use crate::wings::across_face;
 use records::sizes::{EMPTY, first_wing};
@@ -29,12 +28,11 @@ fn side_word(d: usize, first: u16, back: usize, l: usize) -> u16
     if first == EMPTY {
         return EMPTY;
     }
-    (wide(first) + pair_at(d, back, l).cell) as u16
+    (usize::from(first) + pair_at(d, back, l).cell) as u16
 }
 
 // The sides over face a.
-fn put_face(
-    d: usize,
+fn put_face<const D: usize>(
     v: usize,
     s: usize,
     h: usize,
@@ -45,25 +43,22 @@ fn put_face(
     at: usize,
     out: &mut [u16],
 )
-    requires ready { Ready d v s h table.now }
-    requires at { (i < h) × (p < s) × (a ≤ d) }
-    requires room { at + length (prism_words d v s h table.now i p) ≤ length out.old }
-    ensures kept { Kept at (prism_words d v s h table.now i p) out.old out.new }
-    ensures right { (l : ℕ) → l < d → Right at (prism_words d v s h table.now i p) out.new (side_at d a l) }
+    requires ready { Ready D v s h table.now }
+    requires at { (i < h) × (p < s) × (a ≤ D) }
+    requires room { at + length (prism_words D v s h table.now i p) ≤ length out.old }
+    ensures kept { Kept at (prism_words D v s h table.now i p) out.old out.new }
+    ensures right { (l : ℕ) → l < D → Right at (prism_words D v s h table.now i p) out.new (side_at D a l) }
 {
-    let x = across_face(d, v, s, h, table, i, p, a);
+    let x = across_face(D, v, s, h, table, i, p, a);
     let first = x.first;
     let back = x.back;
-    let mut l: usize = 0;
-    while l < d {
-        out[at + side_place(d, a, l)] = side_word(d, first, back, l);
-        l += 1;
+    for l in 0..D {
+        out[at + side_place(D, a, l)] = side_word(D, first, back, l);
     }
 }
 
 // The sides over all faces.
-fn put_faces(
-    d: usize,
+pub fn put_faces<const D: usize>(
     v: usize,
     s: usize,
     h: usize,
@@ -73,46 +68,14 @@ fn put_faces(
     at: usize,
     out: &mut [u16],
 )
-    requires ready { Ready d v s h table.now }
+    requires ready { Ready D v s h table.now }
     requires at { (i < h) × (p < s) }
-    requires room { at + length (prism_words d v s h table.now i p) ≤ length out.old }
-    ensures kept { Kept at (prism_words d v s h table.now i p) out.old out.new }
-    ensures right { (a l : ℕ) → a ≤ d → l < d →
-        Right at (prism_words d v s h table.now i p) out.new (side_at d a l) }
+    requires room { at + length (prism_words D v s h table.now i p) ≤ length out.old }
+    ensures kept { Kept at (prism_words D v s h table.now i p) out.old out.new }
+    ensures right { (a l : ℕ) → a ≤ D → l < D →
+        Right at (prism_words D v s h table.now i p) out.new (side_at D a l) }
 {
-    let mut a: usize = 0;
-    while a <= d {
-        put_face(d, v, s, h, table, i, p, a, at, out);
-        a += 1;
-    }
-}
-
-// The same by dimension, for the compiler to write out.
-pub fn write_faces(
-    d: usize,
-    v: usize,
-    s: usize,
-    h: usize,
-    table: &[u16],
-    i: usize,
-    p: usize,
-    at: usize,
-    out: &mut [u16],
-)
-    requires ready { Ready d v s h table.now }
-    requires at { (i < h) × (p < s) }
-    requires room { at + length (prism_words d v s h table.now i p) ≤ length out.old }
-    ensures kept { Kept at (prism_words d v s h table.now i p) out.old out.new }
-    ensures right { (a l : ℕ) → a ≤ d → l < d →
-        Right at (prism_words d v s h table.now i p) out.new (side_at d a l) }
-{
-    match d {
-        0 => put_faces(0, v, s, h, table, i, p, at, out),
-        1 => put_faces(1, v, s, h, table, i, p, at, out),
-        2 => put_faces(2, v, s, h, table, i, p, at, out),
-        3 => put_faces(3, v, s, h, table, i, p, at, out),
-        4 => put_faces(4, v, s, h, table, i, p, at, out),
-        5 => put_faces(5, v, s, h, table, i, p, at, out),
-        _ => put_faces(6, v, s, h, table, i, p, at, out),
+    for a in 0..D + 1 {
+        put_face::<D>(v, s, h, table, i, p, a, at, out);
     }
 }

@@ -6,9 +6,8 @@ ghost use Rattle.sweeping.specs.Inner.PrismPlaces.{HeadOf, HeadRight};
 ghost use Rattle.sweeping.specs.Inner.SweptWords.{prism_words, Ready};
 
 use crate::places::record_place;
-use crate::reading::{sign, wide};
 use crate::wings::{cell_number, wing_above, wing_below};
-use records::reading::material;
+use records::reading::{material, sign};
 use records::sizes::{MATERIAL, first_wing};
 use simplex::sign_words::turned;
 
@@ -43,9 +42,23 @@ fn below(d: usize, k: usize, first: usize, bottom: u16) -> u16
     (first + (k - 1)) as u16
 }
 
+// What the heads over cell p share.
+fn head_of(d: usize, v: usize, s: usize, h: usize, table: &[u16], i: usize, p: usize) -> Head
+    requires ready { Ready d v s h table.now }
+    requires at { (i < h) × (p < s) }
+    ensures { HeadOf d s h table.now i p result }
+{
+    Head {
+        sign: sign(d, s, table, p),
+        material: material(d, s, table, p),
+        first: usize::from(cell_number(d, s, h, i, p, 0)),
+        top: wing_above(d, s, h, i, p, d),
+        bottom: wing_below(d, s, h, i, p, 0),
+    }
+}
+
 // Those of cell k. `first` is the number of the first cell, and top and bottom are above and below them all.
-fn put_head(
-    d: usize,
+fn put_head<const D: usize>(
     v: usize,
     s: usize,
     h: usize,
@@ -57,64 +70,22 @@ fn put_head(
     at: usize,
     out: &mut [u16],
 )
-    requires ready { Ready d v s h table.now }
-    requires at { (i < h) × (p < s) × (k ≤ d) × HeadOf d s h table.now i p x }
-    requires room { at + length (prism_words d v s h table.now i p) ≤ length out.old }
-    ensures kept { Kept at (prism_words d v s h table.now i p) out.old out.new }
-    ensures right { HeadRight d at (prism_words d v s h table.now i p) out.new k }
+    requires ready { Ready D v s h table.now }
+    requires at { (i < h) × (p < s) × (k ≤ D) × HeadOf D s h table.now i p x }
+    requires room { at + length (prism_words D v s h table.now i p) ≤ length out.old }
+    ensures kept { Kept at (prism_words D v s h table.now i p) out.old out.new }
+    ensures right { HeadRight D at (prism_words D v s h table.now i p) out.new k }
 {
-    let to = at + record_place(d, k);
-    let wings = to + first_wing(d + 1);
-    out[to] = turned(x.sign, k * d);
+    let to = at + record_place(D, k);
+    let wings = to + first_wing(D + 1);
+    out[to] = turned(x.sign, k * D);
     out[to + MATERIAL] = x.material;
-    out[wings] = above(d, k, x.first, x.top);
-    out[wings + (d + 1)] = below(d, k, x.first, x.bottom);
+    out[wings] = above(D, k, x.first, x.top);
+    out[wings + (D + 1)] = below(D, k, x.first, x.bottom);
 }
 
 // Those of all.
-fn put_heads(
-    d: usize,
-    v: usize,
-    s: usize,
-    h: usize,
-    table: &[u16],
-    i: usize,
-    p: usize,
-    x: Head,
-    at: usize,
-    out: &mut [u16],
-)
-    requires ready { Ready d v s h table.now }
-    requires at { (i < h) × (p < s) × HeadOf d s h table.now i p x }
-    requires room { at + length (prism_words d v s h table.now i p) ≤ length out.old }
-    ensures kept { Kept at (prism_words d v s h table.now i p) out.old out.new }
-    ensures right { (k : ℕ) → k ≤ d → HeadRight d at (prism_words d v s h table.now i p) out.new k }
-{
-    let mut k: usize = 0;
-    while k <= d {
-        put_head(d, v, s, h, table, i, p, x, k, at, out);
-        k += 1;
-    }
-}
-
-// What the heads over cell p share.
-fn head_of(d: usize, v: usize, s: usize, h: usize, table: &[u16], i: usize, p: usize) -> Head
-    requires ready { Ready d v s h table.now }
-    requires at { (i < h) × (p < s) }
-    ensures { HeadOf d s h table.now i p result }
-{
-    Head {
-        sign: sign(d, s, table, p),
-        material: material(d, s, table, p),
-        first: wide(cell_number(d, s, h, i, p, 0)),
-        top: wing_above(d, s, h, i, p, d),
-        bottom: wing_below(d, s, h, i, p, 0),
-    }
-}
-
-// All by dimension, for the compiler to write out.
-pub fn write_heads(
-    d: usize,
+pub fn put_heads<const D: usize>(
     v: usize,
     s: usize,
     h: usize,
@@ -124,20 +95,14 @@ pub fn write_heads(
     at: usize,
     out: &mut [u16],
 )
-    requires ready { Ready d v s h table.now }
+    requires ready { Ready D v s h table.now }
     requires at { (i < h) × (p < s) }
-    requires room { at + length (prism_words d v s h table.now i p) ≤ length out.old }
-    ensures kept { Kept at (prism_words d v s h table.now i p) out.old out.new }
-    ensures right { (k : ℕ) → k ≤ d → HeadRight d at (prism_words d v s h table.now i p) out.new k }
+    requires room { at + length (prism_words D v s h table.now i p) ≤ length out.old }
+    ensures kept { Kept at (prism_words D v s h table.now i p) out.old out.new }
+    ensures right { (k : ℕ) → k ≤ D → HeadRight D at (prism_words D v s h table.now i p) out.new k }
 {
-    let x = head_of(d, v, s, h, table, i, p);
-    match d {
-        0 => put_heads(0, v, s, h, table, i, p, x, at, out),
-        1 => put_heads(1, v, s, h, table, i, p, x, at, out),
-        2 => put_heads(2, v, s, h, table, i, p, x, at, out),
-        3 => put_heads(3, v, s, h, table, i, p, x, at, out),
-        4 => put_heads(4, v, s, h, table, i, p, x, at, out),
-        5 => put_heads(5, v, s, h, table, i, p, x, at, out),
-        _ => put_heads(6, v, s, h, table, i, p, x, at, out),
+    let x = head_of(D, v, s, h, table, i, p);
+    for k in 0..D + 1 {
+        put_head::<D>(v, s, h, table, i, p, x, k, at, out);
     }
 }

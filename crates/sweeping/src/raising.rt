@@ -16,7 +16,7 @@ use records::sizes::{EMPTY, VERTICES, first_wing, record_size};
 fn ahead(w: u16, x: u16) -> u16
     ensures { Ahead w x result }
 {
-    std::num::wrapping_add_u16(x, std::num::wrapping_sub_u16(x, w))
+    x.wrapping_add(x.wrapping_sub(w))
 }
 
 // Writes n words behind the n from place `at` on and the n behind those.
@@ -24,10 +24,8 @@ fn raise(n: usize, at: usize, out: &mut [u16])
     requires { at + n + n + n ≤ length out.old }
     ensures { Raised n at out.old out.new }
 {
-    let mut j: usize = 0;
-    while j < n {
+    for j in 0..n {
         out[at + n + n + j] = ahead(out[at + j], out[at + n + j]);
-        j += 1;
     }
 }
 
@@ -46,13 +44,10 @@ fn join(d: usize, v: usize, s: usize, h: usize, table: &[u16], i: usize, at: usi
     let size = record_place(d, d + 1);
     let low = first_wing(d + 1) + (d + 1);
     let high = record_place(d, d) + first_wing(d + 1);
-    let mut first = at;
-    let mut p: usize = 0;
-    while p < s {
+    for p in 0..s {
+        let first = at + p * size;
         out[first + low] = wing_below(d, s, h, i, p, 0);
         out[first + high] = wing_above(d, s, h, i, p, d);
-        first += size;
-        p += 1;
     }
 }
 
@@ -76,10 +71,8 @@ fn steps(d: usize, v: usize, c: usize) -> [u16; 18]
     ensures { (j : ℕ) → j < 18 → slice_index result j ≡ step_of d v c j }
 {
     let mut all = [0u16; 18];
-    let mut j: usize = 0;
-    while j < 18 {
+    for j in 0..18 {
         all[j] = step(d, v, c, j);
-        j += 1;
     }
     all
 }
@@ -91,83 +84,47 @@ fn stepped(x: u16, more: u16) -> u16
     if x == EMPTY {
         return x;
     }
-    std::num::wrapping_add_u16(x, more)
+    x.wrapping_add(more)
 }
 
 // The record from place `from` on, at the next level.
-fn stepped_row(d: usize, steps: &[u16; 18], from: usize, out: &[u16]) -> [u16; 18]
-    requires { (d ≤ max_source) × (from + record_size (suc d) ≤ length out.now) }
-    ensures { (j : ℕ) → j < record_size (suc d) →
+fn stepped_row<const D: usize>(steps: &[u16; 18], from: usize, out: &[u16]) -> [u16; 18]
+    requires { (D ≤ max_source) × (from + record_size (suc D) ≤ length out.now) }
+    ensures { (j : ℕ) → j < record_size (suc D) →
         Stepped (slice_index out.now (from + j)) (slice_index steps.now j) (slice_index result j) }
 {
-    let n = record_size(d + 1);
     let mut row = [0u16; 18];
-    let mut j: usize = 0;
-    while j < n {
+    for j in 0..record_size(D + 1) {
         row[j] = stepped(out[from + j], steps[j]);
-        j += 1;
     }
     row
 }
 
-// Writes such a record from place `to` on.
-fn put_row(d: usize, row: &[u16; 18], to: usize, out: &mut [u16])
-    requires { (d ≤ max_source) × (to + record_size (suc d) ≤ length out.old) }
-    ensures outside { Outside to (record_size (suc d)) out.old out.new }
-    ensures words { (j : ℕ) → j < record_size (suc d) → slice_index out.new (to + j) ≡ slice_index row.now j }
+// Writes such a record from place `to` on: all is read before any is written, so that the compiler makes both wide.
+fn step_record<const D: usize>(steps: &[u16; 18], from: usize, to: usize, out: &mut [u16])
+    requires { (D ≤ max_source) × (from + record_size (suc D) ≤ length out.old) × (to + record_size (suc D) ≤ length out.old) }
+    ensures { SteppedTo (record_size (suc D)) from to steps.now out.old out.new }
 {
-    let n = record_size(d + 1);
-    let mut j: usize = 0;
-    while j < n {
-        out[to + j] = row[j];
-        j += 1;
-    }
-}
-
-// Both: all is read before any is written, so that the compiler makes both wide.
-fn put_stepped(d: usize, steps: &[u16; 18], from: usize, to: usize, out: &mut [u16])
-    requires { (d ≤ max_source) × (from + record_size (suc d) ≤ length out.old) × (to + record_size (suc d) ≤ length out.old) }
-    ensures { SteppedTo (record_size (suc d)) from to steps.now out.old out.new }
-{
-    let row = stepped_row(d, steps, from, out);
-    put_row(d, &row, to, out);
-}
-
-// The same by dimension, for the compiler to write out.
-fn step_record(d: usize, steps: &[u16; 18], from: usize, to: usize, out: &mut [u16])
-    requires { (d ≤ max_source) × (from + record_size (suc d) ≤ length out.old) × (to + record_size (suc d) ≤ length out.old) }
-    ensures { SteppedTo (record_size (suc d)) from to steps.now out.old out.new }
-{
-    match d {
-        0 => put_stepped(0, steps, from, to, out),
-        1 => put_stepped(1, steps, from, to, out),
-        2 => put_stepped(2, steps, from, to, out),
-        3 => put_stepped(3, steps, from, to, out),
-        4 => put_stepped(4, steps, from, to, out),
-        5 => put_stepped(5, steps, from, to, out),
-        _ => put_stepped(6, steps, from, to, out),
-    }
+    let n = record_size(D + 1);
+    let row = stepped_row::<D>(steps, from, out);
+    out[to..to + n].copy_from_slice(&row[..n]);
 }
 
 // Writes c records of n words together behind the first n words, each at the next level.
-fn step_level(d: usize, v: usize, c: usize, n: usize, out: &mut [u16])
-    requires { (d ≤ max_source) × (v ≤ max_vertices) × (c ≤ max_cells) × (n ≡ c * record_size (suc d)) × (n + n ≤ length out.old) }
-    ensures { SteppedLevel d v c n c out.old out.new }
+fn step_level<const D: usize>(v: usize, c: usize, n: usize, out: &mut [u16])
+    requires { (D ≤ max_source) × (v ≤ max_vertices) × (c ≤ max_cells) × (n ≡ c * record_size (suc D)) × (n + n ≤ length out.old) }
+    ensures { SteppedLevel D v c n c out.old out.new }
 {
-    let all = steps(d, v, c);
-    let size = record_size(d + 1);
-    let mut at: usize = 0;
-    let mut q: usize = 0;
-    while q < c {
-        step_record(d, &all, at, n + at, out);
-        at += size;
-        q += 1;
+    let all = steps(D, v, c);
+    let size = record_size(D + 1);
+    for q in 0..c {
+        let at = q * size;
+        step_record::<D>(&all, at, n + at, out);
     }
 }
 
 // Level 1, of n words, where level 0 stands in its place.
-pub fn second_level(
-    d: usize,
+pub fn second_level<const D: usize>(
     v: usize,
     s: usize,
     h: usize,
@@ -175,14 +132,14 @@ pub fn second_level(
     n: usize,
     out: &mut [u16],
 )
-    requires ready { Ready d v s h table.now }
-    requires at { (1 < h) × (n ≡ s * prism_size d) }
-    requires below { (e : ℕ) → e < n → Right 0 (level_words d v s h table.now 0) out.old e }
+    requires ready { Ready D v s h table.now }
+    requires at { (1 < h) × (n ≡ s * prism_size D) }
+    requires below { (e : ℕ) → e < n → Right 0 (level_words D v s h table.now 0) out.old e }
     requires room { n + n ≤ length out.old }
-    ensures { out.new ≡ placed n (level_words d v s h table.now 1) out.old }
+    ensures { out.new ≡ placed n (level_words D v s h table.now 1) out.old }
 {
-    step_level(d, v, s * (d + 1), n, out);
-    join(d, v, s, h, table, 1, n, out);
+    step_level::<D>(v, s * (D + 1), n, out);
+    join(D, v, s, h, table, 1, n, out);
 }
 
 // Level i + 2, of n words, where levels i and i + 1 stand in their places.

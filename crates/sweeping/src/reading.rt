@@ -1,23 +1,9 @@
 // Words of a solid's table, as the sweep names them: d is its dimension, s its cell count.
 ghost use Rattle.std.specs.Prelude.{◌≡◌, ◌≤◌};
-ghost use Rattle.records.specs.Inner.Inside.{Inside, sign_in};
+ghost use Rattle.records.specs.Inner.Inside.{Inside};
 ghost use Rattle.sweeping.specs.Inner.SweptWords.{solid_wing, solid_vertex};
 
 use records::reading;
-
-pub fn wide(x: u16) -> usize
-    ensures { result ≡ x }
-{
-    x as usize
-}
-
-// The sign word of cell p.
-pub fn sign(d: usize, s: usize, table: &[u16], p: usize) -> u16
-    requires { Inside d s p table.now }
-    ensures { result ≡ sign_in d table.now p }
-{
-    reading::sign(d, s, table, p)
-}
 
 // Vertex k of cell p.
 pub fn vertex(d: usize, s: usize, table: &[u16], p: usize, k: usize) -> u16

@@ -8,7 +8,7 @@ ghost use Rattle.sweeping.specs.Inner.RecordWords.{swept_vertex};
 ghost use Rattle.sweeping.specs.Inner.SweptWords.{prism_words, Ready};
 
 use crate::places::record_place;
-use crate::reading::{vertex, wide};
+use crate::reading::vertex;
 use records::sizes::VERTICES;
 
 // Vertex x at level i.
@@ -21,8 +21,7 @@ fn lift(v: usize, h: usize, i: usize, x: usize) -> u16
 
 // Word m of the vertices at this level and the next, one behind the other: in cells `low` to `high`, one place earlier in each. A row that is
 // copied to each cell instead is stored word by word and read at once, for which the machine waits.
-fn put_column(
-    d: usize,
+fn put_column<const D: usize>(
     v: usize,
     s: usize,
     h: usize,
@@ -36,24 +35,21 @@ fn put_column(
     at: usize,
     out: &mut [u16],
 )
-    requires ready { Ready d v s h table.now }
-    requires at { (i < h) × (p < s) × (high ≤ d) × (high ≤ m) × (low ≤ high) × (m ≤ low + suc d) }
-    requires word { (k : ℕ) → low ≤ k → k ≤ high → x ≡ swept_vertex d v s table.now i p k (m - k) }
-    requires room { at + length (prism_words d v s h table.now i p) ≤ length out.old }
-    ensures kept { Kept at (prism_words d v s h table.now i p) out.old out.new }
+    requires ready { Ready D v s h table.now }
+    requires at { (i < h) × (p < s) × (high ≤ D) × (high ≤ m) × (low ≤ high) × (m ≤ low + suc D) }
+    requires word { (k : ℕ) → low ≤ k → k ≤ high → x ≡ swept_vertex D v s table.now i p k (m - k) }
+    requires room { at + length (prism_words D v s h table.now i p) ≤ length out.old }
+    ensures kept { Kept at (prism_words D v s h table.now i p) out.old out.new }
     ensures right { (k : ℕ) → low ≤ k → k ≤ high →
-        Right at (prism_words d v s h table.now i p) out.new (k * record_size (suc d) + vertex_place (m - k)) }
+        Right at (prism_words D v s h table.now i p) out.new (k * record_size (suc D) + vertex_place (m - k)) }
 {
-    let mut k = low;
-    while k <= high {
-        out[at + (record_place(d, k) + (VERTICES + (m - k)))] = x;
-        k += 1;
+    for k in low..high + 1 {
+        out[at + (record_place(D, k) + (VERTICES + (m - k)))] = x;
     }
 }
 
 // Cell k has d + 2 of the vertices at this level and the next, one behind the other, from vertex k on.
-fn put_vertices(
-    d: usize,
+pub fn put_vertices<const D: usize>(
     v: usize,
     s: usize,
     h: usize,
@@ -63,62 +59,29 @@ fn put_vertices(
     at: usize,
     out: &mut [u16],
 )
-    requires ready { Ready d v s h table.now }
+    requires ready { Ready D v s h table.now }
     requires at { (i < h) × (p < s) }
-    requires room { at + length (prism_words d v s h table.now i p) ≤ length out.old }
-    ensures kept { Kept at (prism_words d v s h table.now i p) out.old out.new }
-    ensures vertices { (k j : ℕ) → k ≤ d → j ≤ suc d →
-        Right at (prism_words d v s h table.now i p) out.new (k * record_size (suc d) + vertex_place j) }
+    requires room { at + length (prism_words D v s h table.now i p) ≤ length out.old }
+    ensures kept { Kept at (prism_words D v s h table.now i p) out.old out.new }
+    ensures vertices { (k j : ℕ) → k ≤ D → j ≤ suc D →
+        Right at (prism_words D v s h table.now i p) out.new (k * record_size (suc D) + vertex_place j) }
 {
-    let mut j: usize = 0;
-    while j <= d {
-        let x = wide(vertex(d, s, table, p, j));
-        put_column(d, v, s, h, table, i, p, j, lift(v, h, i, x), 0, j, at, out);
-        put_column(
-            d,
+    for j in 0..D + 1 {
+        let x = usize::from(vertex(D, s, table, p, j));
+        put_column::<D>(v, s, h, table, i, p, j, lift(v, h, i, x), 0, j, at, out);
+        put_column::<D>(
             v,
             s,
             h,
             table,
             i,
             p,
-            j + (d + 1),
+            j + (D + 1),
             lift(v, h, i + 1, x),
             j,
-            d,
+            D,
             at,
             out,
         );
-        j += 1;
-    }
-}
-
-// The same by dimension, for the compiler to write out.
-pub fn write_vertices(
-    d: usize,
-    v: usize,
-    s: usize,
-    h: usize,
-    table: &[u16],
-    i: usize,
-    p: usize,
-    at: usize,
-    out: &mut [u16],
-)
-    requires ready { Ready d v s h table.now }
-    requires at { (i < h) × (p < s) }
-    requires room { at + length (prism_words d v s h table.now i p) ≤ length out.old }
-    ensures kept { Kept at (prism_words d v s h table.now i p) out.old out.new }
-    ensures vertices { (k j : ℕ) → k ≤ d → j ≤ suc d →
-        Right at (prism_words d v s h table.now i p) out.new (k * record_size (suc d) + vertex_place j) }
-{
-    match d {
-        0 => put_vertices(0, v, s, h, table, i, p, at, out),
-        1 => put_vertices(1, v, s, h, table, i, p, at, out),
-        2 => put_vertices(2, v, s, h, table, i, p, at, out),
-        3 => put_vertices(3, v, s, h, table, i, p, at, out),
-        4 => put_vertices(4, v, s, h, table, i, p, at, out),
-        5 => put_vertices(5, v, s, h, table, i, p, at, out),
-        _ => put_vertices(6, v, s, h, table, i, p, at, out),
     }
 }

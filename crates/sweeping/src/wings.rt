@@ -7,7 +7,7 @@ ghost use Rattle.sweeping.specs.Inner.Across.{face_first, face_back};
 ghost use Rattle.prism.specs.Wings.{cell_number, back_to, wing_above, wing_below};
 ghost use Rattle.sweeping.specs.Inner.SweptWords.{solid_wing, Ready};
 
-use crate::reading::{wide, wing};
+use crate::reading::wing;
 use records::sizes::EMPTY;
 
 pub fn cell_number(d: usize, s: usize, h: usize, i: usize, p: usize, k: usize) -> u16
@@ -52,17 +52,16 @@ fn back(d: usize, s: usize, table: &[u16], p: usize, q: usize) -> usize
     ensures { result ≡ back_to (solid_wing d s table.now) p q d }
 {
     let mut found = d + 1;
-    let mut b = d + 1;
-    while 0 < b {
-        b -= 1;
-        if wide(wing(d, s, table, q, b)) == p {
+    for b in (0..d + 1).rev() {
+        if usize::from(wing(d, s, table, q, b)) == p {
             found = b;
         }
     }
     found
 }
 
-// The cell across a face: its first swept cell at some level, and its own position at the face. EMPTY and 0 where none is across.
+// The cell across a face: its first swept cell at some level, and its own position at the face. EMPTY and 0 where none is across:
+// no Option, since the mark itself is what is written to the table.
 #[derive(Drop)]
 pub struct Beyond {
     pub first: u16,
@@ -92,7 +91,7 @@ pub fn across_face(
             back: 0,
         };
     }
-    let q = wide(w);
+    let q = usize::from(w);
     let first = cell_number(d, s, h, i, q, 0);
     let back = back(d, s, table, p, q);
     Beyond { first, back }

@@ -1,14 +1,13 @@
--- What the loops that read and store a row do in one turn.
+-- What the loop that reads a row does in one turn.
 use mathlib.Core.Path.{◌≡◌, sym, ap, ◌∙◌}
 use mathlib.Core.List.{List}
 use Prim.Native.Nat.{ℕ, ◌+◌, ◌-◌, ◌≤◌, ◌<◌}
 use native.Mathlib.Omega.{arith}
 use native.Mathlib.Nat.{not-suc-le-zero}
-use native.Mathlib.Numerals.{add-one}
 use native.Mathlib.Decide.{dec_lt}
 use lib.ListN.{length, take, drop, get_or, set, replicate, length-append, length-drop, length-set, length-replicate, get_or-replicate, get_or-append}
-use lib.Seq.{drop_at, ext_get_or, get_or-append-add, get_or-drop, get_or-set_other, get_or-set_same, get_or-take, length-take-le, paste}
-use lib.Seq.{paste-suc, take_at}
+use lib.Seq.{drop_at, ext_get_or, get_or-append-add, get_or-drop, get_or-set_other, get_or-set_same, get_or-take, length-take-le}
+use lib.Seq.{take_at}
 use Rattle.tables.specs.Inner.Held.{row_of_eight}
 
 -- of the n words from at, the first j are in the row; the places behind n are 0
@@ -76,9 +75,3 @@ module _ (n at : ℕ) (ws : List ℕ) (j : ℕ) (row : List ℕ) (read : Read n 
   pub read_all : row ≡ row_of_eight vertices
   read_all = ext_get_or 0 row (row_of_eight vertices) (read.0 ∙ sym (eight-long vertices n long l))
       (λ i k. place i (dec_lt i n) (omega (arith, read.0)))
-
--- one more word stored
-pub store_more : (rows row : List ℕ) (at j : ℕ) (X : List ℕ) → X ≡ paste rows at row j → at + j < length rows → j < length row →
-    set X (at + j) (get_or row j 0) ≡ paste rows at row (j + 1)
-store_more rows row at j X e h l =
-    ap (λ (xs : List ℕ). set xs (at + j) (get_or row j 0)) e ∙ paste-suc rows at row j 0 h l ∙ ap (λ m. paste rows at row m) (sym (add-one j))

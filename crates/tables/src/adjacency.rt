@@ -10,33 +10,25 @@ ghost use Rattle.tables.specs.Inner.Pairing.{Met, Pairing};
 ghost use Rattle.tables.specs.Inner.Held.{held_cells, falls, faults, Blank, Winged};
 
 use matching::{Place, earlier_equal, place_of};
-use rules::refusal::{Refusal, Verdict};
+use rules::refusal::Refusal;
 use simplex::sign_words::product;
-
-pub fn wide(x: u16) -> usize
-    ensures { result ≡ x }
-{
-    x as usize
-}
 
 // Whether key g was seen before.
 fn seen(n: usize, g: usize, prev: &[u16; 32768]) -> bool
     requires { g < 32768 }
     ensures { result ≡ seen_at n prev.now g }
 {
-    wide(prev[g]) < n
+    usize::from(prev[g]) < n
 }
 
 fn any_seen(n: usize, prev: &[u16; 32768]) -> bool
     requires { n ≤ 32768 }
     ensures { result ≡ any_below n (seen_at n prev.now) }
 {
-    let mut g: usize = 0;
-    while g < n {
+    for g in 0..n {
         if seen(n, g, prev) {
             return true;
         }
-        g += 1;
     }
     false
 }
@@ -49,12 +41,6 @@ fn any_repeated(d: usize, s: usize, rows: &[u16; 32768], prev: &mut [u16; 32768]
     let k = d + 1;
     earlier_equal(s, k, 1, k, rows, prev);
     any_seen(s, prev)
-}
-
-fn either(s: bool, t: bool) -> bool
-    ensures { result ≡ (s || t) }
-{
-    if s { true } else { t }
 }
 
 // The sign of the face of cell p at position a: that of the cell times (-1)^a.
@@ -70,16 +56,11 @@ fn same_first(p: usize, a: usize, q: usize, b: usize, rows: &[u16; 32768]) -> bo
     requires { (p < 4096) × (q < 4096) }
     ensures { result ≡ (eqb a 0 && (eqb b 0 && eqb (get_or rows.now (p * 8) 0) (get_or rows.now (q * 8) 0))) }
 {
-    if a == 0 {
-        if b == 0 {
-            return rows[p * 8] == rows[q * 8];
-        }
-    }
-    false
+    a == 0 && b == 0 && rows[p * 8] == rows[q * 8]
 }
 
 // What pairing finds among the keys passed: one that was seen before where that key was seen too; one at position 0
-// of a cell and that key at position 0 of a cell with the same first vertex; one that was seen before with its sign.
+// of a cell and that key at position 0 of a cell with the same first vertex; one that was seen before with its sign. All three may hold.
 #[derive(Drop)]
 struct Found {
     crowded: bool,
@@ -107,14 +88,11 @@ fn meet(
     ensures equal { result.equal ≡ (times (times (alternating a) (get_or signs.now p false))
         (times (alternating b) (get_or signs.now q false)) || found.equal) }
 {
-    let crowded = either(seen(n, f, prev), found.crowded);
-    let repeated = either(same_first(p, a, q, b, rows), found.repeated);
     let like = product(face_sign(p, a, signs), face_sign(q, b, signs));
-    let equal = either(like, found.equal);
     Found {
-        crowded,
-        repeated,
-        equal,
+        crowded: seen(n, f, prev) || found.crowded,
+        repeated: same_first(p, a, q, b, rows) || found.repeated,
+        equal: like || found.equal,
     }
 }
 
@@ -137,7 +115,7 @@ fn pair_at(
     ensures { Met k n rows.now signs.now prev.now g wings.old
         found.crowded found.repeated found.equal wings.new result.crowded result.repeated result.equal }
 {
-    let f = wide(prev[g]);
+    let f = usize::from(prev[g]);
     if f < n {
         let there = place_of(f, k, part);
         let q = there.cell;
@@ -186,13 +164,11 @@ fn pair(
         equal: false,
     };
     let mut here = Place { cell: 0, at: 0 };
-    let mut g: usize = 0;
-    while g < n {
+    for g in 0..n {
         let p = here.cell;
         let a = here.at;
         found = pair_at(n, k, part, p, a, g, rows, signs, prev, wings, found);
         here = next(here, k);
-        g += 1;
     }
     found
 }
@@ -205,7 +181,7 @@ pub fn adjacent(
     rows: &[u16; 32768],
     signs: &[bool; 4096],
     wings: &mut [u16; 32768],
-) -> Verdict
+) -> Result<(), Refusal>
     requires d_bound { (d ≤ 7) × (s ≤ 4096) × (length rows.now ≡ 32768) × Blank wings.old }
     requires rows_value { any_below s (falls d rows.now) ≡ false }
     ensures fault { (made : ℕ → ℕ) → verdict_of result ≡ faults (held_cells d s rows.now signs.now made) }
@@ -215,24 +191,24 @@ pub fn adjacent(
     let mut prev = [65535u16; 32768];
     if d == 0 {
         if any_repeated(d, s, rows, &mut prev) {
-            return Verdict::Refuse(Refusal::CellTwice);
+            return Err(Refusal::CellTwice);
         }
-        return Verdict::Pass;
+        return Ok(());
     }
     let k = d + 1;
     earlier_equal(s, k, k, 0, rows, &mut prev);
     let found = pair(s * k, k, rows, signs, &prev, wings);
     if found.crowded {
         if any_repeated(d, s, rows, &mut prev) {
-            return Verdict::Refuse(Refusal::CellTwice);
+            return Err(Refusal::CellTwice);
         }
-        return Verdict::Refuse(Refusal::CrowdedFace);
+        return Err(Refusal::CrowdedFace);
     }
     if found.repeated {
-        return Verdict::Refuse(Refusal::CellTwice);
+        return Err(Refusal::CellTwice);
     }
     if found.equal {
-        return Verdict::Refuse(Refusal::EqualSigns);
+        return Err(Refusal::EqualSigns);
     }
-    Verdict::Pass
+    Ok(())
 }

@@ -8,7 +8,6 @@ ghost use Rattle.simplex.specs.Order.{ascending};
 ghost use Rattle.records.specs.Layout.{list_size, record_size, material_place};
 ghost use Rattle.tables.specs.Inner.Held.{row_of_eight, Gathered, cell_held, cell_read, material_at, above_at, beyond_at, falls_at, falls};
 
-use crate::adjacency::wide;
 use records::sizes::{MATERIAL, VERTICES};
 use rules::limits::Shape;
 use simplex::sign_words::product;
@@ -21,12 +20,10 @@ pub fn read_row(n: usize, at: usize, words: &[u16]) -> [u16; 8]
     ensures { (length result ≡ 8) × (result ≡ row_of_eight (take n (drop at words.now))) }
 {
     let mut row = [0u16; 8];
-    let mut j: usize = 0;
-    while j < 8 {
+    for j in 0..8 {
         if j < n {
             row[j] = words[at + j];
         }
-        j += 1;
     }
     row
 }
@@ -36,11 +33,7 @@ fn store_row(row: [u16; 8], p: usize, rows: &mut [u16; 32768])
     requires { (p < 4096) × (length row ≡ 8) × (length rows.old ≡ 32768) }
     ensures { rows.new ≡ paste rows.old (p * 8) row 8 }
 {
-    let mut j: usize = 0;
-    while j < 8 {
-        rows[p * 8 + j] = row[j];
-        j += 1;
-    }
+    rows[p * 8..p * 8 + 8].copy_from_slice(&row);
 }
 
 // Cell p read, put in ascending order, and stored.
@@ -78,10 +71,8 @@ pub fn gather(
     ensures by_index { (p : ℕ) → p < s → cell_held d rows.new signs.new (material_at size words.now) p
         ≡ ascending (cell_read size d words.now p) }
 {
-    let mut p: usize = 0;
-    while p < s {
+    for p in 0..s {
         gather_cell(size, d, p, words, rows, signs);
-        p += 1;
     }
 }
 
@@ -90,12 +81,10 @@ fn any_above(size: usize, k: usize, most: u16, s: usize, words: &[u16]) -> bool
     requires { (s ≤ 4096) × (k < size) × (size ≤ record_size max_dimension) × (s * size ≤ length words.now) }
     ensures { result ≡ any_below s (above_at size k most words.now) }
 {
-    let mut p: usize = 0;
-    while p < s {
+    for p in 0..s {
         if most < words[p * size + k] {
             return true;
         }
-        p += 1;
     }
     false
 }
@@ -121,12 +110,10 @@ pub fn beyond(d: usize, v: usize, s: usize, rows: &[u16; 32768]) -> bool
     requires { (d ≤ 7) × (s ≤ 4096) }
     ensures { result ≡ any_below s (beyond_at d v rows.now) }
 {
-    let mut p: usize = 0;
-    while p < s {
-        if v <= wide(rows[p * 8 + d]) {
+    for p in 0..s {
+        if v <= usize::from(rows[p * 8 + d]) {
             return true;
         }
-        p += 1;
     }
     false
 }
@@ -136,12 +123,10 @@ fn column_falls(j: usize, s: usize, rows: &[u16; 32768]) -> bool
     requires { (j < 7) × (s ≤ 4096) }
     ensures { result ≡ any_below s (λ p. falls_at rows.now p j) }
 {
-    let mut p: usize = 0;
-    while p < s {
+    for p in 0..s {
         if rows[p * 8 + j + 1] <= rows[p * 8 + j] {
             return true;
         }
-        p += 1;
     }
     false
 }
@@ -151,12 +136,10 @@ pub fn any_falls(d: usize, s: usize, rows: &[u16; 32768]) -> bool
     requires { (d ≤ 7) × (s ≤ 4096) }
     ensures { result ≡ any_below s (falls d rows.now) }
 {
-    let mut j: usize = 0;
-    while j < d {
+    for j in 0..d {
         if column_falls(j, s, rows) {
             return true;
         }
-        j += 1;
     }
     false
 }

@@ -5,9 +5,7 @@ ghost use Rattle.solids.specs.Table.{sound};
 use crate::table::same;
 use crate::take::take;
 use records::sizes::{EMPTY, record_size, table_words};
-use rules::compare::differ;
 use rules::limits::Shape;
-use rules::refusal::Verdict;
 
 // Whether the words are a sound table of s cells of dimension d on v vertices.
 pub fn is_sound(d: usize, v: usize, s: usize, table: &[u16]) -> bool
@@ -16,15 +14,14 @@ pub fn is_sound(d: usize, v: usize, s: usize, table: &[u16]) -> bool
     if !Shape::within(Shape::MAX_DIMENSION, d, v, s) {
         return false;
     }
-    if differ(table.len(), table_words(d, s)) {
+    if table.len() != table_words(d, s) {
         return false;
     }
     let mut rows = [0u16; 32768];
     let mut signs = [false; 4096];
     let mut wings = [EMPTY; 32768];
     let size = record_size(d);
-    let verdict = take(size, d, v, s, table, &mut rows, &mut signs, &mut wings);
-    if let Verdict::Refuse(_) = verdict {
+    if take(size, d, v, s, table, &mut rows, &mut signs, &mut wings).is_err() {
         return false;
     }
     same(d, s, &rows, &signs, &wings, table)

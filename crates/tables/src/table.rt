@@ -14,12 +14,10 @@ fn copy_run(n: usize, from: usize, words: &[u16; 32768], to: usize, table: &mut 
     requires { (n ≤ 8) × (from + n ≤ 32768) × (to + n ≤ length table.old) }
     ensures { table.new ≡ placed to (run n from words.now) table.old }
 {
-    let mut j: usize = 0;
-    while j < 8 {
+    for j in 0..8 {
         if j < n {
             table[to + j] = words[from + j];
         }
-        j += 1;
     }
 }
 
@@ -62,13 +60,9 @@ pub fn fill(
 {
     let part = list_size(d);
     let size = record_size(d);
-    let mut at: usize = 0;
-    let mut p: usize = 0;
-    while p < s {
+    for p in 0..s {
         let material = cells[p * part + MATERIAL];
-        write_record(d, p, material, at, rows, signs, wings, table);
-        at += size;
-        p += 1;
+        write_record(d, p, material, p * size, rows, signs, wings, table);
     }
 }
 
@@ -77,12 +71,10 @@ fn same_run(n: usize, from: usize, words: &[u16; 32768], to: usize, table: &[u16
     requires { (from + n ≤ 32768) × (to + n ≤ length table.now) }
     ensures { result ≡ same_row (run n to table.now) (run n from words.now) }
 {
-    let mut j: usize = 0;
-    while j < n {
+    for j in 0..n {
         if table[to + j] != words[from + j] {
             return false;
         }
-        j += 1;
     }
     true
 }
@@ -126,14 +118,10 @@ pub fn same(
         (held_words d s rows.now signs.now (material_at (record_size d) table.now) wings.now) }
 {
     let size = record_size(d);
-    let mut at: usize = 0;
-    let mut p: usize = 0;
-    while p < s {
-        if !same_record(d, p, at, rows, signs, wings, table) {
+    for p in 0..s {
+        if !same_record(d, p, p * size, rows, signs, wings, table) {
             return false;
         }
-        at += size;
-        p += 1;
     }
     true
 }

@@ -7,18 +7,14 @@ ghost use Rattle.tables.specs.Inner.Tabled.{table_outcome, table_after};
 use crate::table::fill;
 use crate::take::take;
 use records::sizes::{EMPTY, list_size, table_words, wings_words};
-use rules::compare::{either, less};
-use rules::refusal::{Answer, Refusal, Verdict};
+use rules::refusal::Refusal;
 
 // 15: whether the table, or its wings alone, have more words than their room.
 fn too_short(d: usize, s: usize, room: usize, further: usize) -> bool
     requires { (d ≤ 7) × (s ≤ 4096) }
     ensures { result ≡ (ltb room (table_length d s) || ltb further (wings_length d s)) }
 {
-    either(
-        less(room, table_words(d, s)),
-        less(further, wings_words(d, s)),
-    )
+    room < table_words(d, s) || further < wings_words(d, s)
 }
 
 // Writes the table of the s cells of a list from the start of the lent words and answers the count of its words; or
@@ -31,7 +27,7 @@ pub fn write_table(
     cells: &[u16],
     further: usize,
     table: &mut [u16],
-) -> Answer
+) -> Result<usize, Refusal>
     requires { (d ≤ 7) × (s ≤ 4096) × (length cells.now ≡ s * list_size d) }
     ensures answer { outcome_of result ≡ table_outcome d v s cells.now (length table.old) further }
     ensures table { table.new ≡ table_after d v s cells.now further table.old }
@@ -40,13 +36,10 @@ pub fn write_table(
     let mut signs = [false; 4096];
     let mut wings = [EMPTY; 32768];
     let size = list_size(d);
-    let verdict = take(size, d, v, s, cells, &mut rows, &mut signs, &mut wings);
-    if let Verdict::Refuse(why) = verdict {
-        return Answer::Refused(why);
-    }
+    take(size, d, v, s, cells, &mut rows, &mut signs, &mut wings)?;
     if too_short(d, s, table.len(), further) {
-        return Answer::Refused(Refusal::NoRoom);
+        return Err(Refusal::NoRoom);
     }
     fill(d, s, cells, &rows, &signs, &wings, table);
-    Answer::Written(table_words(d, s))
+    Ok(table_words(d, s))
 }

@@ -9,7 +9,7 @@ ghost use Rattle.tables.specs.Inner.Held.{record_list, material_at, Blank, Taken
 
 use crate::adjacency::adjacent;
 use crate::gather::{any_falls, bad_material, bad_sign, beyond, gather};
-use rules::refusal::{Refusal, Verdict};
+use rules::refusal::Refusal;
 
 // The first of these rows that refuses the s records, size words each.
 pub fn take(
@@ -21,7 +21,7 @@ pub fn take(
     rows: &mut [u16; 32768],
     signs: &mut [bool; 4096],
     wings: &mut [u16; 32768],
-) -> Verdict
+) -> Result<(), Refusal>
     requires d_bound { (d ≤ 7) × (list_size d ≤ size) × (size ≤ record_size max_dimension) × (s ≤ 4096) × (s * size ≤ length words.now) }
     requires rows_len { (length rows.old ≡ 32768) × (length signs.old ≡ 4096) × Blank wings.old }
     ensures number { verdict_of result ≡ first_refusal solid_rules (record_list size d v s words.now) }
@@ -30,17 +30,17 @@ pub fn take(
         wings.new }
 {
     if bad_sign(size, s, words) {
-        return Verdict::Refuse(Refusal::BadSign);
+        return Err(Refusal::BadSign);
     }
     gather(size, d, s, words, rows, signs);
     if beyond(d, v, s, rows) {
-        return Verdict::Refuse(Refusal::BadVertex);
+        return Err(Refusal::BadVertex);
     }
     if any_falls(d, s, rows) {
-        return Verdict::Refuse(Refusal::VertexTwice);
+        return Err(Refusal::VertexTwice);
     }
     if bad_material(size, s, words) {
-        return Verdict::Refuse(Refusal::BadMaterial);
+        return Err(Refusal::BadMaterial);
     }
     adjacent(d, s, rows, signs, wings)
 }

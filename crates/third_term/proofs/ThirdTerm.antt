@@ -5,7 +5,6 @@ use mathlib.Core.List.{List}
 use lib.Dec.{eqb}
 use mathlib.Core.Bool.{false, true}
 use Prim.Native.Nat.{suc, ℕ, ◌≤◌}
-use Rattle.rules.specs.Calls.{written}
 use Rattle.simplex.specs.Cell.{Cell, Row, filled}
 use Rattle.simplex.specs.Chain.{Same, coefficient, total}
 use Rattle.simplex.specs.Faces.{all_faces, facets}

@@ -7,9 +7,8 @@ ghost use Rattle.wing.specs.Wing.{wing_input, wing_outcome, wing_buffer, uploade
 
 use crate::uploaded::write_uploaded;
 use records::sizes::list_words;
-use rules::compare::differ;
 use rules::limits::Shape;
-use rules::refusal::{Answer, Refusal};
+use rules::refusal::Refusal;
 use tables::tabled::write_table;
 
 pub mod uploaded;
@@ -22,16 +21,16 @@ pub fn wing_table(
     cells: &[u16],
     further: usize,
     table: &mut [u16],
-) -> Answer
+) -> Result<usize, Refusal>
     ensures answer { outcome_of result ≡ wing_outcome (wing_input d v s cells.now (length table.old) further) }
     ensures table { table.new
         ≡ wing_buffer (wing_input d v s cells.now (length table.old) further) table.old }
 {
     if !Shape::within(Shape::MAX_DIMENSION, d, v, s) {
-        return Answer::Refused(Refusal::OutsideLimits);
+        return Err(Refusal::OutsideLimits);
     }
-    if differ(cells.len(), list_words(d, s)) {
-        return Answer::Refused(Refusal::WrongLength);
+    if cells.len() != list_words(d, s) {
+        return Err(Refusal::WrongLength);
     }
     write_table(d, v, s, cells, further, table)
 }
@@ -45,7 +44,7 @@ pub fn wing(
     cells: &[u16],
     table: &mut [u16],
     uploaded: &mut [u16],
-) -> Answer
+) -> Result<usize, Refusal>
     ensures answer { outcome_of result
         ≡ wing_outcome (wing_input d v s cells.now (length table.old) (length uploaded.old)) }
     ensures table { table.new
@@ -55,11 +54,7 @@ pub fn wing(
         ≡ uploaded_buffer (wing_input d v s cells.now (length table.old) (length uploaded.old))
         uploaded.old }
 {
-    match wing_table(d, v, s, cells, uploaded.len(), table) {
-        Answer::Written(n) => {
-            write_uploaded(d, s, cells, &table[..n], uploaded);
-            Answer::Written(n)
-        }
-        Answer::Refused(r) => Answer::Refused(r),
-    }
+    let n = wing_table(d, v, s, cells, uploaded.len(), table)?;
+    write_uploaded(d, s, cells, &table[..n], uploaded);
+    Ok(n)
 }

@@ -16,14 +16,12 @@ fn rank(n: usize, at: usize, words: &[u16], x: u16) -> usize
     ensures { result ≡ below x (take n (drop at words.now)) }
 {
     let mut r: usize = 0;
-    let mut i: usize = 0;
-    while i < 8 {
+    for i in 0..8 {
         if i < n {
             if words[at + i] < x {
                 r += 1;
             }
         }
-        i += 1;
     }
     r
 }
@@ -52,13 +50,11 @@ fn write_cell(
         × (at + wings_size d ≤ length uploaded.old) }
     ensures { uploaded.new ≡ placed at (uploaded_row d cells.now table.now p) uploaded.old }
 {
-    let mut j: usize = 0;
-    while j < 8 {
+    for j in 0..8 {
         if d < j {
             return;
         }
         uploaded[at + j] = uploaded_wing(d, s, cells, table, p, j);
-        j += 1;
     }
 }
 
@@ -68,11 +64,7 @@ pub fn write_uploaded(d: usize, s: usize, cells: &[u16], table: &[u16], uploaded
     ensures { uploaded.new ≡ placed 0 (uploaded_rows d s cells.now table.now) uploaded.old }
 {
     let size = wings_size(d);
-    let mut at: usize = 0;
-    let mut p: usize = 0;
-    while p < s {
-        write_cell(d, s, cells, table, p, at, uploaded);
-        at += size;
-        p += 1;
+    for p in 0..s {
+        write_cell(d, s, cells, table, p, p * size, uploaded);
     }
 }

@@ -7,14 +7,15 @@ ghost use Rattle.records.specs.Layout.{table_length};
 ghost use Rattle.records.specs.Inner.Inside.{Table, Inside};
 ghost use Rattle.boundary.specs.Inner.Walk.{face_at, table_faces};
 ghost use Rattle.winged.specs.Host.{host_faces, host_faces_buffer};
-ghost use Rattle.winged.specs.Inner.Sent.{face_bytes, faces_bytes, faces_answer, faces_after};
+ghost use Rattle.winged.specs.Inner.Sent.{face_bytes, faces_bytes, faces_answer, faces_after, table_room};
 
-use crate::sending::minus;
+use crate::sending::answered;
 use boundary::counting::count_faces;
 use boundary::face::face_word;
 use boundary::walk::next_face;
 use records::sizes::{face_size, table_words};
 use rules::limits::Shape;
+use rules::refusal::Refusal;
 use soundness::is_sound;
 use words::copy::decode;
 
@@ -31,15 +32,12 @@ fn face_bytes(
     requires { Inside d s p table.now × (a ≤ d) × (at + length (face_bytes (face_at d table.now p a)) ≤ length out.old) }
     ensures { Put at (face_bytes (face_at d table.now p a)) out.old result out.new }
 {
-    let size = face_size(d);
     let mut next = at;
-    let mut j: usize = 0;
-    while j < size {
-        let w = face_word(d, s, table, p, a, j);
-        out[next] = (w % 256) as u8;
-        out[next + 1] = (w / 256 % 256) as u8;
+    for j in 0..face_size(d) {
+        let [low, high] = face_word(d, s, table, p, a, j).to_le_bytes();
+        out[next] = low;
+        out[next + 1] = high;
         next += 2;
-        j += 1;
     }
     next
 }
@@ -49,7 +47,7 @@ fn write_all(d: usize, s: usize, table: &[u16], out: &mut [u8])
     requires { Table d s table.now × (length (faces_bytes (table_faces d s table.now)) ≤ length out.old) }
     ensures { out.new ≡ placed 0 (faces_bytes (table_faces d s table.now)) out.old }
 {
-    let mut next: usize = 0;
+    let mut next = 0;
     let mut at = next_face(d, s, table, 0, 0);
     while at.cell < s {
         next = face_bytes(d, s, table, at.cell, at.position, next, out);
@@ -100,99 +98,72 @@ fn faces_from(d: usize, v: usize, s: usize, table: &[u16], out: &mut [u8]) -> i6
     ensures buffer { out.new ≡ faces_after d v s table.now out.old }
 {
     if !is_sound(d, v, s, table) {
-        return minus(14);
+        return answered(Err(Refusal::Unsound));
     }
     let n = count_faces(d, s, table) * face_size(d);
     if out.len() / 2 < n {
-        return minus(15);
+        return answered(Err(Refusal::NoRoom));
     }
     write_bytes(d, s, table, out);
     n as i64
 }
 
-// In the room for a table of at most 2,048 words.
-fn faces_2048(d: usize, v: usize, s: usize, table: &[u8], faces: &mut [u8]) -> i64
-    requires { (shape_ok max_dimension d v s ≡ true) × (length table.now ≡ table_length d s * 2) × (table_length d s ≤ 2048) }
+// In a room for a table of so many words.
+fn in_room<const WORDS: usize>(d: usize, v: usize, s: usize, table: &[u8], faces: &mut [u8]) -> i64
+    requires { (shape_ok max_dimension d v s ≡ true) × (length table.now ≡ table_length d s * 2) × (table_length d s ≤ WORDS)
+        × (WORDS ≤ table_room) }
     ensures answer { result ≡ host_faces d v s table.now faces.old }
     ensures buffer { faces.new ≡ host_faces_buffer d v s table.now faces.old }
 {
-    let mut words = [0u16; 2048];
+    let mut words = [0u16; WORDS];
     decode(table, &mut words);
     let n = table.len() / 2;
     faces_from(d, v, s, &words[..n], faces)
 }
 
-// In the room for a table of at most 16,384 words.
+// The same, with a stack of its own for the room.
 #[inline(never)]
-fn faces_16384(d: usize, v: usize, s: usize, table: &[u8], faces: &mut [u8]) -> i64
-    requires { (shape_ok max_dimension d v s ≡ true) × (length table.now ≡ table_length d s * 2) × (table_length d s ≤ 16384) }
+fn apart<const WORDS: usize>(d: usize, v: usize, s: usize, table: &[u8], faces: &mut [u8]) -> i64
+    requires { (shape_ok max_dimension d v s ≡ true) × (length table.now ≡ table_length d s * 2) × (table_length d s ≤ WORDS)
+        × (WORDS ≤ table_room) }
     ensures answer { result ≡ host_faces d v s table.now faces.old }
     ensures buffer { faces.new ≡ host_faces_buffer d v s table.now faces.old }
 {
-    let mut words = [0u16; 16384];
-    decode(table, &mut words);
-    let n = table.len() / 2;
-    faces_from(d, v, s, &words[..n], faces)
+    in_room::<WORDS>(d, v, s, table, faces)
 }
 
-// In the room for a table of at most 40,960 words.
-#[inline(never)]
-fn faces_40960(d: usize, v: usize, s: usize, table: &[u8], faces: &mut [u8]) -> i64
-    requires { (shape_ok max_dimension d v s ≡ true) × (length table.now ≡ table_length d s * 2) × (table_length d s ≤ 40960) }
-    ensures answer { result ≡ host_faces d v s table.now faces.old }
-    ensures buffer { faces.new ≡ host_faces_buffer d v s table.now faces.old }
-{
-    let mut words = [0u16; 40960];
-    decode(table, &mut words);
-    let n = table.len() / 2;
-    faces_from(d, v, s, &words[..n], faces)
-}
-
-// In the room for a table of at most 73,728 words.
-#[inline(never)]
-fn faces_73728(d: usize, v: usize, s: usize, table: &[u8], faces: &mut [u8]) -> i64
-    requires { (shape_ok max_dimension d v s ≡ true) × (length table.now ≡ table_length d s * 2) × (table_length d s ≤ 73728) }
-    ensures answer { result ≡ host_faces d v s table.now faces.old }
-    ensures buffer { faces.new ≡ host_faces_buffer d v s table.now faces.old }
-{
-    let mut words = [0u16; 73728];
-    decode(table, &mut words);
-    let n = table.len() / 2;
-    faces_from(d, v, s, &words[..n], faces)
-}
-
-// faces in the room for its table. The larger rooms stay functions of their own, so that a call takes the stack of its own room alone.
+// faces in the room for its table. The larger rooms stay apart, so that a call takes the stack of its own room alone.
 pub(crate) fn faces_told(d: usize, v: usize, s: usize, table: &[u8], faces: &mut [u8]) -> i64
     ensures answer { result ≡ host_faces d v s table.now faces.old }
     ensures buffer { faces.new ≡ host_faces_buffer d v s table.now faces.old }
 {
     if !Shape::within(Shape::MAX_DIMENSION, d, v, s) {
-        return minus(2);
+        return answered(Err(Refusal::OutsideLimits));
     }
     let n = table_words(d, s);
     if table.len() != n * 2 {
-        return minus(3);
+        return answered(Err(Refusal::WrongLength));
     }
     if n <= 2048 {
         if d == 1 {
-            return faces_2048(1, v, s, table, faces);
+            return in_room::<2048>(1, v, s, table, faces);
         }
-        return faces_2048(d, v, s, table, faces);
+        return in_room::<2048>(d, v, s, table, faces);
     }
     if n <= 16384 {
         if d == 1 {
-            return faces_16384(1, v, s, table, faces);
+            return apart::<16384>(1, v, s, table, faces);
         }
-        return faces_16384(d, v, s, table, faces);
+        return apart::<16384>(d, v, s, table, faces);
     }
     if n <= 40960 {
         if d == 1 {
-            return faces_40960(1, v, s, table, faces);
+            return apart::<40960>(1, v, s, table, faces);
         }
-        return faces_40960(d, v, s, table, faces);
+        return apart::<40960>(d, v, s, table, faces);
     }
     if d == 4 {
-        return faces_73728(4, v, s, table, faces);
+        return apart::<73728>(4, v, s, table, faces);
     }
-    faces_73728(d, v, s, table, faces)
+    apart::<73728>(d, v, s, table, faces)
 }

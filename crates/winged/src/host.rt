@@ -10,17 +10,14 @@ ghost use Rattle.records.specs.Layout.{table_length};
 ghost use Rattle.prism.specs.Swept.{swept_cells};
 ghost use Rattle.sweep.specs.Sweep.{swept_words, sweep_input};
 ghost use Rattle.winged.specs.Host.{host_wing, host_wing_buffer, host_uploaded_buffer, host_sweep, host_sweep_buffer};
-ghost use Rattle.winged.specs.Inner.Sent.{small_table, sweep_read, SweepRoom};
+ghost use Rattle.winged.specs.Inner.Sent.{small_table, sweep_read, table_room, SweepRoom};
 
-use crate::host::rooms::{
-    in_2560, in_5120, in_10240, in_20480, in_40960, in_73728, wide_5120, wide_10240, wide_20480,
-    wide_73728,
-};
+use crate::host::rooms::in_room;
 use crate::reading::wing_words;
 use crate::sending::{answered, is_small, room, send};
-use records::sizes::{TABLE_ROOM, table_words};
+use records::sizes::{SOLID_ROOM, TABLE_ROOM, table_words};
 use rules::limits::Shape;
-use rules::refusal::{Answer, Refusal};
+use rules::refusal::Refusal;
 use sweep::limits::in_limits;
 use sweep::sweep;
 use words::copy::decode;
@@ -45,7 +42,26 @@ fn wing_bytes(
     send(a, &words[..m], table)
 }
 
-// The same, with an array of its own for the table, by size. The small ones take little of the stack beside the largest.
+// The same, with an array of its own for the table.
+fn wing_in<const WORDS: usize>(
+    d: usize,
+    v: usize,
+    s: usize,
+    cells: &[u8],
+    table: &mut [u8],
+    uploaded: &mut [u8],
+) -> i64
+    requires { (small_table d s WORDS ≡ true) × (WORDS ≤ table_room) }
+    ensures answer { result ≡ host_wing d v s cells.now table.old uploaded.old }
+    ensures buffer { table.new ≡ host_wing_buffer d v s cells.now table.old uploaded.old }
+    ensures uploaded { uploaded.new
+        ≡ host_uploaded_buffer d v s cells.now table.old uploaded.old }
+{
+    let mut words = [0u16; WORDS];
+    wing_bytes(d, v, s, cells, &mut words, table, uploaded)
+}
+
+// The array by the table's size. The small ones take little of the stack beside the largest.
 pub(crate) fn wing_told(
     d: usize,
     v: usize,
@@ -60,19 +76,15 @@ pub(crate) fn wing_told(
         ≡ host_uploaded_buffer d v s cells.now table.old uploaded.old }
 {
     if is_small(d, s, 256) {
-        let mut words = [0u16; 256];
-        return wing_bytes(d, v, s, cells, &mut words, table, uploaded);
+        return wing_in::<256>(d, v, s, cells, table, uploaded);
     }
     if is_small(d, s, 512) {
-        let mut words = [0u16; 512];
-        return wing_bytes(d, v, s, cells, &mut words, table, uploaded);
+        return wing_in::<512>(d, v, s, cells, table, uploaded);
     }
     if is_small(d, s, 1024) {
-        let mut words = [0u16; 1024];
-        return wing_bytes(d, v, s, cells, &mut words, table, uploaded);
+        return wing_in::<1024>(d, v, s, cells, table, uploaded);
     }
-    let mut words = [0u16; TABLE_ROOM];
-    wing_bytes(d, v, s, cells, &mut words, table, uploaded)
+    wing_in::<TABLE_ROOM>(d, v, s, cells, table, uploaded)
 }
 
 // sweep on a table of the right length, decoded into an array.
@@ -84,7 +96,7 @@ fn sweep_decoded(
     table: &[u8],
     solid: &mut [u16],
     out: &mut [u16],
-) -> Answer
+) -> Result<usize, Refusal>
     requires { (length table.now ≡ table_length d s * 2) × (table_length d s ≤ length solid.old) }
     ensures answer { outcome_of result ≡ sweep_read d v s h table.now (length out.old) }
     ensures buffer { out.new
@@ -127,8 +139,8 @@ fn sweep_size(d: usize, s: usize, h: usize) -> usize
     table_words(d + 1, n)
 }
 
-// sweep in the room for so many words, wide where the table is not much smaller than its sweep, as in few steps. The rooms are asked for
-// behind all tests, so that the compiler keeps them apart: a call takes the stack of its own room alone.
+// sweep in the room for so many words, wide where the table is not much smaller than its sweep, as in few steps. The rooms are
+// functions of their own, so that a call takes the stack of its own room alone.
 pub(crate) fn sweep_told(
     d: usize,
     v: usize,
@@ -141,42 +153,42 @@ pub(crate) fn sweep_told(
     ensures buffer { swept.new ≡ host_sweep_buffer d v s h table.now swept.old }
 {
     if !in_limits(d, v, s, h) {
-        return answered(Answer::Refused(Refusal::OutsideLimits));
+        return answered(Err(Refusal::OutsideLimits));
     }
     let n = table_words(d, s);
     if table.len() != n * 2 {
-        return answered(Answer::Refused(Refusal::WrongLength));
+        return answered(Err(Refusal::WrongLength));
     }
     if Shape::MAX_CELLS < h * (s * (d + 1)) {
-        return answered(Answer::Refused(Refusal::SweptTooLarge));
+        return answered(Err(Refusal::SweptTooLarge));
     }
     let m = sweep_size(d, s, h);
     if (m <= 2560) & (n <= 320) {
-        return in_2560(d, v, s, h, table, swept);
+        return in_room::<320, 2560>(d, v, s, h, table, swept);
     }
     if (m <= 5120) & (n <= 320) {
-        return in_5120(d, v, s, h, table, swept);
+        return in_room::<320, 5120>(d, v, s, h, table, swept);
     }
     if m <= 5120 {
-        return wide_5120(d, v, s, h, table, swept);
+        return in_room::<1920, 5120>(d, v, s, h, table, swept);
     }
     if (m <= 10240) & (n <= 640) {
-        return in_10240(d, v, s, h, table, swept);
+        return in_room::<640, 10240>(d, v, s, h, table, swept);
     }
     if m <= 10240 {
-        return wide_10240(d, v, s, h, table, swept);
+        return in_room::<3840, 10240>(d, v, s, h, table, swept);
     }
     if (m <= 20480) & (n <= 2560) {
-        return in_20480(d, v, s, h, table, swept);
+        return in_room::<2560, 20480>(d, v, s, h, table, swept);
     }
     if m <= 20480 {
-        return wide_20480(d, v, s, h, table, swept);
+        return in_room::<7680, 20480>(d, v, s, h, table, swept);
     }
     if (m <= 40960) & (n <= 2560) {
-        return in_40960(d, v, s, h, table, swept);
+        return in_room::<2560, 40960>(d, v, s, h, table, swept);
     }
     if n <= 4608 {
-        return in_73728(d, v, s, h, table, swept);
+        return in_room::<4608, TABLE_ROOM>(d, v, s, h, table, swept);
     }
-    wide_73728(d, v, s, h, table, swept)
+    in_room::<SOLID_ROOM, TABLE_ROOM>(d, v, s, h, table, swept)
 }

@@ -12,7 +12,7 @@ ghost use Rattle.winged.specs.Inner.Sent.{wing_read};
 use direct::uploaded::uploaded_bytes;
 use records::sizes::{LIST_ROOM, list_words};
 use rules::limits::Shape;
-use rules::refusal::{Answer, Refusal};
+use rules::refusal::Refusal;
 use wing::wing_table;
 use words::copy::decode;
 
@@ -24,7 +24,7 @@ fn wing_list(
     cells: &[u16],
     out: &mut [u16],
     uploaded: &mut [u8],
-) -> Answer
+) -> Result<usize, Refusal>
     ensures answer { outcome_of result
         ≡ wing_outcome (wing_input d v s cells.now (length out.old) (words_in uploaded.old)) }
     ensures buffer { out.new
@@ -32,13 +32,9 @@ fn wing_list(
     ensures uploaded { uploaded.new
         ≡ after (outcome_of result) (bytes_of (uploaded_of_list (record { d = d; v = v; s = s; words = cells.now }))) uploaded.old }
 {
-    match wing_table(d, v, s, cells, uploaded.len() / 2, out) {
-        Answer::Written(n) => {
-            uploaded_bytes(d, s, cells, &out[..n], uploaded);
-            Answer::Written(n)
-        }
-        Answer::Refused(r) => Answer::Refused(r),
-    }
+    let n = wing_table(d, v, s, cells, uploaded.len() / 2, out)?;
+    uploaded_bytes(d, s, cells, &out[..n], uploaded);
+    Ok(n)
 }
 
 pub fn wing_words(
@@ -48,7 +44,7 @@ pub fn wing_words(
     cells: &[u8],
     out: &mut [u16],
     uploaded: &mut [u8],
-) -> Answer
+) -> Result<usize, Refusal>
     ensures answer { outcome_of result
         ≡ wing_read d v s cells.now (length out.old) (words_in uploaded.old) }
     ensures buffer { out.new ≡ after (outcome_of result) (table_of_list (host_list d v s cells.now)) out.old }
@@ -56,11 +52,11 @@ pub fn wing_words(
         ≡ after (outcome_of result) (bytes_of (uploaded_of_list (host_list d v s cells.now))) uploaded.old }
 {
     if !Shape::within(Shape::MAX_DIMENSION, d, v, s) {
-        return Answer::Refused(Refusal::OutsideLimits);
+        return Err(Refusal::OutsideLimits);
     }
     let n = list_words(d, s);
     if cells.len() != n * 2 {
-        return Answer::Refused(Refusal::WrongLength);
+        return Err(Refusal::WrongLength);
     }
     let mut list = [0u16; LIST_ROOM];
     decode(cells, &mut list);

@@ -6,7 +6,7 @@ ghost use Rattle.winged.specs.Inner.Sent.{lesser, small_table, count_of, sent};
 
 use records::sizes::table_words;
 use rules::limits::Shape;
-use rules::refusal::{Answer, number};
+use rules::refusal::Refusal;
 use words::copy::encode;
 
 // Whole words of so many bytes, at most so many.
@@ -33,34 +33,34 @@ pub fn is_small(d: usize, s: usize, most: usize) -> bool
     table_words(d, s) <= most
 }
 
-pub fn minus(k: u8) -> i64
+fn minus(k: u8) -> i64
     ensures { result ≡ neg_ℤ (pos k) }
 {
     -(k as i64)
 }
 
 // The count as it is, or minus the refusal's number.
-pub fn answered(a: Answer) -> i64
+pub fn answered(a: Result<usize, Refusal>) -> i64
     requires { count_of (outcome_of a) < 9223372036854775808 }
     ensures { result ≡ host_answer (outcome_of a) }
 {
     match a {
-        Answer::Written(n) => n as i64,
-        Answer::Refused(r) => minus(number(r)),
+        Ok(n) => n as i64,
+        Err(refusal) => minus(u8::from(refusal)),
     }
 }
 
 // The words that were written go to the start of the lent bytes; a refusal sends none.
-pub fn send(a: Answer, words: &[u16], out: &mut [u8]) -> i64
+pub fn send(a: Result<usize, Refusal>, words: &[u16], out: &mut [u8]) -> i64
     requires { (count_of (outcome_of a) ≤ length words.now) × (count_of (outcome_of a) * 2 ≤ length out.old) }
     ensures answer { result ≡ host_answer (outcome_of a) }
     ensures buffer { out.new ≡ sent (outcome_of a) words.now out.old }
 {
     match a {
-        Answer::Written(n) => {
+        Ok(n) => {
             encode(&words[..n], out);
             n as i64
         }
-        Answer::Refused(r) => minus(number(r)),
+        Err(refusal) => minus(u8::from(refusal)),
     }
 }

@@ -3,12 +3,12 @@
 --   left_starts, left_goes, left_ends     all is left; a piece less is; nothing is
 --   left_last                         and with the last piece put
 --   left_word                         one element less
---   left_one, left_next, left_none    of a list: the element at a place less, put or set; no element is left
+--   left_next, left_none              of a list: the element at a place less, set; no element is left
 --   left_value, left_values           of tabulated elements: one less; none is left
 --   left_item, left_items             of the lists of a list's elements: one less; none is left
 --   left_record, left_records         of tabulated lists: one less; none is left
 --   left_fits, left_item_fits, left_record_fits     the piece has room
---   left_ahead, left_before           ahead and before `at` the buffer is as it was
+--   left_ahead                        ahead of what is written the buffer is as it was
 --   left_read                         and what is written is read
 --   put_nothing                       nothing put
 --   put_first                         put at the start: the list, and the buffer's rest
@@ -25,7 +25,7 @@ use Rattle.words.specs.Records.{tabulate, concat}
 use Rattle.words.specs.Inner.Placed.{placed, Put}
 use Rattle.words.proofs.Loops.{drop_next}
 use Rattle.words.proofs.Records.{tabulate-length, tabulate_at, read_front}
-use Rattle.words.proofs.Placed.{placed_first, placed-none, placed-length, placed_then, placed_one, placed-behind, placed-before}
+use Rattle.words.proofs.Placed.{placed_first, placed-none, placed-length, placed_then, placed_one, placed-behind}
 
 module _ {A : Type 0} where
   pub put_nothing : (at : ℕ) (old : List A) → Put at [] old at old
@@ -101,9 +101,6 @@ module _ {A : Type 0} where
 
     -- element k of a list of which those from k on are left
     module _ (z : A) (xs : List A) (k : ℕ) (h : k < length xs) (l : Left at all old cur (drop k xs) buf) where
-      pub left_one : (next : ℕ) (new : List A) → Put cur (get_or xs k z ∷ []) buf next new → Left at all old next (drop (k + 1) xs) new
-      left_one next new p = left_goes (get_or xs k z ∷ []) (drop (k + 1) xs) next new (rw (drop_next z xs k h) at l) p
-
       pub left_next : (next : ℕ) (x : A) → x ≡ get_or xs k z → next ≡ cur + 1 → Left at all old next (drop (k + 1) xs) (set buf cur x)
       left_next next x e n = rw e (left_word (get_or xs k z) (drop (k + 1) xs) next n (rw (drop_next z xs k h) at l))
 
@@ -154,11 +151,6 @@ module _ {A : Type 0} where
 
     pub left_ahead : (rest : List A) → Left at all old cur rest buf → drop cur buf ≡ drop cur old
     left_ahead rest l = rw (l.put.place, l.put.content) (placed-behind at l.done old (omega (arith, l.put.place, l.room, l.same)))
-
-    -- before it too
-    pub left_before : (rest : List A) → Left at all old cur rest buf → (i : ℕ) (z : A) → i < at → at ≤ length old →
-        get_or buf i z ≡ get_or old i z
-    left_before rest l i z h room = rw l.put.content (placed-before at l.done old i z h room)
 
     -- what is written from the start on is read there
     pub left_read : (rest : List A) → Left at all old cur rest buf → at ≡ 0 → (p n : ℕ) → p + n ≤ cur →

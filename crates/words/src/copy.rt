@@ -10,14 +10,8 @@ pub fn copy16(b: &[u8], at: usize, m: usize, out: &mut [u16], to: usize)
     requires { (at + m * 2 ≤ length b.now) × (to + m ≤ length out.old) }
     ensures { out.new ≡ placed to (words_from b.now at m) out.old }
 {
-    let mut from = at;
-    let mut k = to;
-    let mut left = m;
-    while 0 < left {
-        out[k] = little::word16(b, from);
-        from += 2;
-        k += 1;
-        left -= 1;
+    for k in 0..m {
+        out[to + k] = little::word16(b, at + k * 2);
     }
 }
 
@@ -34,11 +28,9 @@ pub fn encode(words: &[u16], out: &mut [u8])
     requires { length words.now * 2 ≤ length out.old }
     ensures { out.new ≡ bytes_of words.now ++ drop (length words.now * 2) out.old }
 {
-    let mut p: usize = 0;
-    while p < words.len() {
-        let w = words[p];
-        out[p * 2] = (w % 256) as u8;
-        out[p * 2 + 1] = (w / 256 % 256) as u8;
-        p += 1;
+    for (p, word) in words.iter().enumerate() {
+        let [low, high] = word.to_le_bytes();
+        out[p * 2] = low;
+        out[p * 2 + 1] = high;
     }
 }

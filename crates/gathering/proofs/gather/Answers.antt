@@ -1,5 +1,5 @@
 -- The dimension that the compiler knows is the list's; longer rows are tested when all are written. Assumes nothing.
-use mathlib.Core.Path.{◌≡◌, sym, subst, ◌∙◌}
+use mathlib.Core.Path.{◌≡◌, refl, sym, subst, ◌∙◌}
 use mathlib.Core.Bool.{Bool, true}
 use mathlib.Core.List.{List}
 use Prim.Native.Nat.{ℕ, ◌≤◌, ◌<◌}
@@ -37,7 +37,7 @@ pub returns-then-d-eq1 : goal.returns-then-d-eq1
 returns-then-d-eq1 c =
     let r = back (goal.at.returns-then-d-eq1 c).Start 1 _ _ c.if-d-eq1.true (
       c.gather_all.ensures.table,
-      c.gather_all.ensures.fine,
+      c.gather_all.ensures.fine refl,
       c.gather_all.ensures.signs,
     ) in record { table = r.0; fine = r.1; signs = r.2 }
 
@@ -48,7 +48,7 @@ pub returns-then-d-eq2 : goal.returns-then-d-eq2
 returns-then-d-eq2 c =
     let r = back (goal.at.returns-then-d-eq2 c).Start 2 _ _ c.if-d-eq2.true (
       c.gather_all-then-d-eq2.ensures.table,
-      c.gather_all-then-d-eq2.ensures.fine,
+      c.gather_all-then-d-eq2.ensures.fine refl,
       c.gather_all-then-d-eq2.ensures.signs,
     ) in record { table = r.0; fine = r.1; signs = r.2 }
 
@@ -59,7 +59,7 @@ pub returns-then-d-eq3 : goal.returns-then-d-eq3
 returns-then-d-eq3 c =
     let r = back (goal.at.returns-then-d-eq3 c).Start 3 _ _ c.if-d-eq3.true (
       c.gather_all-then-d-eq3.ensures.table,
-      c.gather_all-then-d-eq3.ensures.fine,
+      c.gather_all-then-d-eq3.ensures.fine refl,
       c.gather_all-then-d-eq3.ensures.signs,
     ) in record { table = r.0; fine = r.1; signs = r.2 }
 
@@ -70,7 +70,7 @@ pub returns-then-d-eq4 : goal.returns-then-d-eq4
 returns-then-d-eq4 c =
     let r = back (goal.at.returns-then-d-eq4 c).Start 4 _ _ c.if-d-eq4.true (
       c.gather_all-then-d-eq4.ensures.table,
-      c.gather_all-then-d-eq4.ensures.fine,
+      c.gather_all-then-d-eq4.ensures.fine refl,
       c.gather_all-then-d-eq4.ensures.signs,
     ) in record { table = r.0; fine = r.1; signs = r.2 }
 

@@ -3,8 +3,5 @@ use native.Mathlib.Nat.{mul-le-mul}
 use native.Mathlib.Omega.{arith}
 use Rattle.list.proofs.lengths_fit.Goals as goal
 
-pub overflow_mul-count : goal.overflow_mul-count
-overflow_mul-count c = omega (arith, mul-le-mul c.requires.2 c.requires.1)
-
-pub returns : goal.returns
-returns c = cc
+pub overflow_mul-result : goal.overflow_mul-result
+overflow_mul-result c = omega (arith, mul-le-mul c.requires.2 c.requires.1)

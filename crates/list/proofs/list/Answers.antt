@@ -1,13 +1,13 @@
 -- The call list: each return is a rule's, and only an accepted call writes. Assumes nothing.
 use mathlib.Core.Path.{◌≡◌, sym, ap, ◌∙◌}
-use mathlib.Core.Bool.{not}
+use mathlib.Core.Bool.{Bool, true, false, not}
 use Prim.Native.Nat.{◌*◌}
 use lib.Dec.{eqb, ltb}
 use lib.ListN.{length}
 use borrow.Author.Tests.{eqb-true, ltb-false, not-false}
 use Rattle.words.proofs.Placed.{placed_first}
 use Rattle.rules.proofs.InLimits.{ListLimits, list_limits_are}
-use Rattle.rules.proofs.Tests.{and_parts}
+use Rattle.rules.proofs.Tests.{and_parts, is_less, not_less}
 use Rattle.records.specs.Inner.Inside.{Table}
 use Rattle.records.specs.Layout.{table_length}
 use Rattle.boundary.specs.Inner.Walk.{table_faces}
@@ -16,7 +16,7 @@ use Rattle.listing.specs.Inner.Parts.{Points}
 use Rattle.list.specs.List.{ListInput, list_input, list_text, list_rules}
 use Rattle.list.proofs.Order.{refuses, accepts}
 use Rattle.list.proofs.list.Goals as goal
-use Rattle.list.proofs.list.Goals.{After-less, Else-not-all_in_range, Else-not-numbers_fit, Start}
+use Rattle.list.proofs.list.Goals.{Else-not-all_in_range, Else-not-numbers_fit, Else-out-bytes, Start, Then-out-bytes}
 
 abbrev input : Start → ListInput
 input s = let a = s.args in list_input a.version a.d a.n a.v a.s a.table.now a.points.now (length a.out.now)
@@ -36,13 +36,20 @@ told c =
       record { axes = l.axes; vertices = l.vertices; long = eqb-true _ _ long.1; ranged = ranged },
     )
 
--- what is compared with the room is the length of the key
-compared : (c : After-less) → let a = c.args in
-    c.less.result
-    ≡ ltb (length a.out.now)
-    (length (list_text (list_input a.version a.d a.n a.v a.s a.table.now a.points.now 0)))
+-- the test of the room, of the key's text
+abbrev short_of : Start → Bool
 unfolding list_text
-compared c = c.less.ensures ∙ ap (ltb _) c.key_size-size.ensures.text
+short_of s =
+    let a = s.args in
+    ltb (length a.out.now) (length (list_text (list_input a.version a.d a.n a.v a.s a.table.now a.points.now 0)))
+
+short : (c : Then-out-bytes) → short_of (goal.at.Then-out-bytes c).Start ≡ true
+unfolding list_text
+short c = ap (ltb _) (sym c.key_size-size.ensures.text) ∙ is_less _ _ c.if-out-bytes.true
+
+enough : (c : Else-out-bytes) → short_of (goal.at.Else-out-bytes c).Start ≡ false
+unfolding list_text
+enough c = ap (ltb _) (sym c.key_size-size.ensures.text) ∙ not_less _ _ c.if-out-bytes.false
 
 pub returns-then-not-numbers_fit : goal.returns-then-not-numbers_fit
 unfolding list_rules
@@ -74,23 +81,25 @@ returns-then-not-is_sound c =
 pub key_size-size-requires : goal.key_size-size-requires
 key_size-size-requires c = told (goal.at.key_size-size-requires c).Else-not-all_in_range
 
-pub returns-then-less : goal.returns-then-less
+pub returns-then-out-bytes : goal.returns-then-out-bytes
 unfolding list_rules list_text
-returns-then-less c =
-    let both = refuses (input (goal.at.returns-then-less c).Start) c.args.out.now 15 (cc (compared (goal.at.returns-then-less c).After-less)) in
+returns-then-out-bytes c =
+    let p = goal.at.returns-then-out-bytes c in
+    let both = refuses (input p.Start) c.args.out.now 15 (cc (short p.Then-out-bytes)) in
     record { answer = both.0; buffer = both.1 }
 
 pub put_key-requires : goal.put_key-requires
 unfolding list_text
 put_key-requires c =
     let t = told (goal.at.put_key-requires c).Else-not-all_in_range in
-    (t.0, t.1, c.key_size-size.ensures.faces, ltb-false _ _ (sym (compared (goal.at.put_key-requires c).After-less) ∙ c.if-less.false))
+    (t.0, t.1, c.key_size-size.ensures.faces, ltb-false _ _ (enough (goal.at.put_key-requires c).Else-out-bytes))
 
 pub returns : goal.returns
 unfolding list_rules list_text
 returns c =
     let a = c.args in
-    let both = accepts (input (goal.at.returns c).Start) a.out.now _ _ (cc (compared (goal.at.returns c).After-less)) c.key_size-size.ensures.text
+    let p = goal.at.returns c in
+    let both = accepts (input p.Start) a.out.now _ _ (cc (enough p.Else-out-bytes)) c.key_size-size.ensures.text
     (c.put_key.ensures.content
     ∙ placed_first (key_text a.version a.d a.n a.v a.points.now (table_faces a.d a.s a.table.now)) a.out.now) in
     record { answer = both.0; buffer = both.1 }

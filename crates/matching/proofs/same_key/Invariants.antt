@@ -14,6 +14,3 @@ invariant-loop-j l =
     × (l.m ≡ cond (ltb l.b l.k) (l.k - 1) l.k)
     × (l.j ≤ l.m)
     × ((i : ℕ) → i < l.j → get_or (without l.a (cell_row l.rows l.k l.p)) i 0 ≡ get_or (without l.b (cell_row l.rows l.k l.q)) i 0)
-
-abbrev pub decreases-loop-j : goal.decreases-loop-j
-decreases-loop-j l = 8 - l.j

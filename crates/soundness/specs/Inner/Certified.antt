@@ -6,7 +6,7 @@
 --   Fine d v ws p         the record of cell p but for its wings: a sign word, a material, ascending vertices below v
 --   Linked d s ws p a     a leading place has no wing, or meets one; any other is met by one
 --   Apart d s ws          no two leading places have the same face
-use Rattle.std.specs.Prelude.{◌≡◌, List, ℕ, suc, ◌≤◌, ◌<◌, get_or}
+use Rattle.std.specs.Prelude.{◌≡◌, List, ℕ, suc, ◌≤◌, ◌<◌}
 use Rattle.rules.specs.Limits.{max_material}
 use Rattle.simplex.specs.Cell.{Row}
 use Rattle.simplex.specs.Faces.{without}

@@ -4,31 +4,25 @@ use mathlib.Core.Bool.{false, not}
 use Prim.Native.Nat.{◌*◌}
 use lib.Dec.{eqb}
 use lib.ListN.{length}
-use borrow.Author.Tests.{eqb-true, not-false}
 use Rattle.rules.specs.Limits.{max_dimension}
 use Rattle.rules.specs.Shapes.{shape_ok}
+use Rattle.rules.proofs.Tests.{differs, agrees}
 use Rattle.rules.proofs.InLimits.{Limits, limits_are}
 use Rattle.records.specs.Layout.{list_size}
 use Rattle.wing.specs.Wing.{wing_rules}
 use Rattle.wing.proofs.Order.{refuses, passes}
 use Rattle.wing.proofs.wing_table.Goals as goal
-use Rattle.wing.proofs.wing_table.Goals.{After-differ, After-within, Else-differ, Else-not-within}
+use Rattle.wing.proofs.wing_table.Goals.{After-within, Else-cells-list_words, Else-not-within}
 
--- rows 2 and 3 are what the code tests
+-- row 2 is what the code tests
 two : (c : After-within) → let a = c.args in not (shape_ok max_dimension a.d a.v a.s) ≡ not c.within.result
 two c = ap not (sym c.within.ensures)
-
-three : (c : After-differ) → let a = c.args in
-    not (eqb (length a.cells.now) (a.s * list_size a.d)) ≡ c.differ.result
-three c =
-    let a = c.args in
-    ap (λ n. not (eqb (length a.cells.now) n)) (sym c.list_words.ensures) ∙ sym c.differ.ensures
 
 two-passes : (c : Else-not-within) → let a = c.args in not (shape_ok max_dimension a.d a.v a.s) ≡ false
 two-passes c = two (goal.at.Else-not-within c).After-within ∙ ap not c.if-not-within.false
 
-three-passes : (c : Else-differ) → let a = c.args in not (eqb (length a.cells.now) (a.s * list_size a.d)) ≡ false
-three-passes c = three (goal.at.Else-differ c).After-differ ∙ c.if-differ.false
+three-passes : (c : Else-cells-list_words) → let a = c.args in not (eqb (length a.cells.now) (a.s * list_size a.d)) ≡ false
+three-passes c = agrees _ _ (c.if-cells-list_words.false ∙ c.list_words.ensures)
 
 limits : (c : Else-not-within) → let a = c.args in Limits max_dimension a.d a.v a.s
 limits c = limits_are _ _ _ _ (two-passes c)
@@ -42,22 +36,22 @@ returns-then-not-within c =
 pub list_words-requires : goal.list_words-requires
 list_words-requires c = let l = limits c in (l.dimension, l.cells)
 
-pub returns-then-differ : goal.returns-then-differ
+pub returns-then-cells-list_words : goal.returns-then-cells-list_words
 unfolding wing_rules
-returns-then-differ c =
-    let two = two-passes (goal.at.returns-then-differ c).Else-not-within in
-    let three = three (goal.at.returns-then-differ c).After-differ ∙ c.if-differ.true in
+returns-then-cells-list_words c =
+    let two = two-passes (goal.at.returns-then-cells-list_words c).Else-not-within in
+    let three = differs _ _ (λ e. c.if-cells-list_words.true (e ∙ sym c.list_words.ensures)) in
     let r = refuses _ _ 3 (rw (two, three) refl) in
     record { answer = r.0; table = r.1 }
 
 pub write_table-requires : goal.write_table-requires
 write_table-requires c =
     let l = limits (goal.at.write_table-requires c).Else-not-within in
-    (l.dimension, l.cells, eqb-true _ _ (not-false _ (three-passes (goal.at.write_table-requires c).Else-differ)))
+    (l.dimension, l.cells, c.if-cells-list_words.false ∙ c.list_words.ensures)
 
 pub returns : goal.returns
 returns c =
     let two = two-passes (goal.at.returns c).Else-not-within in
-    let three = three-passes (goal.at.returns c).Else-differ in
+    let three = three-passes (goal.at.returns c).Else-cells-list_words in
     let r = passes _ _ _ _ _ _ two three _ _ c.write_table.ensures.answer c.write_table.ensures.table in
     record { answer = r.0; table = r.1 }

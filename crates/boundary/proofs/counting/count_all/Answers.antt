@@ -13,13 +13,10 @@ few : (c : Start) â†’ length (table_faces c.args.d c.args.s c.args.table.now) â‰
 few c = faces-few c.args.d c.args.s c.args.table.now c.requires
 
 pub loop-p-init : goal.loop-p-init
-loop-p-init c = let a = c.args in (omega arith, omega (arith, ap length (from_start a.d a.s a.table.now)))
+loop-p-init c = let a = c.args in omega (arith, ap length (from_start a.d a.s a.table.now))
 
 pub overflow_add-n : goal.overflow_add-n
 overflow_add-n c = omega (arith, few (goal.at.overflow_add-n c).Start)
-
-pub loop-p-preserved : goal.loop-p-preserved
-loop-p-preserved c = omega arith
 
 pub returns : goal.returns
 returns c =

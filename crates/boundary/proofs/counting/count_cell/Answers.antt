@@ -6,9 +6,6 @@ use Rattle.boundary.proofs.Walking.{from_next, from_here, from_skip}
 use Rattle.boundary.proofs.counting.count_cell.Goals as goal
 use Rattle.boundary.proofs.counting.count_cell.Goals.{then-on_boundary, else-on_boundary}
 
-pub loop-a-init : goal.loop-a-init
-loop-a-init c = omega arith
-
 pub loop-a-preserved : goal.loop-a-preserved
 loop-a-preserved c =
     let a = c.args in

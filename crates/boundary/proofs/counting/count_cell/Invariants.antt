@@ -1,13 +1,10 @@
 -- What is counted and what is left make the cell's faces. Assumes nothing.
 use mathlib.Core.Path.{◌≡◌}
-use Prim.Native.Nat.{◌+◌, ◌-◌, ◌≤◌}
+use Prim.Native.Nat.{◌+◌, ◌≤◌}
 use lib.ListN.{length}
 use Rattle.boundary.specs.Inner.Walk.{faces_from}
 use Rattle.boundary.proofs.counting.count_cell.Given as goal
 
 abbrev pub invariant-loop-a : goal.invariant-loop-a
 invariant-loop-a l =
-    (l.a ≤ l.d + 1) × (l.n ≤ l.a) × (l.n + length (faces_from l.d l.s l.table l.p l.a) ≡ length (faces_from l.d l.s l.table l.p 0))
-
-abbrev pub decreases-loop-a : goal.decreases-loop-a
-decreases-loop-a l = l.d + 1 - l.a
+    (l.n ≤ l.a) × (l.n + length (faces_from l.d l.s l.table l.p l.a) ≡ length (faces_from l.d l.s l.table l.p 0))

@@ -1,10 +1,11 @@
 -- The goals that the search leaves. Assumes nothing.
 use mathlib.Core.Path.{◌≡◌}
 use mathlib.Core.List.{List}
-use Prim.Native.Nat.{ℕ, ◌<◌}
+use Prim.Native.Nat.{ℕ, ◌+◌, ◌<◌}
+use native.Mathlib.Nat.{add-zero}
 use native.Mathlib.Omega.{arith}
-use lib.ListN.{length, length-drop, drop_of_length-le}
-use Rattle.words.proofs.Writing.{left_starts, left_next, left_ends}
+use lib.ListN.{length, length-drop}
+use Rattle.words.proofs.Writing.{left_starts, left_next, left_none}
 use Rattle.records.specs.Layout.{face_size, face_words}
 use Rattle.boundary.specs.Inner.Walk.{face_at}
 use Rattle.boundary.proofs.FaceWords.{face-long}
@@ -17,35 +18,27 @@ words c = face_words (face_at c.args.d c.args.table.now c.args.p c.args.a)
 long : (c : Start) → length (words c) ≡ face_size c.args.d
 long c = face-long c.args.d c.args.s c.args.table.now c.args.p c.requires.0 c.args.a c.requires.1
 
-fits : (c : After-face_word) → c.loop-j.next < length c.loop-j.out
+fits : (c : After-face_word) → c.args.at + c.loop-j.j < length c.loop-j.out
 fits c =
-    omega (arith, c.loop-j.invariant.2.room, length-drop c.loop-j.j (words (goal.at.After-face_word c).Start), long (goal.at.After-face_word c).Start)
+    omega (arith, c.loop-j.invariant.1.room, length-drop c.loop-j.j (words (goal.at.After-face_word c).Start), long (goal.at.After-face_word c).Start)
 
 pub loop-j-init : goal.loop-j-init
-loop-j-init c = (omega arith, cc, left_starts _ _ _ (omega arith))
+loop-j-init c = (cc, rw (add-zero c.args.at) (left_starts _ _ _ (omega arith)))
 
-pub offset_bounds-out-next : goal.offset_bounds-out-next
-offset_bounds-out-next c = omega (arith, fits c)
-
-pub bounds-out-next : goal.bounds-out-next
-bounds-out-next c = fits c
-
-pub overflow_add-next : goal.overflow_add-next
-overflow_add-next c = omega (arith, fits c)
+pub bounds-out-at : goal.bounds-out-at
+bounds-out-at c = fits c
 
 pub loop-j-preserved : goal.loop-j-preserved
 loop-j-preserved c =
     let here : c.loop-j.j < length (words (goal.at.loop-j-preserved c).Start) = omega (arith, long (goal.at.loop-j-preserved c).Start) in (
-      omega arith,
       cc,
-      left_next 0 (words (goal.at.loop-j-preserved c).Start) c.loop-j.j here c.loop-j.invariant.2 _ _ c.face_word.ensures
+      left_next 0 (words (goal.at.loop-j-preserved c).Start) c.loop-j.j here c.loop-j.invariant.1 _ _ c.face_word.ensures
           (omega arith),
     )
 
-pub shape_of-out : goal.shape_of-out
-shape_of-out c = c.loop-j.invariant.2.same
-
 pub returns : goal.returns
 returns c =
-    left_ends (rw (drop_of_length-le (words (goal.at.returns c).Start) {i = c.loop-j.j} (omega (arith, long (goal.at.returns c).Start))) at
-    c.loop-j.invariant.2)
+    let all = words (goal.at.returns c).Start in
+    let e : c.loop-j.j ≡ c.face_size-size.result = omega arith in
+    let done = left_none all c.loop-j.j (omega (arith, long (goal.at.returns c).Start)) c.loop-j.invariant.1 in
+    rw e at done

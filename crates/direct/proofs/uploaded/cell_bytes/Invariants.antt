@@ -1,5 +1,4 @@
 -- The bytes of a cell's wings, two to a word. Assumes nothing.
-use Prim.Native.Nat.{◌+◌, ◌-◌, ◌≤◌}
 use lib.ListN.{drop}
 use Rattle.words.specs.Bytes.{bytes_of}
 use Rattle.words.proofs.Writing.{Left}
@@ -9,7 +8,4 @@ use Rattle.direct.proofs.uploaded.cell_bytes.Given as goal
 abbrev pub invariant-loop-j : goal.invariant-loop-j
 invariant-loop-j l =
     let all = uploaded_row l.d l.cells l.table l.p in
-    (l.j ≤ l.d + 1) × Left l.at (bytes_of all) l.initial.out l.next (bytes_of (drop l.j all)) l.out
-
-abbrev pub decreases-loop-j : goal.decreases-loop-j
-decreases-loop-j l = l.d + 1 - l.j
+    Left l.at (bytes_of all) l.initial.out l.next (bytes_of (drop l.j all)) l.out

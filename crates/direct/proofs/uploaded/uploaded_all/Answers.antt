@@ -1,7 +1,7 @@
 -- The goals that the search leaves. Assumes nothing.
 use mathlib.Core.Path.{◌≡◌, sym, ap, ◌∙◌}
 use mathlib.Core.List.{List}
-use Prim.Native.Nat.{ℕ, ◌-◌, ◌*◌}
+use Prim.Native.Nat.{ℕ, ◌*◌}
 use native.Mathlib.Omega.{arith}
 use lib.ListN.{length}
 use Rattle.words.specs.Bytes.{bytes_of}
@@ -50,12 +50,6 @@ cell_bytes-next-requires c =
         left_record_fits _ _ (rows (goal.at.cell_bytes-next-requires c).Start) c.loop-p-test.true c.loop-p.invariant,
       ),
     )
-
-pub overflow_add-p : goal.overflow_add-p
-overflow_add-p c = omega arith
-
-pub loop-p-smaller : goal.loop-p-smaller
-loop-p-smaller c = omega arith
 
 pub loop-p-preserved : goal.loop-p-preserved
 loop-p-preserved c =

@@ -1,5 +1,4 @@
 -- The loop has written the wings of the first p cells. Assumes nothing.
-use Prim.Native.Nat.{◌-◌}
 use lib.ListN.{drop}
 use Rattle.words.specs.Bytes.{bytes_of}
 use Rattle.words.specs.Records.{concat, tabulate}
@@ -11,6 +10,3 @@ abbrev pub invariant-loop-p : goal.invariant-loop-p
 invariant-loop-p l =
     let all = tabulate l.s (λ p. bytes_of (uploaded_row l.d l.cells l.table p)) in
     Left 0 (concat all) l.initial.out l.next (concat (drop l.p all)) l.out
-
-abbrev pub decreases-loop-p : goal.decreases-loop-p
-decreases-loop-p l = l.s - l.p

@@ -4,7 +4,6 @@ use native.Mathlib.Omega.{arith}
 use lib.Dec.{ltb}
 use lib.ListN.{get_or}
 use borrow.Author.Tests.{lt-ltb, le-ltb}
-use borrow.Author.Rules.{rules}
 use Rattle.words.proofs.Loops.{any_goes, any_stops, any_ends}
 use Rattle.rules.specs.Limits.{max_material}
 use Rattle.simplex.specs.Cell.{no_cell}
@@ -23,9 +22,6 @@ here c =
     (material_at_lem b c.loop-p.p ∙ ap₂ (λ k i. material_from k b i) (sym c.version-version.ensures.0) (sym c.cell_at-at.ensures.0)
     ∙ sym c.material.ensures)
 
-pub loop-p-init : goal.loop-p-init
-loop-p-init c = (search rules, refl)
-
 pub material-requires : goal.material-requires
 material-requires c =
     omega (arith, c.cell_at-at.ensures.1, ap cell_head c.version-version.ensures.0)
@@ -34,17 +30,15 @@ pub returns-then-material-gt-MAX_MATERIAL : goal.returns-then-material-gt-MAX_MA
 returns-then-material-gt-MAX_MATERIAL c =
     let b = c.args.b.now in
     any_stops (λ x. ltb max_material x.material) no_cell (file_cells b) _ c.loop-p.p (cells-length b) (omega arith) _ refl _
-    (here (goal.at.returns-then-material-gt-MAX_MATERIAL c).After-material ∙ lt-ltb _ _ c.if-material-gt-MAX_MATERIAL.true) c.loop-p.invariant.1
+    (here (goal.at.returns-then-material-gt-MAX_MATERIAL c).After-material ∙ lt-ltb _ _ c.if-material-gt-MAX_MATERIAL.true) c.loop-p.invariant
 
 pub loop-p-preserved : goal.loop-p-preserved
 loop-p-preserved c =
-    let b = c.args.b.now in (
-      omega arith,
-      any_goes (λ x. ltb max_material x.material) no_cell (file_cells b) _ c.loop-p.p (cells-length b) (omega arith) _ refl _
-          (here (goal.at.loop-p-preserved c).After-material ∙ le-ltb _ _ c.if-material-gt-MAX_MATERIAL.false) c.loop-p.invariant.1,
-    )
+    let b = c.args.b.now in
+    any_goes (λ x. ltb max_material x.material) no_cell (file_cells b) _ c.loop-p.p (cells-length b) (omega arith) _ refl _
+    (here (goal.at.loop-p-preserved c).After-material ∙ le-ltb _ _ c.if-material-gt-MAX_MATERIAL.false) c.loop-p.invariant
 
 pub returns : goal.returns
 returns c =
     let b = c.args.b.now in
-    any_ends (λ x. ltb max_material x.material) no_cell (file_cells b) _ c.loop-p.p (cells-length b) (omega arith) _ c.loop-p.invariant.1
+    any_ends (λ x. ltb max_material x.material) no_cell (file_cells b) _ c.loop-p.p (cells-length b) (omega arith) _ c.loop-p.invariant

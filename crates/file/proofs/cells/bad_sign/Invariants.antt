@@ -1,7 +1,6 @@
 -- `bad_sign` answers row 6: what is left of the sign bytes decides. Assumes nothing.
 use mathlib.Core.Path.{◌≡◌}
 use mathlib.Core.Bool.{not, ◌||◌}
-use Prim.Native.Nat.{◌≤◌, ◌-◌}
 use lib.Dec.{eqb}
 use lib.ListN.{drop}
 use Rattle.words.specs.Records.{any_of}
@@ -9,8 +8,5 @@ use Rattle.file.specs.File.{sign_bytes}
 use Rattle.file.proofs.cells.bad_sign.Given as goal
 
 abbrev pub invariant-loop-p : goal.invariant-loop-p
-invariant-loop-p l = (l.p ≤ l.count)
-    × (any_of (λ x. not (eqb x 43 || eqb x 45)) (sign_bytes l.b) ≡ any_of (λ x. not (eqb x 43 || eqb x 45)) (drop l.p (sign_bytes l.b)))
-
-abbrev pub decreases-loop-p : goal.decreases-loop-p
-decreases-loop-p l = l.count - l.p
+invariant-loop-p l =
+    any_of (λ x. not (eqb x 43 || eqb x 45)) (sign_bytes l.b) ≡ any_of (λ x. not (eqb x 43 || eqb x 45)) (drop l.p (sign_bytes l.b))

@@ -1,6 +1,5 @@
 -- `bad_vertex` answers row 7: what is left of the cells decides. Assumes nothing.
 use mathlib.Core.Path.{◌≡◌}
-use Prim.Native.Nat.{◌≤◌, ◌-◌}
 use lib.ListN.{drop}
 use Rattle.solids.specs.Accept.{vertex_beyond}
 use Rattle.file.specs.File.{vertex_count_of, file_cells}
@@ -8,7 +7,4 @@ use Rattle.file.proofs.cells.bad_vertex.Given as goal
 
 abbrev pub invariant-loop-p : goal.invariant-loop-p
 invariant-loop-p l =
-    (l.p ≤ l.count) × (vertex_beyond (vertex_count_of l.b) (file_cells l.b) ≡ vertex_beyond (vertex_count_of l.b) (drop l.p (file_cells l.b)))
-
-abbrev pub decreases-loop-p : goal.decreases-loop-p
-decreases-loop-p l = l.count - l.p
+    vertex_beyond (vertex_count_of l.b) (file_cells l.b) ≡ vertex_beyond (vertex_count_of l.b) (drop l.p (file_cells l.b))

@@ -3,7 +3,6 @@ use mathlib.Core.Path.{◌≡◌, refl, ◌∙◌}
 use Prim.Native.Nat.{◌+◌}
 use native.Mathlib.Omega.{arith}
 use lib.ListN.{get_or}
-use borrow.Author.Rules.{rules}
 use Rattle.words.proofs.Loops.{any_goes, any_stops, any_ends}
 use Rattle.simplex.specs.Cell.{no_cell}
 use Rattle.solids.specs.Accept.{repeats}
@@ -18,26 +17,21 @@ here c =
     let m = c.dimension-m.result + 1 in
     cc (row_at_lem c.args.b.now c.requires c.loop-p.p (omega arith) m (omega arith) _ c.vertices_at-at.ensures.0)
 
-pub loop-p-init : goal.loop-p-init
-loop-p-init c = (search rules, refl)
-
 pub returns-then-repeated : goal.returns-then-repeated
 returns-then-repeated c =
     let b = c.args.b.now in
     any_stops (λ x. repeats x.row) no_cell (file_cells b) _ c.loop-p.p (cells-length b) (omega arith) _ refl _
     (here (goal.at.returns-then-repeated c).After-repeated ∙ c.if-repeated.true)
-    c.loop-p.invariant.1
+    c.loop-p.invariant
 
 pub loop-p-preserved : goal.loop-p-preserved
 loop-p-preserved c =
-    let b = c.args.b.now in (
-      omega arith,
-      any_goes (λ x. repeats x.row) no_cell (file_cells b) _ c.loop-p.p (cells-length b) (omega arith) _ refl _
-          (here (goal.at.loop-p-preserved c).After-repeated ∙ c.if-repeated.false)
-          c.loop-p.invariant.1,
-    )
+    let b = c.args.b.now in
+    any_goes (λ x. repeats x.row) no_cell (file_cells b) _ c.loop-p.p (cells-length b) (omega arith) _ refl _
+    (here (goal.at.loop-p-preserved c).After-repeated ∙ c.if-repeated.false)
+    c.loop-p.invariant
 
 pub returns : goal.returns
 returns c =
     let b = c.args.b.now in
-    any_ends (λ x. repeats x.row) no_cell (file_cells b) _ c.loop-p.p (cells-length b) (omega arith) _ c.loop-p.invariant.1
+    any_ends (λ x. repeats x.row) no_cell (file_cells b) _ c.loop-p.p (cells-length b) (omega arith) _ c.loop-p.invariant

@@ -1,6 +1,5 @@
 -- `points_in_range` tests the points: what is left of them decides. Assumes nothing.
 use mathlib.Core.Path.{◌≡◌}
-use Prim.Native.Nat.{◌≤◌, ◌-◌}
 use lib.ListN.{drop}
 use Rattle.words.specs.Records.{all_of}
 use Rattle.points.specs.Step.{in_range}
@@ -8,7 +7,4 @@ use Rattle.file.specs.File.{file_points}
 use Rattle.file.proofs.floats.points_in_range.Given as goal
 
 abbrev pub invariant-loop-k : goal.invariant-loop-k
-invariant-loop-k l = (l.k ≤ l.count) × (all_of in_range (file_points l.b) ≡ all_of in_range (drop l.k (file_points l.b)))
-
-abbrev pub decreases-loop-k : goal.decreases-loop-k
-decreases-loop-k l = l.count - l.k
+invariant-loop-k l = all_of in_range (file_points l.b) ≡ all_of in_range (drop l.k (file_points l.b))

@@ -1,12 +1,8 @@
 -- `write_points` stores the points: in each turn one more of those that are left is stored. Assumes nothing.
-use Prim.Native.Nat.{◌≤◌, ◌-◌}
 use lib.ListN.{drop}
 use Rattle.words.proofs.Writing.{Left}
 use Rattle.file.specs.File.{file_points}
 use Rattle.file.proofs.floats.write_points.Given as goal
 
 abbrev pub invariant-loop-k : goal.invariant-loop-k
-invariant-loop-k l = (l.k ≤ l.count) × Left 0 (file_points l.b) l.initial.out l.k (drop l.k (file_points l.b)) l.out
-
-abbrev pub decreases-loop-k : goal.decreases-loop-k
-decreases-loop-k l = l.count - l.k
+invariant-loop-k l = Left 0 (file_points l.b) l.initial.out l.k (drop l.k (file_points l.b)) l.out

@@ -1,50 +1,20 @@
--- The goals that the search leaves. Assumes nothing.
-use mathlib.Core.List.{List}
-use mathlib.Core.Path.{refl, sym, ap, ◌∙◌}
-use Prim.Native.Nat.{ℕ, ◌-◌}
+-- The wings lie between what is before and behind them. Assumes nothing.
+use mathlib.Core.List.{List, ◌++◌}
+use mathlib.Core.Path.{◌≡◌, refl, sym, ap, ◌∙◌}
+use Prim.Native.Nat.{ℕ, ◌+◌, ◌-◌}
 use native.Mathlib.Omega.{arith}
-use lib.ListN.{replicate, length-replicate, get_or-replicate, length-set}
-use lib.Seq.{take_all}
-use Rattle.words.specs.Inner.Placed.{placed}
-use Rattle.words.proofs.Placed.{placed-none}
+use lib.ListN.{drop, length, length-drop, length-replicate, replicate, take}
+use lib.Seq.{length-take-le}
+use Rattle.words.proofs.Writing.{put_part}
 use Rattle.records.specs.Layout.{empty}
-use Rattle.gathering.proofs.Blanks.{list_more}
 use Rattle.gathering.proofs.blank.clear.Goals as goal
-
-pub loop-j-init : goal.loop-j-init
-loop-j-init c = (omega arith, omega arith, sym (placed-none _ _))
-
-pub overflow_add-table : goal.overflow_add-table
-overflow_add-table c = omega arith
-
-pub offset_bounds-table-to : goal.offset_bounds-table-to
-offset_bounds-table-to c = omega arith
-
-pub bounds-table-to : goal.bounds-table-to
-bounds-table-to c = omega arith
-
-pub overflow_add-j : goal.overflow_add-j
-overflow_add-j c = omega arith
-
-pub loop-j-smaller : goal.loop-j-smaller
-loop-j-smaller c = omega arith
-
-pub loop-j-preserved : goal.loop-j-preserved
-loop-j-preserved c =
-    let l = c.loop-j in
-    let a = c.args in (
-      omega arith,
-      length-set l.table _ _ ∙ l.invariant.1,
-      list_more a.n a.to l.j (replicate a.n empty) a.table.now l.table _ (length-replicate {A = ℕ} a.n empty) c.requires.1
-          l.invariant.2 empty (sym (get_or-replicate a.n l.j empty 0 c.loop-j-test.true)) c.loop-j-test.true refl,
-    )
-
-pub shape_of-table : goal.shape_of-table
-shape_of-table c = omega arith
 
 pub returns : goal.returns
 returns c =
-    let l = c.loop-j in
     let a = c.args in
-    l.invariant.2 ∙ ap (λ (t : List ℕ). placed a.to t a.table.now)
-    (take_all l.j (replicate a.n empty) (omega (arith, length-replicate {A = ℕ} a.n empty, c.requires.0)))
+    let k : a.to + a.n - a.to ≡ a.n = omega arith in
+    let long : length (take (a.to + a.n - a.to) (drop a.to a.table.now)) ≡ a.n =
+    length-take-le _ (drop a.to a.table.now) (omega (arith, length-drop a.to a.table.now)) ∙ k in
+    let e : c.fill.new.self ≡ replicate a.n empty = c.fill.ensures.after (λ y h. h) ∙ ap (λ (m : ℕ). replicate m empty) long in
+    ap (λ (t : List ℕ). take a.to a.table.now ++ (t ++ drop (a.to + a.n - a.to) (drop a.to a.table.now))) e
+    ∙ (put_part a.to (a.to + a.n - a.to) (replicate a.n empty) a.table.now _ (length-replicate {A = ℕ} a.n empty ∙ sym k) refl).content

@@ -1,7 +1,7 @@
 -- The goals that the search leaves. Assumes nothing.
 use mathlib.Core.List.{List}
 use mathlib.Core.Path.{◌≡◌, sym, ap, ◌∙◌}
-use Prim.Native.Nat.{ℕ, ◌-◌}
+use Prim.Native.Nat.{ℕ}
 use native.Mathlib.Omega.{arith}
 use lib.ListN.{length, take, length-set}
 use lib.Seq.{get_or-take, length-take-le, take_all}
@@ -15,55 +15,30 @@ long : (s : Start) → length (take s.args.n s.args.row) ≡ s.args.n
 long s = length-take-le s.args.n s.args.row (omega arith)
 
 pub loop-j-init : goal.loop-j-init
-loop-j-init c = (omega arith, omega arith, sym (placed-none _ _))
-
-pub offset_bounds-row-j : goal.offset_bounds-row-j
-offset_bounds-row-j c = omega arith
-
-pub bounds-row-j : goal.bounds-row-j
-bounds-row-j c = omega arith
-
-pub overflow_add-table : goal.overflow_add-table
-overflow_add-table c = omega arith
-
-pub offset_bounds-table-to : goal.offset_bounds-table-to
-offset_bounds-table-to c = omega arith
-
-pub bounds-table-to : goal.bounds-table-to
-bounds-table-to c = omega arith
-
-pub overflow_add-j : goal.overflow_add-j
-overflow_add-j c = omega arith
-
-pub loop-j-smaller : goal.loop-j-smaller
-loop-j-smaller c = omega arith
+loop-j-init c = (omega arith, sym (placed-none _ _))
 
 pub loop-j-preserved : goal.loop-j-preserved
 loop-j-preserved c =
     let l = c.loop-j in
     let a = c.args in (
-      omega arith,
       elim c.if-j-n.branch [
-        | then-j-n w ↦ ap length w.table-is ∙ length-set l.table _ _ ∙ l.invariant.1
+        | then-j-n w ↦ ap length w.table-is ∙ length-set l.table _ _ ∙ l.invariant.0
         | else-j-n w ↦ ap length w.table-is
-            ∙ l.invariant.1
+            ∙ l.invariant.0
       ],
       elim c.if-j-n.branch [
         | then-j-n w ↦ list_more a.n a.to l.j (take a.n a.row) a.table.now l.table c.if-j-n.table (long (goal.at.loop-j-preserved c).Start)
             c.requires.2
-            l.invariant.2 _ (sym (get_or-take a.n a.row l.j 0 w.if-j-n.true)) w.if-j-n.true w.table-is
+            l.invariant.1 _ (sym (get_or-take a.n a.row l.j 0 w.if-j-n.true)) w.if-j-n.true w.table-is
         | else-j-n w ↦ list_no_more a.n a.to l.j (take a.n a.row) a.table.now l.table c.if-j-n.table (long (goal.at.loop-j-preserved c).Start)
             c.requires.2
-            l.invariant.2 w.if-j-n.false w.table-is
+            l.invariant.1 w.if-j-n.false w.table-is
       ],
     )
-
-pub shape_of-table : goal.shape_of-table
-shape_of-table c = omega arith
 
 pub returns : goal.returns
 returns c =
     let l = c.loop-j in
     let a = c.args in
-    l.invariant.2 ∙ ap (λ (t : List ℕ). placed a.to t a.table.now)
+    l.invariant.1 ∙ ap (λ (t : List ℕ). placed a.to t a.table.now)
     (take_all l.j (take a.n a.row) (omega (arith, long (goal.at.returns c).Start, c.requires.0)))

@@ -1,12 +1,8 @@
 -- The loop has written the first j words, of those that are to be written. Assumes nothing.
 use mathlib.Core.Path.{◌≡◌}
-use Prim.Native.Nat.{◌-◌, ◌≤◌}
 use lib.ListN.{length, take}
 use Rattle.words.specs.Inner.Placed.{placed}
 use Rattle.gathering.proofs.blank.store.Given as goal
 
 abbrev pub invariant-loop-j : goal.invariant-loop-j
-invariant-loop-j l = (l.j ≤ 8) × (length l.table ≡ length l.initial.table) × (l.table ≡ placed l.to (take l.j (take l.n l.row)) l.initial.table)
-
-abbrev pub decreases-loop-j : goal.decreases-loop-j
-decreases-loop-j l = 8 - l.j
+invariant-loop-j l = (length l.table ≡ length l.initial.table) × (l.table ≡ placed l.to (take l.j (take l.n l.row)) l.initial.table)

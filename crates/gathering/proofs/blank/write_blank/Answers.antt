@@ -20,12 +20,6 @@ stored c =
     let a = (c.args) in
     c.store.ensures ∙ ap (λ n. placed (a.at + vertex_place 0) (take n a.row) a.table.now) (add-one a.d)
 
-pub overflow_add-d : goal.overflow_add-d
-overflow_add-d c = omega arith
-
-pub overflow_add-at : goal.overflow_add-at
-overflow_add-at c = omega arith
-
 pub returns : goal.returns
 returns c =
     let a = c.args in

@@ -1,10 +1,9 @@
 -- The goals that the search leaves. Assumes nothing.
 use mathlib.Core.Path.{◌≡◌, refl, sym, ap, ◌∙◌}
-use Prim.Native.Nat.{◌<◌, ◌-◌, ◌+◌}
+use Prim.Native.Nat.{◌<◌, ◌+◌}
 use native.Mathlib.Omega.{arith}
 use lib.Ieee.{nan, binary64, of_bits}
 use lib.ListN.{length, get_or}
-use borrow.Author.Rules.{rules}
 use Rattle.words.proofs.Loops.{all_at}
 use Rattle.words.proofs.Writing.{left_starts, left_next, left_none, put_first}
 use Rattle.points.specs.Step.{in_range}
@@ -21,7 +20,7 @@ inside : (c : In-loop-k) → c.loop-k.k < length (floats64 c.args.b.now)
 inside c = omega (arith, floats_length c.args.b.now, c.loop-k-test.true)
 
 pub loop-k-init : goal.loop-k-init
-loop-k-init c = (search rules, left_starts 0 _ _ (omega (arith, floats_length c.args.b.now)))
+loop-k-init c = left_starts 0 _ _ (omega (arith, floats_length c.args.b.now))
 
 pub float_of-requires : goal.float_of-requires
 float_of-requires c =
@@ -29,13 +28,11 @@ float_of-requires c =
 
 pub loop-k-preserved : goal.loop-k-preserved
 loop-k-preserved c =
-    let k = c.loop-k.k in (
-      omega (arith, c.loop-k-test.true),
-      left_next nan (floats64 c.args.b.now) k (inside (goal.at.loop-k-preserved c).In-loop-k) c.loop-k.invariant.1 (k + 1) _ (c.float_of.ensures
-          ∙ here (goal.at.loop-k-preserved c).After-word64) refl,
-    )
+    let k = c.loop-k.k in
+    left_next nan (floats64 c.args.b.now) k (inside (goal.at.loop-k-preserved c).In-loop-k) c.loop-k.invariant (k + 1) _ (c.float_of.ensures
+    ∙ here (goal.at.loop-k-preserved c).After-word64) refl
 
 pub returns : goal.returns
 returns c =
     let b = c.args.b.now in
-    put_first (left_none (floats64 b) c.loop-k.k (omega (arith, floats_length b)) c.loop-k.invariant.1)
+    put_first (left_none (floats64 b) c.loop-k.k (omega (arith, floats_length b)) c.loop-k.invariant)

@@ -18,11 +18,8 @@ floats s = mul-le-mul s.requires.2 s.requires.1
 pub overflow_mul-table_words : goal.overflow_mul-table_words
 overflow_mul-table_words c = omega (arith, words (goal.at.overflow_mul-table_words c).Start)
 
-pub overflow_mul-v : goal.overflow_mul-v
-overflow_mul-v c = omega (arith, floats (goal.at.overflow_mul-v c).Start)
+pub overflow_mul-result : goal.overflow_mul-result
+overflow_mul-result c = omega (arith, floats (goal.at.overflow_mul-result c).Start)
 
-pub overflow_mul-v-2 : goal.overflow_mul-v-2
-overflow_mul-v-2 c = omega (arith, floats (goal.at.overflow_mul-v-2 c).Start)
-
-pub returns : goal.returns
-returns c = cc
+pub overflow_mul-result-then-table-table_words : goal.overflow_mul-result-then-table-table_words
+overflow_mul-result-then-table-table_words c = omega (arith, floats (goal.at.overflow_mul-result-then-table-table_words c).Start)

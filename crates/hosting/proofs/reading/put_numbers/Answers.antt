@@ -1,6 +1,5 @@
 -- `put_numbers` writes eight words. Assumes nothing.
 use mathlib.Core.Path.{◌∙◌}
-use native.Mathlib.Omega.{arith}
 use lib.ListN.{drop}
 use Rattle.hosting.proofs.ReadRows.{numbers_put}
 use Rattle.hosting.proofs.reading.put_numbers.Goals as goal

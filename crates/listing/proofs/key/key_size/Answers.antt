@@ -1,7 +1,7 @@
 -- `key::key_size` meets its contract: the sum of the three parts. Assumes nothing.
 use mathlib.Core.List.{◌++◌}
 use mathlib.Core.Path.{ap, ◌∙◌}
-use Prim.Native.Nat.{ℕ, ◌+◌, ◌≤◌}
+use Prim.Native.Nat.{ℕ, ◌≤◌}
 use native.Mathlib.Omega.{arith}
 use lib.ListN.{length-append, length}
 use Rattle.boundary.specs.Inner.Walk.{table_faces}

@@ -1,5 +1,4 @@
 -- `vertices::put_vertex` meets its contract: its line is the word, the number and the point's coordinates. Assumes nothing.
-use Prim.Native.Nat.{◌-◌}
 use Rattle.listing.proofs.Runs.{vertex-line, point-ranged}
 use Rattle.listing.proofs.vertices.put_vertex.Goals as goal
 

@@ -1,5 +1,5 @@
 -- The goals that the search leaves. Assumes nothing.
-use Prim.Native.Nat.{◌-◌, ◌+◌}
+use Prim.Native.Nat.{◌+◌}
 use native.Mathlib.Omega.{arith}
 use lib.ListN.{drop}
 use Rattle.words.specs.Records.{tabulate, concat}
@@ -9,11 +9,7 @@ use Rattle.listing.proofs.Runs.{lines_rest, lines_end, point-within}
 use Rattle.listing.proofs.vertices.put_vertices.Goals as goal
 
 pub loop-p-init : goal.loop-p-init
-loop-p-init c = (
-  omega arith,
-  left_starts c.args.at (vertex_lines c.args.n c.args.v c.args.points.now)
-      c.args.buf.now c.requires.1,
-)
+loop-p-init c = left_starts c.args.at (vertex_lines c.args.n c.args.v c.args.points.now) c.args.buf.now c.requires.1
 
 pub put_vertex-cur-requires : goal.put_vertex-cur-requires
 put_vertex-cur-requires c =
@@ -26,23 +22,21 @@ put_vertex-cur-requires c =
         within = point-within c.args.n c.args.v c.loop-p.p _ c.requires.0.long c.loop-p-test.true;
         ranged = c.requires.0.ranged;
       },
-      left_fits (f p) (concat (drop (p + 1) (tabulate v f))) (rw (lines_rest v f p c.loop-p-test.true) at c.loop-p.invariant.1),
+      left_fits (f p) (concat (drop (p + 1) (tabulate v f))) (rw (lines_rest v f p c.loop-p-test.true) at c.loop-p.invariant),
     )
 
 pub loop-p-preserved : goal.loop-p-preserved
 loop-p-preserved c =
     let v = c.args.v in
     let p = c.loop-p.p in
-    let f = vertex_line c.args.n c.args.points.now in (
-      omega arith,
-      left_goes (f p) (concat (drop (p + 1) (tabulate v f))) _ _ (rw (lines_rest v f p c.loop-p-test.true)
-          at c.loop-p.invariant.1) c.put_vertex-cur.ensures,
-    )
+    let f = vertex_line c.args.n c.args.points.now in
+    left_goes (f p) (concat (drop (p + 1) (tabulate v f))) _ _ (rw (lines_rest v f p c.loop-p-test.true) at c.loop-p.invariant)
+    c.put_vertex-cur.ensures
 
 pub shape_of-buf : goal.shape_of-buf
-shape_of-buf c = c.loop-p.invariant.1.same
+shape_of-buf c = c.loop-p.invariant.same
 
 pub returns : goal.returns
 returns c =
     let f = vertex_line c.args.n c.args.points.now in
-    left_ends (rw (lines_end c.args.v f c.loop-p.p c.loop-p-test.false) at c.loop-p.invariant.1)
+    left_ends (rw (lines_end c.args.v f c.loop-p.p c.loop-p-test.false) at c.loop-p.invariant)

@@ -1,5 +1,4 @@
 -- `vertices::put_vertices` meets its contract, line by line. Assumes nothing.
-use Prim.Native.Nat.{◌≤◌, ◌-◌}
 use lib.ListN.{drop}
 use Rattle.words.specs.Records.{tabulate, concat}
 use Rattle.words.proofs.Writing.{Left}
@@ -8,7 +7,4 @@ use Rattle.listing.proofs.vertices.put_vertices.Given as goal
 
 abbrev pub invariant-loop-p : goal.invariant-loop-p
 invariant-loop-p l =
-    (l.p ≤ l.v) × Left l.at (vertex_lines l.n l.v l.points) l.initial.buf l.cur (concat (drop l.p (tabulate l.v (vertex_line l.n l.points)))) l.buf
-
-abbrev pub decreases-loop-p : goal.decreases-loop-p
-decreases-loop-p l = l.v - l.p
+    Left l.at (vertex_lines l.n l.v l.points) l.initial.buf l.cur (concat (drop l.p (tabulate l.v (vertex_line l.n l.points)))) l.buf

@@ -8,6 +8,7 @@ use native.Mathlib.Omega.{arith}
 use lib.Ieee.{Float}
 use lib.ListN.{length, take}
 use lib.Seq.{length-take-le}
+use Rattle.std.proofs.lemmas.Result.{err_from_is_err_and}
 use Rattle.rules.specs.Calls.{accepted}
 use Rattle.rules.specs.Limits.{swept_vertices}
 use Rattle.rules.specs.Numbers.{number_of}
@@ -18,73 +19,74 @@ use Rattle.page.specs.Inner.Stages.{counted, page_after}
 use Rattle.page.proofs.Staged.{moved_limits, moved-refused, moved-accepted, list_counted, list_left}
 use Rattle.motion.proofs.Lengths.{moved_front}
 use Rattle.page.proofs.stages.moved_key.Goals as goal
-use Rattle.page.proofs.stages.moved_key.Goals.{After-move_points, In-Written}
+use Rattle.page.proofs.stages.moved_key.Goals.{After-move_points, In_ok-m}
 
 abbrev told : After-move_points → MoveInput
-told c = let a = c.args in move_input a.n a.v a.h a.step a.points.now float_room
+told c = let a = c.args in move_input a.header.n a.header.v a.header.h a.header.step a.points.now float_room
 
-abbrev buffer : In-Written → List Float
+abbrev buffer : In_ok-m → List Float
 buffer c = c.move_points.new.out
 
-ok : (c : In-Written) → move_outcome (told (goal.at.In-Written c).After-move_points) ≡ accepted c.in-Written.m
-ok c = sym c.in-Written.ensures.answer
+ok : (c : In_ok-m) → move_outcome (told (goal.at.In_ok-m c).After-move_points) ≡ accepted c.in_ok-m.m
+ok c = sym c.in_ok-m.ensures.answer
 
-front : (c : In-Written) → (c.in-Written.m ≤ length (buffer c)) ×
-    (take c.in-Written.m (buffer c) ≡ moved_levels (told (goal.at.In-Written c).After-move_points))
-front c = moved_front (told (goal.at.In-Written c).After-move_points) _ (buffer c) c.in-Written.m c.move_points.ensures.buffer (ok c)
+front : (c : In_ok-m) → (c.in_ok-m.m ≤ length (buffer c)) ×
+    (take c.in_ok-m.m (buffer c) ≡ moved_levels (told (goal.at.In_ok-m c).After-move_points))
+front c = moved_front (told (goal.at.In_ok-m c).After-move_points) _ (buffer c) c.in_ok-m.m c.move_points.ensures.buffer (ok c)
 
-few : (c : In-Written) → ((told (goal.at.In-Written c).After-move_points).h ≤ 64) ×
-    (((told (goal.at.In-Written c).After-move_points).h + 1) * (told (goal.at.In-Written c).After-move_points).v ≤ 266240)
+few : (c : In_ok-m) → ((told (goal.at.In_ok-m c).After-move_points).h ≤ 64) ×
+    (((told (goal.at.In_ok-m c).After-move_points).h + 1) * (told (goal.at.In_ok-m c).After-move_points).v ≤ 266240)
 few c =
-    let i = told (goal.at.In-Written c).After-move_points in
-    let l = moved_limits i c.in-Written.m (ok c) in
+    let i = told (goal.at.In_ok-m c).After-move_points in
+    let l = moved_limits i c.in_ok-m.m (ok c) in
     (l.2, mul-le-mul {n₁ = i.h + 1} {m₁ = i.v} {n₂ = 65} {m₂ = 4096} (omega (arith, l.2)) l.1)
 
 pub overflow_add-h : goal.overflow_add-h
-overflow_add-h c = omega (arith, (few (goal.at.overflow_add-h c).In-Written).0)
+overflow_add-h c = omega (arith, (few (goal.at.overflow_add-h c).In_ok-m).0)
 
 pub overflow_mul-h : goal.overflow_mul-h
-overflow_mul-h c = omega (arith, (few (goal.at.overflow_mul-h c).In-Written).1)
+overflow_mul-h c = omega (arith, (few (goal.at.overflow_mul-h c).In_ok-m).1)
 
 pub slice_bounds-moved-end : goal.slice_bounds-moved-end
-slice_bounds-moved-end c = (front (goal.at.slice_bounds-moved-end c).In-Written).0
+slice_bounds-moved-end c = (front (goal.at.slice_bounds-moved-end c).In_ok-m).0
 
 pub slice_bounds-list-end : goal.slice_bounds-list-end
 slice_bounds-list-end c = sym
-    (length-take-le _ (buffer (goal.at.slice_bounds-list-end c).In-Written) (front (goal.at.slice_bounds-list-end c).In-Written).0)
+    (length-take-le _ (buffer (goal.at.slice_bounds-list-end c).In_ok-m) (front (goal.at.slice_bounds-list-end c).In_ok-m).0)
 
-pub returns-in-Written : goal.returns-in-Written
-returns-in-Written c =
+pub returns : goal.returns
+returns c =
     let a = c.args in
     let page = a.page.now in
-    let vertices = ap (λ k. k * a.v) (add-one a.h) in
-    let i = list_input a.version a.d a.n (swept_vertices a.v a.h) a.s a.table.now
-    (moved_levels (told (goal.at.returns-in-Written c).After-move_points)) (length page) in
+    let vertices = ap (λ k. k * a.header.v) (add-one a.header.h) in
+    let i = list_input a.header.version a.header.d a.header.n (swept_vertices a.header.v a.header.h) a.header.s a.table.now
+    (moved_levels (told (goal.at.returns c).After-move_points)) (length page) in
     let stage = sym
-    (moved-accepted a.version a.d a.n a.v a.s a.h a.step a.table.now a.points.now (length page)
-    c.in-Written.m (ok (goal.at.returns-in-Written c).In-Written)) in record {
+    (moved-accepted a.header.version a.header.d a.header.n a.header.v a.header.s a.header.h a.header.step a.table.now a.points.now (length page)
+    c.in_ok-m.m (ok (goal.at.returns c).In_ok-m)) in record {
       answer = c.list.ensures.answer
-          ∙ ap₂ (λ v ps. list_outcome (list_input a.version a.d a.n v a.s a.table.now ps (length page))) vertices
-          (front (goal.at.returns-in-Written c).In-Written).1
+          ∙ ap₂ (λ v ps. list_outcome (list_input a.header.version a.header.d a.header.n v a.header.s a.table.now ps (length page))) vertices
+          (front (goal.at.returns c).In_ok-m).1
           ∙ list_counted i
           ∙ ap counted stage;
       page = c.list.ensures.buffer
           ∙ ap₂ {C = List ℕ}
-          (λ v ps. list_buffer (list_input a.version a.d a.n v a.s a.table.now ps (length page)) page) vertices
-          (front (goal.at.returns-in-Written c).In-Written).1
+          (λ v ps. list_buffer (list_input a.header.version a.header.d a.header.n v a.header.s a.table.now ps (length page)) page) vertices
+          (front (goal.at.returns c).In_ok-m).1
           ∙ list_left i page
           ∙ ap (λ o. page_after o page) stage;
     }
 
-pub returns-in-Refused : goal.returns-in-Refused
-returns-in-Refused c =
+pub returns-in_err-m : goal.returns-in_err-m
+returns-in_err-m c =
     let a = c.args in
+    let p = err_from_is_err_and c.from_residual.result c.from_residual.ensures.1 in
     let page = a.page.now in
     let stage =
-    sym (moved-refused a.version a.d a.n a.v a.s a.h a.step a.table.now
-    a.points.now (length page) (number_of c.in-Refused.r)
-    (sym c.in-Refused.ensures.answer)) in
+    sym (moved-refused a.header.version a.header.d a.header.n a.header.v a.header.s a.header.h a.header.step a.table.now
+    a.points.now (length page) (number_of c.in_err-m.field-0.0)
+    (sym c.in_err-m.ensures.answer)) in
     record {
-      answer = ap counted stage;
+      answer = rw (p.1, p.2) (ap counted stage);
       page = ap (λ o. page_after o page) stage;
     }

@@ -4,7 +4,6 @@ use Prim.Native.Nat.{◌+◌, ◌*◌, ◌<◌}
 use native.Mathlib.Omega.{arith}
 use lib.Ieee.{nan, eq}
 use lib.ListN.{get_or}
-use borrow.Author.Rules.{rules}
 use Rattle.words.specs.Records.{all_of}
 use Rattle.words.proofs.Loops.{all_goes, all_stops, all_ends}
 use Rattle.words.proofs.Records.{record_fits, tabulate-length}
@@ -32,13 +31,10 @@ pub loop-k-init : goal.loop-k-init
 loop-k-init c =
     let a = c.args in
     let values = column a.n a.v a.a a.points.now in
-    (search rules, ap (λ x. all_of (eq x) values) (column-first a.n a.v a.a a.points.now c.requires.1 c.requires.2))
+    ap (λ x. all_of (eq x) values) (column-first a.n a.v a.a a.points.now c.requires.1 c.requires.2)
 
 pub overflow_mul-k : goal.overflow_mul-k
 overflow_mul-k c = omega (arith, fits c)
-
-pub overflow_add-k : goal.overflow_add-k
-overflow_add-k c = omega (arith, fits c)
 
 pub offset_bounds-points-k : goal.offset_bounds-points-k
 offset_bounds-points-k c = omega (arith, fits c)
@@ -50,17 +46,15 @@ pub returns-then-not-x-points : goal.returns-then-not-x-points
 returns-then-not-x-points c =
     let a = c.args in
     all_stops (eq _) nan (column a.n a.v a.a a.points.now) a.v c.loop-k.k (tabulate-length _ _) c.loop-k-test.true
-    _ (value (goal.at.returns-then-not-x-points c).In-loop-k) _ c.if-not-x-points.true c.loop-k.invariant.1
+    _ (value (goal.at.returns-then-not-x-points c).In-loop-k) _ c.if-not-x-points.true c.loop-k.invariant
 
 pub loop-k-preserved : goal.loop-k-preserved
 loop-k-preserved c =
-    let a = c.args in (
-      omega arith,
-      all_goes (eq _) nan (column a.n a.v a.a a.points.now) a.v c.loop-k.k (tabulate-length _ _) c.loop-k-test.true
-          _ (value (goal.at.loop-k-preserved c).In-loop-k) _ c.if-not-x-points.false c.loop-k.invariant.1,
-    )
+    let a = c.args in
+    all_goes (eq _) nan (column a.n a.v a.a a.points.now) a.v c.loop-k.k (tabulate-length _ _) c.loop-k-test.true
+    _ (value (goal.at.loop-k-preserved c).In-loop-k) _ c.if-not-x-points.false c.loop-k.invariant
 
 pub returns : goal.returns
 returns c =
     let a = c.args in
-    all_ends (eq _) nan (column a.n a.v a.a a.points.now) a.v c.loop-k.k (tabulate-length _ _) (omega arith) _ c.loop-k.invariant.1
+    all_ends (eq _) nan (column a.n a.v a.a a.points.now) a.v c.loop-k.k (tabulate-length _ _) (omega arith) _ c.loop-k.invariant

@@ -1,6 +1,5 @@
 -- `flat` answers `flat`, of the values on one axis. The invariant: those before k are equal to the first. Assumes nothing.
 use mathlib.Core.Path.{◌≡◌}
-use Prim.Native.Nat.{◌-◌, ◌≤◌}
 use lib.Ieee.{eq}
 use lib.ListN.{drop}
 use Rattle.words.specs.Records.{all_of}
@@ -9,7 +8,4 @@ use Rattle.points.specs.Inner.Sums.{column}
 use Rattle.points.proofs.carrying.flat.Given as goal
 
 abbrev pub invariant-loop-k : goal.invariant-loop-k
-invariant-loop-k l = (l.k ≤ l.v) × (flat (column l.n l.v l.a l.points) ≡ all_of (eq l.x) (drop l.k (column l.n l.v l.a l.points)))
-
-abbrev pub decreases-loop-k : goal.decreases-loop-k
-decreases-loop-k l = l.v - l.k
+invariant-loop-k l = flat (column l.n l.v l.a l.points) ≡ all_of (eq l.x) (drop l.k (column l.n l.v l.a l.points))

@@ -1,11 +1,10 @@
 -- The goals that the search leaves. Assumes nothing.
-use mathlib.Core.Path.{ap, refl, ◌∙◌, ◌≡◌}
+use mathlib.Core.Path.{ap, ◌∙◌, ◌≡◌}
 use mathlib.Core.List.{List, []}
 use Prim.Native.Nat.{◌+◌, ℕ, ◌≤◌, ◌*◌}
 use native.Mathlib.Nat.{add-sub_cancel_left}
 use native.Mathlib.Omega.{arith}
 use lib.Ieee.{Float}
-use borrow.Author.Rules.{rules}
 use Rattle.words.specs.Records.{tabulate, part}
 use Rattle.words.proofs.Loops.{all_goes, all_stops, all_ends}
 use Rattle.points.specs.Inner.Stay.{stays_in}
@@ -32,9 +31,6 @@ answered c =
     (loaded a.n a.v k _ a.points.now c.load-p.result
     (add-sub_cancel_left (k * a.n) a.n) c.loop-k-test.true c.requires.points_len c.load-p.ensures)
 
-pub loop-k-init : goal.loop-k-init
-loop-k-init c = (search rules, refl)
-
 pub overflow_mul-a : goal.overflow_mul-a
 overflow_mul-a c = omega (arith, fits c)
 
@@ -53,20 +49,18 @@ returns-then-not-stays c =
     let k = c.loop-k.k in
     all_stops (stays_in a.step a.n a.h) [] (each a.n a.v a.points.now) a.v k (tabulate-length _ _) c.loop-k-test.true
     _ (tabulate_at _ _ k [] c.loop-k-test.true) _ (cc (answered (goal.at.returns-then-not-stays c).After-stays, c.if-not-stays.true))
-    c.loop-k.invariant.1
+    c.loop-k.invariant
 
 pub loop-k-preserved : goal.loop-k-preserved
 loop-k-preserved c =
     let a = c.args in
-    let k = c.loop-k.k in (
-      omega arith,
-      all_goes (stays_in a.step a.n a.h) [] (each a.n a.v a.points.now) a.v k (tabulate-length _ _) c.loop-k-test.true
-          _ (tabulate_at _ _ k [] c.loop-k-test.true) _ (cc (answered (goal.at.loop-k-preserved c).After-stays, c.if-not-stays.false))
-          c.loop-k.invariant.1,
-    )
+    let k = c.loop-k.k in
+    all_goes (stays_in a.step a.n a.h) [] (each a.n a.v a.points.now) a.v k (tabulate-length _ _) c.loop-k-test.true
+    _ (tabulate_at _ _ k [] c.loop-k-test.true) _ (cc (answered (goal.at.loop-k-preserved c).After-stays, c.if-not-stays.false))
+    c.loop-k.invariant
 
 pub returns : goal.returns
 returns c =
     let a = c.args in
     all_ends (stays_in a.step a.n a.h) [] (each a.n a.v a.points.now) a.v c.loop-k.k (tabulate-length _ _)
-    (omega arith) _ c.loop-k.invariant.1
+    (omega arith) _ c.loop-k.invariant

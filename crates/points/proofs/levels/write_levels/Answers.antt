@@ -1,7 +1,6 @@
 -- The goals that the search leaves. Assumes nothing.
 use Prim.Native.Nat.{◌+◌, suc, ◌≤◌, ◌*◌}
 use native.Mathlib.Omega.{arith}
-use borrow.Author.Rules.{rules}
 use Rattle.points.proofs.Writing.{inside, climbing_starts, climbing_goes, climbing_ends}
 use Rattle.points.proofs.levels.write_levels.Goals as goal
 use Rattle.points.proofs.levels.write_levels.Goals.{In-loop-i}
@@ -13,11 +12,8 @@ next c = let a = c.args in inside a.n a.v a.h c.loop-i.i c.loop-i-test.true
 
 pub loop-i-init : goal.loop-i-init
 loop-i-init c =
-    let a = c.args in (
-      search rules,
-      rw c.put.ensures
-          (climbing_starts a.step a.n a.v a.h a.points.now a.out.now c.requires.points_len.0 c.requires.points_len.1),
-    )
+    let a = c.args in
+    rw c.put.ensures (climbing_starts a.step a.n a.v a.h a.points.now a.out.now c.requires.points_len.0 c.requires.points_len.1)
 
 pub overflow_mul-i : goal.overflow_mul-i
 overflow_mul-i c = omega (arith, next c)
@@ -35,11 +31,11 @@ pub loop-i-preserved : goal.loop-i-preserved
 loop-i-preserved c =
     let a = c.args in
     let climbs = climbing_goes a.step a.n a.v a.h a.points.now a.out.now c.requires.points_len.0 c.requires.points_len.1 c.loop-i.i in
-    (omega arith, climbs _ c.loop-i.out _ c.loop-i-test.true c.loop-i.invariant.1 c.write_level.ensures)
+    climbs _ c.loop-i.out _ c.loop-i-test.true c.loop-i.invariant c.write_level.ensures
 
 pub returns : goal.returns
 returns c =
     let a = c.args in
     let ends =
     climbing_ends a.step a.n a.v a.h a.points.now a.out.now c.requires.points_len.0 c.requires.points_len.1 c.loop-i.i _ (omega arith) in
-    ends (rw c.put.ensures at c.loop-i.invariant.1)
+    ends (rw c.put.ensures at c.loop-i.invariant)

@@ -1,10 +1,6 @@
 -- `write_levels` writes the levels. The invariant: levels 0 to i are written, and nothing else. Assumes nothing.
-use Prim.Native.Nat.{◌-◌, ◌≤◌}
 use Rattle.points.proofs.Writing.{Climbing}
 use Rattle.points.proofs.levels.write_levels.Given as goal
 
 abbrev pub invariant-loop-i : goal.invariant-loop-i
-invariant-loop-i l = (l.i ≤ l.h) × Climbing l.step l.n l.v l.h l.points l.initial.out l.i l.out
-
-abbrev pub decreases-loop-i : goal.decreases-loop-i
-decreases-loop-i l = l.h - l.i
+invariant-loop-i l = Climbing l.step l.n l.v l.h l.points l.initial.out l.i l.out

@@ -1,25 +1,13 @@
--- The goals that the search leaves. Assumes nothing.
-use mathlib.Core.Path.{ap}
-use mathlib.Core.List.{[], ◌∷◌}
-use Prim.Native.Nat.{◌/◌}
+-- A number from 10^k on and below 10^(k + 1) has k + 1 digits. Assumes nothing.
 use native.Mathlib.Omega.{arith}
-use lib.ListN.{length-append, length}
-use Rattle.printing.specs.Decimal.{digit, digits}
-use Rattle.printing.proofs.Digits.{digits-one, digits_more, digits-length}
+use Rattle.printing.proofs.Digits.{digits-one, digits-log}
+use mathlib.Core.Path.{ap}
+use lib.ListN.{length}
 use Rattle.printing.proofs.lengths.digits_len.Goals as goal
 
-pub loop-rest-init : goal.loop-rest-init
-loop-rest-init c = omega arith
-
-pub overflow_add-k : goal.overflow_add-k
-overflow_add-k c = omega (arith, digits-length c.args.n)
-
-pub loop-rest-smaller : goal.loop-rest-smaller
-loop-rest-smaller c = omega arith
-
-pub loop-rest-preserved : goal.loop-rest-preserved
-loop-rest-preserved c = let rest = c.loop-rest.rest in
-    omega (arith, ap length (digits_more rest (omega arith) (omega arith)), length-append (digits (rest / 10)) (digit rest ∷ []))
+pub returns-then-n-eq0 : goal.returns-then-n-eq0
+returns-then-n-eq0 c = omega (arith, ap length (digits-one c.args.n (omega arith)))
 
 pub returns : goal.returns
-returns c = omega (arith, ap length (digits-one c.loop-rest.rest (omega arith)))
+returns c =
+    omega (arith, digits-log c.args.n c.ilog10.result (omega arith) c.ilog10.ensures.power_le c.ilog10.ensures.next_power_gt)

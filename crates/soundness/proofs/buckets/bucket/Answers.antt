@@ -13,10 +13,10 @@ inside h n some l =
 
 pub overflow_mul-result : goal.overflow_mul-result
 overflow_mul-result c =
-    let w = c.widest.result in
-    omega (arith, mul-le-mul {n₁ = w} {m₁ = c.args.n} {n₂ = 4294967295} {m₂ = 65536} (omega (arith, c.widest.ensures.1)) c.requires.1)
+    let w = c.from.result in
+    omega (arith, mul-le-mul {n₁ = w} {m₁ = c.args.n} {n₂ = 4294967295} {m₂ = 65536} (omega (arith, c.from.ensures, c.ranges.h)) c.requires.1)
 
 pub returns : goal.returns
 unfolding bucket_in
 returns c =
-    (ap (λ x. x * c.args.n / 4294967296) c.widest.ensures.0, inside c.widest.result c.args.n c.requires.0 c.widest.ensures.1)
+    (ap (λ x. x * c.args.n / 4294967296) c.from.ensures, inside c.from.result c.args.n c.requires.0 (omega (arith, c.from.ensures, c.ranges.h)))

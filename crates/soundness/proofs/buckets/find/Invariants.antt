@@ -11,9 +11,6 @@ use Rattle.soundness.proofs.buckets.find.Given as goal
 abbrev pub Other : List ℕ → ℕ → ℕ → Type 0
 Other hash g j = get_or hash j 0 ≡ get_or hash g 0 → ⊥
 
-abbrev pub invariant-loop-f : goal.invariant-loop-f
-invariant-loop-f l =
+abbrev pub invariant-loop : goal.invariant-loop
+invariant-loop l =
     (c : Chain l.buckets l.hash l.next l.g l.first) → Past c.bk (Other l.hash l.g) (bucket_at l.buckets l.hash l.g) l.g l.f
-
-abbrev pub decreases-loop-f : goal.decreases-loop-f
-decreases-loop-f l = l.left

@@ -1,14 +1,10 @@
 -- The keys passed are right. Assumes nothing.
 use mathlib.Core.Path.{◌≡◌}
-use Prim.Native.Nat.{◌-◌, ◌≤◌}
 use lib.ListN.{length}
 use Rattle.soundness.specs.Inner.Pairing.{PassingAlike}
 use Rattle.soundness.proofs.coded.all_coded.Given as goal
 
 abbrev pub invariant-loop-g : goal.invariant-loop-g
 invariant-loop-g l =
-    PassingAlike l.d l.s l.table l.hash l.head l.next l.g l.n × (l.g ≤ l.keys) × (length l.head ≡ length l.initial.head)
+    PassingAlike l.d l.s l.table l.hash l.head l.next l.g l.n × (length l.head ≡ length l.initial.head)
     × (length l.next ≡ length l.initial.next)
-
-abbrev pub decreases-loop-g : goal.decreases-loop-g
-decreases-loop-g l = l.keys - l.g

@@ -1,20 +1,7 @@
 -- The five tests of a meeting. Assumes nothing.
-use mathlib.Core.Bool.{false≢true}
 use borrow.Author.Tests.{eqb-false, not-true}
 use Rattle.soundness.proofs.KnownKeys.{coded_met}
 use Rattle.soundness.proofs.coded.is_met.Goals as goal
-
-pub returns-then-known-f : goal.returns-then-known-f
-returns-then-known-f c = λ e. absurd (false≢true e)
-
-pub returns-then-known-g : goal.returns-then-known-g
-returns-then-known-g c = λ e. absurd (false≢true e)
-
-pub returns-then-known-f-2 : goal.returns-then-known-f-2
-returns-then-known-f-2 c = λ e. absurd (false≢true e)
-
-pub returns-then-x-y : goal.returns-then-x-y
-returns-then-x-y c = λ e. absurd (false≢true e)
 
 pub returns : goal.returns
 returns c = λ e.

@@ -1,7 +1,6 @@
 -- The goals that the search leaves. Assumes nothing.
-use mathlib.Core.Path.{◌≡◌, refl, sym, ap, ◌∙◌, subst}
-use Prim.Native.Nat.{suc, ◌+◌, ◌*◌, ◌-◌, ◌/◌, ◌%◌, ◌^◌, ◌≤◌, ◌<◌}
-use native.Mathlib.Nat.{add-zero, pow-zero}
+use mathlib.Core.Path.{◌≡◌, ap, ◌∙◌, subst}
+use Prim.Native.Nat.{suc, ◌+◌, ◌*◌, ◌/◌, ◌%◌, ◌^◌, ◌≤◌, ◌<◌}
 use native.Mathlib.Omega.{arith}
 use lib.ListN.{length}
 use Rattle.simplex.specs.Cell.{Row}
@@ -29,9 +28,9 @@ face k =
     let e = k.row_code-c.ensures in
     let w = row (goal.at.In-loop-a k).Start in (
       ap (λ x. x % k.loop-a.one + x / k.loop-a.one / a.b * k.loop-a.one) e
-          ∙ ap (λ x. code_of a.b w % x + code_of a.b w / x / a.b * x) i.1
-          ∙ face_code a.b a.d k.loop-a.a w k.requires.4 (size (goal.at.In-loop-a k).Start) k.requires.2 k.loop-a-test.true,
-      face_fits a.b a.d k.loop-a.a w k.requires.4 (size (goal.at.In-loop-a k).Start) k.requires.2 9223372036854775808 k.loop-a-test.true k.requires.3,
+          ∙ ap (λ x. code_of a.b w % x + code_of a.b w / x / a.b * x) i.0
+          ∙ face_code a.b a.d k.loop-a.a w k.requires.4 (size (goal.at.In-loop-a k).Start) k.requires.2 (omega arith),
+      face_fits a.b a.d k.loop-a.a w k.requires.4 (size (goal.at.In-loop-a k).Start) k.requires.2 9223372036854775808 (omega arith) k.requires.3,
     )
 
 -- what the next digit counts
@@ -40,22 +39,14 @@ next : (k : In-loop-a)
 next k =
     let a = k.args in
     one_more a.b a.d k.loop-a.a (row (goal.at.In-loop-a k).Start) k.requires.4 (size (goal.at.In-loop-a k).Start) k.requires.2 k.loop-a.one
-    9223372036854775808 k.loop-a.invariant.1
-    k.loop-a-test.true k.requires.3
-
-pub loop-a-init : goal.loop-a-init
-loop-a-init c =
-    let a = c.args in
-    (omega arith, sym (pow-zero a.b), c.requires.5, rw (add-zero (a.p * suc a.d)) c.requires.6, refl, refl, refl)
+    9223372036854775808 k.loop-a.invariant.0
+    (omega arith) k.requires.3
 
 pub nonzero_rem-c : goal.nonzero_rem-c
 nonzero_rem-c c = (next c).2
 
 pub nonzero_div-c : goal.nonzero_div-c
 nonzero_div-c c = (next c).2
-
-pub nonzero_div-c-in-loop-a : goal.nonzero_div-c-in-loop-a
-nonzero_div-c-in-loop-a c = c.requires.4
 
 pub overflow_mul-c : goal.overflow_mul-c
 overflow_mul-c c = let r = face c in omega (arith, r.0, r.1)
@@ -67,35 +58,28 @@ pub put_key-requires : goal.put_key-requires
 put_key-requires c =
     let i = c.loop-a.invariant in
     let f = face (goal.at.put_key-requires c).In-loop-a in
-    (c.requires.0, c.loop-a-test.true, c.requires.1, i.2, f.0, omega (arith, f.0, f.1), i.3)
+    (c.requires.0, omega arith, c.requires.1, i.1, f.0, omega (arith, f.0, f.1), i.2)
 
 pub overflow_mul-one : goal.overflow_mul-one
 overflow_mul-one c = omega (arith, (next (goal.at.overflow_mul-one c).In-loop-a).1)
 
-pub overflow_add-a : goal.overflow_add-a
-overflow_add-a c = omega (arith, c.loop-a-test.true, c.requires.0.dimension)
-
-pub loop-a-smaller : goal.loop-a-smaller
-loop-a-smaller c = omega (arith, c.loop-a-test.true)
-
 pub loop-a-preserved : goal.loop-a-preserved
 loop-a-preserved c =
     let i = c.loop-a.invariant in (
-      omega (arith, c.loop-a-test.true),
       (next (goal.at.loop-a-preserved c).In-loop-a).0,
       c.put_key.ensures.room,
       c.put_key.ensures.told,
-      c.put_key.auto.hash ∙ i.4,
-      c.put_key.auto.code ∙ i.5,
-      c.put_key.auto.known ∙ i.6,
+      c.put_key.auto.hash ∙ i.3,
+      c.put_key.auto.code ∙ i.4,
+      c.put_key.auto.known ∙ i.5,
     )
 
 pub returns : goal.returns
 returns c =
     let a = c.args in
     let i = c.loop-a.invariant in
-    let e : c.loop-a.a ≡ a.d + 1 = omega (arith, i.0, c.loop-a-test.false) in record {
+    let e : c.loop-a.a ≡ a.d + 1 = omega arith in record {
       told = subst (λ x. CodedTo a.d a.b a.table.now c.loop-a.hash c.loop-a.code c.loop-a.known
-          (a.p * suc a.d + x)) e i.3;
-      room = i.2;
+          (a.p * suc a.d + x)) e i.2;
+      room = i.1;
     }

@@ -16,7 +16,7 @@ inside k = k.key-g.ensures.1
 
 pub overflow_add-code : goal.overflow_add-code
 overflow_add-code c =
-    omega (arith, c.requires.5, c.widest.ensures, c.turned.ensures, turned_bit c.sign.result c.args.a)
+    omega (arith, c.requires.5, c.from.ensures, c.turned.ensures, turned_bit c.sign.result c.args.a)
 
 -- the places of the second and the third word
 pub bounds-known-g-2 : goal.bounds-known-g-2
@@ -47,9 +47,9 @@ returns c =
       told = coded_more a.d a.b a.table.now a.p a.a c.key-g.result e c.requires.1 a.hash.now a.code.now a.known.now
           (rooms_less _ _ a.hash.now a.code.now a.known.now (inside (goal.at.returns c).After-key-g) r) c.requires.6
           _ _ _ _ _ (c.mixed.ensures ∙ ap mixed c.requires.4)
-          (ap (λ i. i * 2 + c.widest.result) c.requires.4
+          (ap (λ i. i * 2 + c.from.result) c.requires.4
           ∙ ap (λ i. code_of a.b (face_in a.d a.table.now a.p a.a) * 2 + i)
-          (c.widest.ensures ∙ c.turned.ensures ∙ ap (λ i. turned_sign i a.a) c.sign.ensures))
+          (c.from.ensures ∙ c.turned.ensures ∙ ap (λ i. turned_sign i a.a) c.sign.ensures))
           c.wing.ensures refl c.vertex.ensures;
       room = rooms_more _ c.key-g.result _ _ _ _ _ a.hash.now a.code.now a.known.now r;
     }

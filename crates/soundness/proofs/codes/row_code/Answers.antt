@@ -48,12 +48,12 @@ overflow_mul-c c =
 pub overflow_add-c : goal.overflow_add-c
 overflow_add-c c =
     let r = more (goal.at.overflow_add-c c).Start c.loop-j.c c.loop-j.j (omega arith) c.loop-j.invariant.0 c.loop-j.invariant.1 in
-    omega (arith, r.0, r.1, c.vertex.ensures, c.widest.ensures)
+    omega (arith, r.0, r.1, c.vertex.ensures, c.from.ensures)
 
 pub loop-j-preserved : goal.loop-j-preserved
 loop-j-preserved c =
     let r = more (goal.at.loop-j-preserved c).Start c.loop-j.c c.loop-j.j (omega arith) c.loop-j.invariant.0 c.loop-j.invariant.1 in
-    (omega arith, ap (λ x. c.loop-j.c * c.args.b + x) (c.widest.ensures ∙ c.vertex.ensures) ∙ sym r.0)
+    (omega arith, ap (λ x. c.loop-j.c * c.args.b + x) (c.from.ensures ∙ c.vertex.ensures) ∙ sym r.0)
 
 pub returns : goal.returns
 returns c =

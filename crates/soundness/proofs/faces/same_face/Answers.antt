@@ -1,7 +1,6 @@
 -- The goals that the search leaves. Assumes nothing.
 use mathlib.Core.Path.{◌≡◌, sym, ◌∙◌}
-use Prim.Native.Nat.{◌-◌, ◌≤◌}
-use native.Mathlib.Nat.{not-suc-le-zero}
+use Prim.Native.Nat.{◌≤◌}
 use native.Mathlib.Omega.{arith}
 use borrow.Author.Count.{below_more}
 use mathlib.Core.Bool.{true}
@@ -20,17 +19,8 @@ all_same c l =
     (size_in a.d a.s a.p a.table.now c.requires.0) (size_in a.d a.s a.q a.table.now c.requires.1)
     c.requires.2 c.requires.3 (λ i h. c.loop-j.invariant.1 i (omega arith))
 
-pub loop-j-init : goal.loop-j-init
-loop-j-init c = (omega arith, (λ i l. absurd (not-suc-le-zero l)))
-
 pub returns-then-d-j : goal.returns-then-d-j
 returns-then-d-j c = sym (all_same (goal.at.returns-then-d-j c).At-loop-j c.if-d-j.true)
-
-pub vertex-x-requires : goal.vertex-x-requires
-vertex-x-requires c = (c.requires.0, omega (arith, c.if-d-j.false))
-
-pub vertex-y-requires : goal.vertex-y-requires
-vertex-y-requires c = (c.requires.1, omega (arith, c.if-d-j.false))
 
 pub returns-then-x-y : goal.returns-then-x-y
 returns-then-x-y c =

@@ -1,7 +1,7 @@
 -- The goals that the search leaves. Assumes nothing.
-use mathlib.Core.Path.{◌≡◌, refl, sym, ap, ◌∙◌, subst}
-use Prim.Native.Nat.{suc, ◌+◌, ◌*◌, ◌-◌}
-use native.Mathlib.Nat.{add_assoc, add-zero}
+use mathlib.Core.Path.{◌≡◌, sym, ap, ◌∙◌, subst}
+use Prim.Native.Nat.{suc, ◌+◌, ◌*◌}
+use native.Mathlib.Nat.{add_assoc}
 use native.Mathlib.Omega.{arith}
 use lib.ListN.{length-set}
 use Rattle.soundness.specs.Inner.Certified.{row_in}
@@ -11,10 +11,6 @@ use Rattle.soundness.proofs.Weighing.{face_of_lem, hash_is, weight-without}
 use Rattle.soundness.specs.Inner.Hashing.{Hashes}
 use Rattle.soundness.proofs.Filled.{filled_more}
 use Rattle.soundness.proofs.hashing.hash_cell.Goals as goal
-
-pub loop-a-init : goal.loop-a-init
-loop-a-init c =
-    (omega arith, refl, rw (add-zero (c.args.p * suc c.args.d)) c.requires.4)
 
 pub scattered-requires : goal.scattered-requires
 scattered-requires c =
@@ -27,9 +23,6 @@ scattered-requires c =
       c.terms-cell.ensures.sum,
     )
 
-pub bounds-hash-g : goal.bounds-hash-g
-bounds-hash-g c = omega (arith, c.key-g.ensures, c.loop-a.invariant.1, c.requires.3)
-
 pub loop-a-preserved : goal.loop-a-preserved
 loop-a-preserved c =
     let a = c.args in
@@ -40,22 +33,18 @@ loop-a-preserved c =
     hash_is c.loop-a.a _ _ _ (row_in a.d a.table.now a.p) (omega (arith, n)) (omega (arith, n, c.requires.0)) c.terms-cell.ensures.sum
     (c.terms-cell.ensures.each.1 c.loop-a.a (omega arith)) c.scattered.ensures
     ∙ ap hash_of (sym (face_of_lem a.d a.table.now a.p c.loop-a.a (omega arith))) in (
-      omega arith,
-      length-set c.loop-a.hash _ _ ∙ i.1,
+      length-set c.loop-a.hash _ _ ∙ i.0,
       rw c.key-g.ensures.0 (rw (sym (add_assoc (a.p * suc a.d) c.loop-a.a 1))
-          (filled_more (λ g. hash_of (face_of a.d a.table.now g)) c.loop-a.hash g _ (omega (arith, c.key-g.ensures, i.1, c.requires.3)) i.2
+          (filled_more (λ g. hash_of (face_of a.d a.table.now g)) c.loop-a.hash g _ (omega (arith, c.key-g.ensures, i.0, c.requires.3)) i.1
           e)),
     )
-
-pub shape_of-hash : goal.shape_of-hash
-shape_of-hash c = c.loop-a.invariant.1
 
 pub returns : goal.returns
 returns c =
     let a = c.args in
     let i = c.loop-a.invariant in
-    let e : c.loop-a.a ≡ suc a.d = omega (arith, i.0, c.loop-a-test.false) in
+    let e : c.loop-a.a ≡ suc a.d = omega arith in
     record {
-      hashed = subst (λ x. Hashes a.d a.table.now c.loop-a.hash (a.p * suc a.d + x)) e i.2;
-      long = i.1;
+      hashed = subst (λ x. Hashes a.d a.table.now c.loop-a.hash (a.p * suc a.d + x)) e i.1;
+      long = i.0;
     }

@@ -1,12 +1,9 @@
 -- The hashes of the places passed. Assumes nothing.
 use mathlib.Core.Path.{◌≡◌}
-use Prim.Native.Nat.{suc, ◌+◌, ◌*◌, ◌-◌, ◌≤◌}
+use Prim.Native.Nat.{suc, ◌+◌, ◌*◌}
 use lib.ListN.{length}
 use Rattle.soundness.specs.Inner.Hashing.{Hashes}
 use Rattle.soundness.proofs.hashing.hash_cell.Given as goal
 
 abbrev pub invariant-loop-a : goal.invariant-loop-a
-invariant-loop-a l = (l.a ≤ l.d + 1) × (length l.hash ≡ length l.initial.hash) × Hashes l.d l.table l.hash (l.p * suc l.d + l.a)
-
-abbrev pub decreases-loop-a : goal.decreases-loop-a
-decreases-loop-a l = l.d + 1 - l.a
+invariant-loop-a l = (length l.hash ≡ length l.initial.hash) × Hashes l.d l.table l.hash (l.p * suc l.d + l.a)

@@ -1,12 +1,9 @@
 -- The hashes of the segments passed. Assumes nothing.
 use mathlib.Core.Path.{◌≡◌}
-use Prim.Native.Nat.{◌*◌, ◌-◌, ◌≤◌}
+use Prim.Native.Nat.{◌*◌}
 use lib.ListN.{length}
 use Rattle.soundness.specs.Inner.Hashing.{Hashes}
 use Rattle.soundness.proofs.hashing.hash_segments.Given as goal
 
 abbrev pub invariant-loop-p : goal.invariant-loop-p
-invariant-loop-p l = (l.p ≤ l.s) × (length l.hash ≡ length l.initial.hash) × Hashes 1 l.table l.hash (l.p * 2)
-
-abbrev pub decreases-loop-p : goal.decreases-loop-p
-decreases-loop-p l = l.s - l.p
+invariant-loop-p l = (length l.hash ≡ length l.initial.hash) × Hashes 1 l.table l.hash (l.p * 2)

@@ -5,4 +5,4 @@ use Rattle.soundness.proofs.hashing.linear.Goals as goal
 
 pub returns : goal.returns
 unfolding linear
-returns c = ap linear c.widest.ensures.0
+returns c = ap linear c.from.ensures

@@ -1,11 +1,7 @@
 -- The room's arrays are long enough. Assumes nothing.
-use mathlib.Core.Bool.{false≢true}
 use native.Mathlib.Omega.{arith}
 use Rattle.soundness.proofs.Places.{arrays_made}
 use Rattle.soundness.proofs.rooms.in_32768.Goals as goal
-
-pub returns-then-not-all_fine : goal.returns-then-not-all_fine
-returns-then-not-all_fine c = λ e. absurd (false≢true e)
 
 pub in_arrays-requires : goal.in_arrays-requires
 in_arrays-requires c =

@@ -1,10 +1,7 @@
 -- The vertices passed ascend. Assumes nothing.
-use Prim.Native.Nat.{ℕ, suc, ◌-◌, ◌≤◌, ◌<◌}
+use Prim.Native.Nat.{ℕ, suc, ◌<◌}
 use Rattle.records.specs.Inner.Inside.{vertex_in}
 use Rattle.soundness.proofs.rows.ascends.Given as goal
 
 abbrev pub invariant-loop-j : goal.invariant-loop-j
-invariant-loop-j l = (l.j ≤ l.d) × ((i : ℕ) → i < l.j → vertex_in l.d l.table l.p i < vertex_in l.d l.table l.p (suc i))
-
-abbrev pub decreases-loop-j : goal.decreases-loop-j
-decreases-loop-j l = l.d - l.j
+invariant-loop-j l = (i : ℕ) → i < l.j → vertex_in l.d l.table l.p i < vertex_in l.d l.table l.p (suc i)

@@ -1,30 +1,17 @@
 -- The five tests of a meeting. Assumes nothing.
 use mathlib.Core.Path.{sym, ap, ◌∙◌}
-use mathlib.Core.Bool.{false≢true}
 use Rattle.simplex.specs.SignWords.{turned_sign}
 use Rattle.simplex.proofs.Rows.{same_row_true}
 use Rattle.soundness.specs.Inner.Certified.{face_in}
 use Rattle.soundness.proofs.FaceRows.{told-apart}
 use Rattle.soundness.proofs.wings.meets.Goals as goal
 
-pub returns-then-wide-p : goal.returns-then-wide-p
-returns-then-wide-p c = λ e. absurd (false≢true e)
-
-pub returns-then-wide-q : goal.returns-then-wide-q
-returns-then-wide-q c = λ e. absurd (false≢true e)
-
-pub returns-then-vertex : goal.returns-then-vertex
-returns-then-vertex c = λ e. absurd (false≢true e)
-
-pub returns-then-not-opposite : goal.returns-then-not-opposite
-returns-then-not-opposite c = λ e. absurd (false≢true e)
-
 pub returns : goal.returns
 returns c = λ e.
     let a = c.args in
     record {
-      there = sym c.wing.ensures ∙ sym c.wide.ensures ∙ c.if-wide-p.false;
-      back = sym c.wing-2.ensures ∙ sym c.wide-2.ensures ∙ c.if-wide-q.false;
+      there = sym c.wing.ensures ∙ sym c.from.ensures ∙ c.if-from-p.false;
+      back = sym c.wing-2.ensures ∙ sym c.from-2.ensures ∙ c.if-from-q.false;
       face = same_row_true (face_in a.d a.table.now a.q a.b) (face_in a.d a.table.now a.p a.a)
           (sym c.same_face.ensures ∙ e);
       apex = λ z. c.if-vertex.false (c.vertex.ensures ∙ z ∙ sym c.vertex-2.ensures);

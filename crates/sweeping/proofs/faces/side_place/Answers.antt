@@ -1,5 +1,5 @@
 -- The record of the pair's cell, and its position there. Assumes nothing.
-use Rattle.std.proofs.Common.{◌≡◌, ℕ, suc, ◌*◌, ◌≤◌, ap, ◌∙◌, arith}
+use Rattle.std.proofs.Common.{◌≡◌, ℕ, suc, ◌*◌, ap, ◌∙◌, arith}
 use Rattle.records.specs.Layout.{record_size}
 use Rattle.prism.specs.Sides.{side_cell, side_position}
 use Rattle.prism.proofs.SideLaws.{side_bounds}
@@ -14,21 +14,10 @@ position : (c : After-pair_at-x) →
     c.pair_at-x.result.position ≡ side_position c.args.d c.args.a c.args.l
 position c = ap (λ (x : SidePair). x.position) c.pair_at-x.ensures
 
-low : (c : After-pair_at-x) → c.pair_at-x.result.position ≤ c.args.d
-low c =
-    let a = c.args in
-    omega (arith, position c, (side_bounds a.d a.a a.l c.requires.1 c.requires.2).below)
-
 pub record_place-requires : goal.record_place-requires
 record_place-requires c =
     let a = c.args in
     (c.requires.0, omega (arith, cell c, (side_bounds a.d a.a a.l c.requires.1 c.requires.2).cell))
-
-pub overflow_add-result : goal.overflow_add-result
-overflow_add-result c = omega (arith, low (goal.at.overflow_add-result c).After-pair_at-x)
-
-pub overflow_add-result-2 : goal.overflow_add-result-2
-overflow_add-result-2 c = omega (arith, low (goal.at.overflow_add-result-2 c).After-pair_at-x)
 
 pub returns : goal.returns
 returns c =

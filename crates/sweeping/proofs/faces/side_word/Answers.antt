@@ -1,29 +1,20 @@
 -- `side_word` is `side_word`: empty, or the first cell across and the side's cell over it. Assumes nothing.
-use Rattle.std.proofs.Common.{◌≡◌, ℕ, ◌+◌, ◌≤◌, refl, ap, ap₂, arith, eq-eqb, ne_eqb}
+use Rattle.std.proofs.Common.{◌≡◌, ℕ, ◌+◌, refl, ap, ap₂, eq-eqb, ne_eqb}
 use Rattle.sweeping.specs.Inner.Across.{side_word}
 use Rattle.sweeping.proofs.faces.side_word.Goals as goal
 use Rattle.sweeping.proofs.faces.side_word.Goals.{After-pair_at}
 
 -- the word where a cell is across
 full : (c : After-pair_at) → let a = c.args in
-    c.wide.result + c.pair_at.result.cell ≡ side_word a.first a.back a.l
+    c.from.result + c.pair_at.result.cell ≡ side_word a.first a.back a.l
 full c =
-    rw (ne_eqb _ _ c.if-first-eq-EMPTY.false) (ap₂ (λ (f g : ℕ). f + g) c.wide.ensures (ap (λ x. x.cell) c.pair_at.ensures))
-
-small : (c : After-pair_at) → c.wide.result + c.pair_at.result.cell ≤ 65535
-small c = omega (arith, full c, c.requires.3)
+    rw (ne_eqb _ _ c.if-first-eq-EMPTY.false) (ap₂ (λ (f g : ℕ). f + g) c.from.ensures (ap (λ x. x.cell) c.pair_at.ensures))
 
 pub returns-then-first-eq-EMPTY : goal.returns-then-first-eq-EMPTY
 returns-then-first-eq-EMPTY c = rw (eq-eqb _ _ c.if-first-eq-EMPTY.true) refl
 
 pub pair_at-requires : goal.pair_at-requires
 pair_at-requires c = (c.requires.0, c.requires.1, c.requires.2)
-
-pub overflow_add-result : goal.overflow_add-result
-overflow_add-result c = omega (arith, small (goal.at.overflow_add-result c).After-pair_at)
-
-pub overflow_cast-result : goal.overflow_cast-result
-overflow_cast-result c = omega (arith, small (goal.at.overflow_cast-result c).After-pair_at)
 
 pub returns : goal.returns
 returns c = full (goal.at.returns c).After-pair_at

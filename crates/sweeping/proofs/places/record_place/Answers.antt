@@ -7,9 +7,6 @@ use Rattle.sweeping.proofs.places.record_place.Goals.{After-record_size}
 low : (c : After-record_size) → c.args.k * c.record_size.result ≤ 126
 low c = mul-le-mul {n₁ = c.args.k} {m₁ = c.record_size.result} {n₂ = 7} {m₂ = 18} (omega arith) (omega arith)
 
-pub overflow_mul-result : goal.overflow_mul-result
-overflow_mul-result c = omega (arith, low c)
-
 pub returns : goal.returns
 returns c =
     let size : c.record_size.result ≡ record_size (suc c.args.d) = omega (arith, c.record_size.ensures) in

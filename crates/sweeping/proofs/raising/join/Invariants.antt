@@ -1,13 +1,8 @@
 -- The loop has joined the levels over the first p cells. Assumes nothing.
-use Rattle.std.proofs.Common.{◌≡◌, ◌+◌, ◌-◌, ◌*◌, ◌≤◌}
-use Rattle.sweeping.specs.Inner.Raising.{prism_size}
 use Rattle.sweeping.specs.Inner.SweptWords.{level_words}
 use Rattle.sweeping.proofs.Joining.{Joined}
 use Rattle.sweeping.proofs.raising.join.Given as goal
 
 abbrev pub invariant-loop-p : goal.invariant-loop-p
 invariant-loop-p l =
-    (l.p ≤ l.s) × (l.first ≡ l.at + l.p * prism_size l.d) × Joined l.d l.at (level_words l.d l.v l.s l.h l.table l.i) l.initial.out l.p l.out
-
-abbrev pub decreases-loop-p : goal.decreases-loop-p
-decreases-loop-p l = l.s - l.p
+    Joined l.d l.at (level_words l.d l.v l.s l.h l.table l.i) l.initial.out l.p l.out

@@ -1,75 +1,67 @@
 -- The goals that the search leaves. Assumes nothing.
-use Rattle.std.proofs.Common.{◌≡◌, ◌+◌, ◌<◌, ap, ◌∙◌, add-one, arith}
+use Rattle.std.proofs.Common.{◌≡◌, ◌+◌, ◌<◌, ◌≤◌, ap, ◌∙◌, add-one, arith}
 use Rattle.prism.specs.Cells.{at_level}
 use Rattle.sweeping.specs.Inner.SweptWords.{solid_vertex}
 use Rattle.sweeping.proofs.Columns.{column-low, column_high, columns_all, columns_more, columns_none}
+use Rattle.sweeping.proofs.vertices.put_vertices.Given.{Over}
 use Rattle.sweeping.proofs.vertices.put_vertices.Goals as goal
-use Rattle.sweeping.proofs.vertices.put_vertices.Goals.{After-wide-x}
+use Rattle.sweeping.proofs.vertices.put_vertices.Goals.{After-from-x}
 
 -- the vertex, below the count of vertices
-low : (c : After-wide-x) → c.wide-x.result < c.args.v
-low c =
-    omega (arith, c.wide-x.ensures, c.vertex.ensures, c.requires.ready.low c.args.p c.loop-j.j c.requires.at.1 c.loop-j-test.true)
+low : (g : Over) (c : After-from-x g) → c.from-x.result < c.args.v
+low g c =
+    omega (arith, c.from-x.ensures, c.vertex.ensures, c.requires.ready.low c.args.p c.loop-j.j c.requires.at.1 (omega arith))
 
 -- it is the vertex of this turn
-is : (c : After-wide-x) → let a = c.args in
-    c.wide-x.result ≡ solid_vertex a.d a.s a.table.now a.p c.loop-j.j
-is c = c.wide-x.ensures ∙ c.vertex.ensures
+is : (g : Over) (c : After-from-x g) → let a = c.args in
+    c.from-x.result ≡ solid_vertex g.row.D a.s a.table.now a.p c.loop-j.j
+is g c = c.from-x.ensures ∙ c.vertex.ensures
 
 pub loop-j-init : goal.loop-j-init
-loop-j-init c = columns_none _ _ _ _
+loop-j-init g c = columns_none _ _ _ _
 
 pub lift-requires : goal.lift-requires
-lift-requires c =
-    (c.requires.ready.vertices, omega (arith, c.requires.at.0), low c)
+lift-requires g c =
+    (c.requires.ready.vertices, omega (arith, c.requires.at.0), low g c)
 
 pub put_column-requires : goal.put_column-requires
-put_column-requires c =
+put_column-requires g c =
     let a = c.args in
     let at = c.requires.at in
     let j = c.loop-j.j in
-    let hj = c.loop-j-test.true in record {
+    let hj : j ≤ g.row.D = omega arith in record {
       ready = c.requires.ready;
       at = (at.0, at.1, hj, omega arith, omega arith, omega (arith, hj));
-      word = (λ k l m. c.lift.ensures ∙ ap (at_level a.v a.i) (is (goal.at.put_column-requires c).After-wide-x)
-          ∙ column-low a.d a.v a.s a.table.now a.i a.p j k hj m);
+      word = (λ k l m. c.lift.ensures ∙ ap (at_level a.v a.i) (is g (goal.at.put_column-requires g c).After-from-x)
+          ∙ column-low g.row.D a.v a.s a.table.now a.i a.p j k hj m);
       room = omega (arith, c.requires.room, c.loop-j.invariant.kept.outside.same);
     }
 
 pub lift-requires-in-loop-j : goal.lift-requires-in-loop-j
-lift-requires-in-loop-j c =
-    (c.requires.ready.vertices, omega (arith, c.requires.at.0), low (goal.at.lift-requires-in-loop-j c).After-wide-x)
+lift-requires-in-loop-j g c =
+    (c.requires.ready.vertices, omega (arith, c.requires.at.0), low g (goal.at.lift-requires-in-loop-j g c).After-from-x)
 
 pub put_column-requires-in-loop-j : goal.put_column-requires-in-loop-j
-put_column-requires-in-loop-j c =
+put_column-requires-in-loop-j g c =
     let a = c.args in
     let at = c.requires.at in
     let j = c.loop-j.j in
-    let hj = c.loop-j-test.true in record {
+    let hj : j ≤ g.row.D = omega arith in record {
       ready = c.requires.ready;
       at = (at.0, at.1, omega arith, omega arith, hj, omega arith);
-      word = (λ k l m. c.lift-in-loop-j.ensures ∙ ap (at_level a.v (a.i + 1)) (is (goal.at.put_column-requires-in-loop-j c).After-wide-x)
-          ∙ ap (λ n. at_level a.v n (solid_vertex a.d a.s a.table.now a.p j)) (add-one a.i)
-          ∙ column_high a.d a.v a.s a.table.now a.i a.p j k l m);
+      word = (λ k l m. c.lift-in-loop-j.ensures ∙ ap (at_level a.v (a.i + 1)) (is g (goal.at.put_column-requires-in-loop-j g c).After-from-x)
+          ∙ ap (λ n. at_level a.v n (solid_vertex g.row.D a.s a.table.now a.p j)) (add-one a.i)
+          ∙ column_high g.row.D a.v a.s a.table.now a.i a.p j k l m);
       room = omega (arith, c.requires.room, c.loop-j.invariant.kept.outside.same, c.put_column.ensures.kept.outside.same);
     }
 
-pub overflow_add-j-in-loop-j : goal.overflow_add-j-in-loop-j
-overflow_add-j-in-loop-j c = omega (arith, c.loop-j-test.true, c.requires.ready.dimension)
-
-pub loop-j-smaller : goal.loop-j-smaller
-loop-j-smaller c = omega (arith, c.loop-j-test.true)
-
 pub loop-j-preserved : goal.loop-j-preserved
-loop-j-preserved c =
+loop-j-preserved g c =
     columns_more _ _ _ _ c.loop-j.j _ _ _ c.loop-j.invariant c.put_column.ensures.kept c.put_column-in-loop-j.ensures.kept c.put_column.ensures.right
     c.put_column-in-loop-j.ensures.right
 
-pub shape_of-out : goal.shape_of-out
-shape_of-out c = c.loop-j.invariant.kept.outside.same
-
 pub returns : goal.returns
-returns c = let i = c.loop-j.invariant in record {
+returns g c = let i = c.loop-j.invariant in record {
   kept = i.kept;
-  vertices = columns_all _ _ _ _ _ _ c.loop-j-test.false i;
+  vertices = columns_all _ _ _ _ _ _ (omega arith) i;
 }

@@ -11,9 +11,9 @@ begins n i h =
     ∙ ap (λ (m : ℕ). m + n) (record_next n (i - 2))
 
 pub write_level-behind-requires : goal.write_level-behind-requires
-write_level-behind-requires c =
+write_level-behind-requires g c =
     let a = c.args in
-    let long = level-long a.d a.v a.s a.h a.table.now c.requires.ready.long 0 in
+    let long = level-long g.row.D a.v a.s a.h a.table.now c.requires.ready.long 0 in
     record {
       ready = c.requires.ready;
       at = omega (arith, c.requires.at.0);
@@ -21,11 +21,11 @@ write_level-behind-requires c =
     }
 
 pub returns-then-i-eq0 : goal.returns-then-i-eq0
-returns-then-i-eq0 c =
+returns-then-i-eq0 g c =
     rw (c.if-i-eq0.true, zero-mul c.args.n) c.write_level-behind.ensures.words
 
 pub second_level-requires : goal.second_level-requires
-second_level-requires c =
+second_level-requires g c =
     let a = c.args in
     let one : a.i * a.n ≡ a.n = ap (λ m. m * a.n) c.if-i-eq1.true ∙ one-mul a.n in record {
       ready = c.requires.ready;
@@ -35,11 +35,11 @@ second_level-requires c =
     }
 
 pub returns-then-i-eq1 : goal.returns-then-i-eq1
-returns-then-i-eq1 c =
+returns-then-i-eq1 g c =
     rw (c.if-i-eq1.true, one-mul c.args.n) c.second_level.ensures
 
 pub raise_level-requires : goal.raise_level-requires
-raise_level-requires c =
+raise_level-requires g c =
     let a = c.args in
     let two : 2 ≤ a.i = omega (arith, c.if-i-eq0.false, c.if-i-eq1.false) in
     let below = c.requires.below in record {
@@ -53,7 +53,7 @@ raise_level-requires c =
     }
 
 pub returns : goal.returns
-returns c =
+returns g c =
     let a = c.args in
     let two : 2 ≤ a.i = omega (arith, c.if-i-eq0.false, c.if-i-eq1.false) in
     let level : a.i - 2 + 2 ≡ a.i = omega (arith, two) in

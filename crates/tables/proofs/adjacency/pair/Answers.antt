@@ -14,50 +14,40 @@ use Rattle.tables.proofs.adjacency.pair.Goals.{In-loop-g}
 small : (c : In-loop-g) → c.loop-g.here.cell < 4096
 small c =
     let l = c.loop-g in
-    subst (λ (x : ℕ). x < 4096) (ap (λ (x : ℕ). x / c.args.k) l.invariant.3 ∙ cell_of_key l.here.cell l.here.at _ l.invariant.2)
+    subst (λ (x : ℕ). x < 4096) (ap (λ (x : ℕ). x / c.args.k) l.invariant.2 ∙ cell_of_key l.here.cell l.here.at _ l.invariant.1)
     ((div-lt_iff_lt-mul {y = 4096} c.requires.0).1 (omega arith))
-
-pub nonzero_div-part : goal.nonzero_div-part
-nonzero_div-part c = omega arith
 
 pub overflow_add-part : goal.overflow_add-part
 overflow_add-part c = omega (arith, div-le_self 1048576 c.args.k)
 
 pub loop-g-init : goal.loop-g-init
-loop-g-init c = (omega arith, refl, omega arith, omega arith, pairing_none _ _ _ _ _ 0 _ false false false)
+loop-g-init c = (refl, omega arith, omega arith, pairing_none _ _ _ _ _ 0 _ false false false)
 
 pub pair_at-found-requires : goal.pair_at-found-requires
 pair_at-found-requires c =
     let l = c.loop-g in
     record {
-      k_nonzero = (c.requires.0, c.requires.1, l.invariant.1, c.requires.2);
+      k_nonzero = (c.requires.0, c.requires.1, l.invariant.0, c.requires.2);
       a_lt_k = (
+        l.invariant.1,
         l.invariant.2,
-        l.invariant.3,
         c.loop-g-test.true,
-        pairing_long _ _ _ _ _ _ _ _ l.found.crowded l.found.repeated l.found.equal l.invariant.4 ∙ c.requires.3,
+        pairing_long _ _ _ _ _ _ _ _ l.found.crowded l.found.repeated l.found.equal l.invariant.3 ∙ c.requires.3,
       );
     }
 
 pub next-here-requires : goal.next-here-requires
 next-here-requires c =
     let l = c.loop-g in
-    (l.invariant.2, c.requires.1, small (goal.at.next-here-requires c).In-loop-g)
-
-pub overflow_add-g : goal.overflow_add-g
-overflow_add-g c = omega arith
-
-pub loop-g-smaller : goal.loop-g-smaller
-loop-g-smaller c = omega arith
+    (l.invariant.1, c.requires.1, small (goal.at.next-here-requires c).In-loop-g)
 
 pub loop-g-preserved : goal.loop-g-preserved
 loop-g-preserved c =
     let l = c.loop-g in (
-      omega arith,
-      l.invariant.1,
+      l.invariant.0,
       c.next-here.ensures.0,
-      omega (arith, c.next-here.ensures.1, l.invariant.3),
-      pairing_more _ _ _ _ _ _ _ l.found.crowded l.found.repeated l.found.equal _ _ _ _ _ l.invariant.4 c.pair_at-found.ensures,
+      omega (arith, c.next-here.ensures.1, l.invariant.2),
+      pairing_more _ _ _ _ _ _ _ l.found.crowded l.found.repeated l.found.equal _ _ _ _ _ l.invariant.3 c.pair_at-found.ensures,
     )
 
 pub returns : goal.returns
@@ -66,4 +56,4 @@ returns c =
     let a = c.args in
     let all : l.g ≡ a.n = omega arith in
     subst (λ (m : ℕ). Pairing a.k a.n a.rows.now a.signs.now a.prev.now m a.wings.now
-    l.wings l.found.crowded l.found.repeated l.found.equal) all l.invariant.4
+    l.wings l.found.crowded l.found.repeated l.found.equal) all l.invariant.3

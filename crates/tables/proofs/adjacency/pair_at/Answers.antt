@@ -21,13 +21,7 @@ small c = subst (λ (x : ℕ). x < 4096) (cell c) ((div-lt_iff_lt-mul {y = 4096}
 -- the cell of the other key
 other : (c : After-place_of-there) → c.place_of-there.result.cell < 4096
 other c =
-    omega (arith, c.place_of-there.ensures.0, (div-lt_iff_lt-mul {x = c.wide-f.result} {y = 4096} c.requires.k_nonzero.0).1 (omega arith))
-
-pub offset_bounds-prev-g : goal.offset_bounds-prev-g
-offset_bounds-prev-g c = omega arith
-
-pub bounds-prev-g : goal.bounds-prev-g
-bounds-prev-g c = omega arith
+    omega (arith, c.place_of-there.ensures.0, (div-lt_iff_lt-mul {x = c.from-f.result} {y = 4096} c.requires.k_nonzero.0).1 (omega arith))
 
 pub place_of-there-requires : goal.place_of-there-requires
 place_of-there-requires c =
@@ -36,20 +30,8 @@ place_of-there-requires c =
 pub overflow_cast-wings : goal.overflow_cast-wings
 overflow_cast-wings c = omega (arith, other c)
 
-pub offset_bounds-wings-g : goal.offset_bounds-wings-g
-offset_bounds-wings-g c = omega arith
-
-pub bounds-wings-g : goal.bounds-wings-g
-bounds-wings-g c = omega arith
-
 pub overflow_cast-wings-then-f-n : goal.overflow_cast-wings-then-f-n
 overflow_cast-wings-then-f-n c = omega (arith, small (goal.at.overflow_cast-wings-then-f-n c).Start)
-
-pub offset_bounds-wings-f : goal.offset_bounds-wings-f
-offset_bounds-wings-f c = omega arith
-
-pub bounds-wings-f : goal.bounds-wings-f
-bounds-wings-f c = omega arith
 
 pub meet-requires : goal.meet-requires
 meet-requires c = (small (goal.at.meet-requires c).Start, other (goal.at.meet-requires c).After-place_of-there, omega arith)
@@ -65,4 +47,4 @@ returns-then-f-n c =
 pub returns : goal.returns
 returns c =
     let a = c.args in
-    met_none _ _ _ _ _ _ _ a.found.crowded a.found.repeated a.found.equal _ c.wide-f.ensures c.if-f-n.false
+    met_none _ _ _ _ _ _ _ a.found.crowded a.found.repeated a.found.equal _ c.from-f.ensures c.if-f-n.false

@@ -5,4 +5,4 @@ use lib.Dec.{ltb}
 use Rattle.tables.proofs.adjacency.seen.Goals as goal
 
 pub returns : goal.returns
-returns c = ap (λ (x : ℕ). ltb x c.args.n) c.wide.ensures
+returns c = ap (λ (x : ℕ). ltb x c.args.n) c.from.ensures

@@ -4,7 +4,6 @@ use Prim.Native.Nat.{◌+◌, ◌*◌, ◌<◌}
 use native.Mathlib.Omega.{arith}
 use lib.ListN.{length}
 use borrow.Author.Count.{below_none, below_more}
-use borrow.Author.Rules.{rules}
 use borrow.Author.Tests.{lt-ltb, le-ltb}
 use Rattle.tables.specs.Inner.Held.{above_at}
 use Rattle.records.proofs.Parts.{inside}
@@ -19,7 +18,7 @@ room c =
     omega (arith, inside a.s a.size c.loop-p.p a.k c.loop-p-test.true (omega arith))
 
 pub loop-p-init : goal.loop-p-init
-loop-p-init c = (search rules, below_none _)
+loop-p-init c = below_none _
 
 pub overflow_mul-p : goal.overflow_mul-p
 overflow_mul-p c = omega (arith, room c)
@@ -39,9 +38,9 @@ returns-then-most-words c =
     sym (any_below_lem (above_at a.size a.k a.most a.words.now) _ _ c.loop-p-test.true (lt-ltb _ _ c.if-most-words.true))
 
 pub loop-p-preserved : goal.loop-p-preserved
-loop-p-preserved c = (search rules, below_more _ _ c.loop-p.invariant.1 (le-ltb _ _ c.if-most-words.false))
+loop-p-preserved c = below_more _ _ c.loop-p.invariant (le-ltb _ _ c.if-most-words.false)
 
 pub returns : goal.returns
 returns c =
     let a = c.args in
-    sym (none_below (above_at _ _ _ a.words.now) a.s (λ q l. c.loop-p.invariant.1 q (omega arith)))
+    sym (none_below (above_at _ _ _ a.words.now) a.s (λ q l. c.loop-p.invariant q (omega arith)))

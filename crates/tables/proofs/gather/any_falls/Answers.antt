@@ -8,10 +8,7 @@ use Rattle.words.proofs.Below.{any_below_lem, below_not, none_below, some_below}
 use Rattle.tables.proofs.gather.any_falls.Goals as goal
 
 pub loop-j-init : goal.loop-j-init
-loop-j-init c = (omega arith, below_none _)
-
-pub column_falls-requires : goal.column_falls-requires
-column_falls-requires c = omega arith
+loop-j-init c = below_none _
 
 pub returns-then-column_falls : goal.returns-then-column_falls
 returns-then-column_falls c =
@@ -21,17 +18,11 @@ returns-then-column_falls c =
     sym (any_below_lem (falls a.d a.rows.now) a.s f.0 f.1
     (any_below_lem (falls_at a.rows.now f.0) _ j c.loop-j-test.true f.2))
 
-pub overflow_add-j : goal.overflow_add-j
-overflow_add-j c = omega arith
-
-pub loop-j-smaller : goal.loop-j-smaller
-loop-j-smaller c = omega arith
-
 pub loop-j-preserved : goal.loop-j-preserved
-loop-j-preserved c = (omega arith, below_more _ _ c.loop-j.invariant.1 (sym c.column_falls.ensures ∙ c.if-column_falls.false))
+loop-j-preserved c = below_more _ _ c.loop-j.invariant (sym c.column_falls.ensures ∙ c.if-column_falls.false)
 
 pub returns : goal.returns
 returns c =
     let a = c.args in
     sym (none_below (falls a.d a.rows.now) _ (λ p l. none_below (falls_at a.rows.now p) a.d
-    (λ j h. below_not (λ (q : ℕ). falls_at a.rows.now q j) a.s (c.loop-j.invariant.1 j (omega arith)) p l)))
+    (λ j h. below_not (λ (q : ℕ). falls_at a.rows.now q j) a.s (c.loop-j.invariant j (omega arith)) p l)))

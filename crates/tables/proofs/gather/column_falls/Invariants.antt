@@ -1,12 +1,9 @@
 -- The loop's invariant: in each row passed vertex j is below the next. Assumes nothing.
 use mathlib.Core.Bool.{false}
 use mathlib.Core.Path.{◌≡◌}
-use Prim.Native.Nat.{ℕ, ◌-◌, ◌≤◌, ◌<◌}
+use Prim.Native.Nat.{ℕ, ◌<◌}
 use Rattle.tables.specs.Inner.Held.{falls_at}
 use Rattle.tables.proofs.gather.column_falls.Given as goal
 
 abbrev pub invariant-loop-p : goal.invariant-loop-p
-invariant-loop-p l = (l.p ≤ l.s) × ((q : ℕ) → q < l.p → falls_at l.rows q l.j ≡ false)
-
-abbrev pub decreases-loop-p : goal.decreases-loop-p
-decreases-loop-p l = l.s - l.p
+invariant-loop-p l = (q : ℕ) → q < l.p → falls_at l.rows q l.j ≡ false

@@ -14,53 +14,25 @@ use Rattle.tables.proofs.table.copy_run.Goals as goal
 use Rattle.tables.proofs.table.copy_run.Goals.{then-j-n, else-j-n}
 
 pub loop-j-init : goal.loop-j-init
-loop-j-init c = (omega arith, omega arith, sym (placed-none _ _))
-
-pub overflow_add-table : goal.overflow_add-table
-overflow_add-table c = omega arith
-
-pub offset_bounds-words-from : goal.offset_bounds-words-from
-offset_bounds-words-from c = omega arith
-
-pub bounds-words-from : goal.bounds-words-from
-bounds-words-from c = omega arith
-
-pub overflow_add-table-then-j-n : goal.overflow_add-table-then-j-n
-overflow_add-table-then-j-n c = omega arith
-
-pub offset_bounds-table-to : goal.offset_bounds-table-to
-offset_bounds-table-to c = omega arith
-
-pub bounds-table-to : goal.bounds-table-to
-bounds-table-to c = omega arith
-
-pub overflow_add-j : goal.overflow_add-j
-overflow_add-j c = omega arith
-
-pub loop-j-smaller : goal.loop-j-smaller
-loop-j-smaller c = omega arith
+loop-j-init c = (omega arith, sym (placed-none _ _))
 
 pub loop-j-preserved : goal.loop-j-preserved
 loop-j-preserved c =
     let l = c.loop-j in
     let a = c.args in (
-      omega arith,
       elim c.if-j-n.branch [
-        | then-j-n w ↦ ap length w.table-is ∙ length-set l.table _ _ ∙ l.invariant.1
-        | else-j-n w ↦ ap length w.table-is ∙ l.invariant.1
+        | then-j-n w ↦ ap length w.table-is ∙ length-set l.table _ _ ∙ l.invariant.0
+        | else-j-n w ↦ ap length w.table-is ∙ l.invariant.0
       ],
       elim c.if-j-n.branch [
-        | then-j-n w ↦ run_more _ a.from _ _ a.words.now a.table.now _ c.if-j-n.table c.requires.2 l.invariant.2 w.if-j-n.true w.table-is
-        | else-j-n w ↦ run_no_more _ a.from _ _ a.words.now a.table.now _ c.if-j-n.table c.requires.2 l.invariant.2 w.if-j-n.false w.table-is
+        | then-j-n w ↦ run_more _ a.from _ _ a.words.now a.table.now _ c.if-j-n.table c.requires.2 l.invariant.1 w.if-j-n.true w.table-is
+        | else-j-n w ↦ run_no_more _ a.from _ _ a.words.now a.table.now _ c.if-j-n.table c.requires.2 l.invariant.1 w.if-j-n.false w.table-is
       ],
     )
-
-pub shape_of-table : goal.shape_of-table
-shape_of-table c = omega arith
 
 pub returns : goal.returns
 returns c =
     let l = c.loop-j in
     let a = c.args in
-    l.invariant.2 ∙ ap (λ (t : List ℕ). placed a.to t a.table.now) (take_all l.j (run a.n _ a.words.now)
+    l.invariant.1 ∙ ap (λ (t : List ℕ). placed a.to t a.table.now) (take_all l.j (run a.n _ a.words.now)
     (omega (arith, tabulate-length a.n (λ (j : ℕ). get_or a.words.now (a.from + j) 0), c.requires.0)))

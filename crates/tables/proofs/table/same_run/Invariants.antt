@@ -1,11 +1,8 @@
 -- The loop has found the first j words the same. Assumes nothing.
 use mathlib.Core.Path.{◌≡◌}
-use Prim.Native.Nat.{ℕ, ◌+◌, ◌-◌, ◌≤◌, ◌<◌}
+use Prim.Native.Nat.{ℕ, ◌+◌, ◌<◌}
 use lib.ListN.{get_or}
 use Rattle.tables.proofs.table.same_run.Given as goal
 
 abbrev pub invariant-loop-j : goal.invariant-loop-j
-invariant-loop-j l = (l.j ≤ l.n) × ((i : ℕ) → i < l.j → get_or l.table (l.to + i) 0 ≡ get_or l.words (l.from + i) 0)
-
-abbrev pub decreases-loop-j : goal.decreases-loop-j
-decreases-loop-j l = l.n - l.j
+invariant-loop-j l = (i : ℕ) → i < l.j → get_or l.table (l.to + i) 0 ≡ get_or l.words (l.from + i) 0

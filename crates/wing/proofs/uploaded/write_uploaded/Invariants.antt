@@ -1,6 +1,6 @@
 -- The loop has written the wings of the first p cells. Assumes nothing.
 use mathlib.Core.Path.{◌≡◌}
-use Prim.Native.Nat.{◌-◌}
+use Prim.Native.Nat.{◌*◌}
 use lib.ListN.{drop}
 use Rattle.words.specs.Records.{concat, tabulate}
 use Rattle.words.proofs.Writing.{Left}
@@ -11,7 +11,4 @@ use Rattle.wing.proofs.uploaded.write_uploaded.Given as goal
 abbrev pub invariant-loop-p : goal.invariant-loop-p
 invariant-loop-p l =
     let all = tabulate l.s (uploaded_row l.d l.cells l.table) in
-    (l.size ≡ wings_size l.d) × Left 0 (concat all) l.initial.uploaded l.at (concat (drop l.p all)) l.uploaded
-
-abbrev pub decreases-loop-p : goal.decreases-loop-p
-decreases-loop-p l = l.s - l.p
+    (l.size ≡ wings_size l.d) × Left 0 (concat all) l.initial.uploaded (l.p * l.size) (concat (drop l.p all)) l.uploaded

@@ -67,7 +67,7 @@ returns-then-not-is_sound c =
     let o = sym (refuses (input s) [] 14 (rw (c.requires.0, right s, unsound))).0 in
     let told = told-refused a.d a.v a.s a.table.now a.out.now 14 o in
     record {
-      answer = to_z-of_z w64 _ (search rules) ∙ c.minus.ensures ∙ told.0;
+      answer = to_z-of_z w64 _ (search rules) ∙ c.answered.ensures ∙ told.0;
       buffer = told.1;
     }
 
@@ -91,7 +91,7 @@ returns-then-out-n c =
     let o = sym (refuses (input s) [] 15 (rw (c.requires.0, right s, fine, short))).0 in
     let told = told-refused a.d a.v a.s a.table.now a.out.now 15 o in
     record {
-      answer = to_z-of_z w64 _ (search rules) ∙ c.minus-then-out-n.ensures ∙ told.0;
+      answer = to_z-of_z w64 _ (search rules) ∙ c.answered-then-out-n.ensures ∙ told.0;
       buffer = told.1;
     }
 

@@ -38,12 +38,12 @@ few c =
 abbrev Fits : Start → ℕ → ℕ → Type 0
 Fits s m d =
     let a = s.args in
-    (shape_ok max_dimension d a.v a.s ≡ true) × (length a.table.now ≡ table_length d a.s * 2) × (table_length d a.s ≤ m)
+    (shape_ok max_dimension d a.v a.s ≡ true) × (length a.table.now ≡ table_length d a.s * 2) × (table_length d a.s ≤ m) × (m ≤ table_room)
 
-fits : (m : ℕ) (c : Else-table-n) → c.table_words-n.result ≤ m → Fits (goal.at.Else-table-n c).Start m c.args.d
-fits m c l =
+fits : (m : ℕ) (c : Else-table-n) → m ≤ table_room → c.table_words-n.result ≤ m → Fits (goal.at.Else-table-n c).Start m c.args.d
+fits m c r l =
     let n = (goal.at.Else-table-n c).After-table_words-n in
-    (inside (goal.at.Else-table-n c).Else-not-within, c.if-table-n.false ∙ twice n, omega (arith, c.table_words-n.ensures, l))
+    (inside (goal.at.Else-table-n c).Else-not-within, c.if-table-n.false ∙ twice n, omega (arith, c.table_words-n.ensures, l), r)
 
 -- it holds of a dimension that is the table's
 at : (s : Start) (m k : ℕ) → Fits s m s.args.d → s.args.d ≡ k → Fits s m k
@@ -64,7 +64,7 @@ returns-then-not-within c =
     let host = host-outside a.d a.v a.s a.table.now a.faces.now
     (sym c.within.ensures ∙ c.if-not-within.true) in
     record {
-      answer = to_z-of_z w64 _ (search rules) ∙ c.minus.ensures ∙ host.0;
+      answer = to_z-of_z w64 _ (search rules) ∙ c.answered.ensures ∙ host.0;
       buffer = host.1;
     }
 
@@ -81,63 +81,67 @@ returns-then-table-n c =
     let words = twice (goal.at.returns-then-table-n c).After-table_words-n in
     let host = host_wrong a.d a.v a.s a.table.now a.faces.now shape (λ e. c.if-table-n.true (e ∙ sym words)) in
     record {
-      answer = to_z-of_z w64 _ (search rules) ∙ c.minus-then-table-n.ensures ∙ host.0;
+      answer = to_z-of_z w64 _ (search rules) ∙ c.answered-then-table-n.ensures ∙ host.0;
       buffer = host.1;
     }
 
-pub faces_2048-requires : goal.faces_2048-requires
-faces_2048-requires c =
-    at (goal.at.faces_2048-requires c).Start 2048 1 (fits 2048 (goal.at.faces_2048-requires c).Else-table-n c.if-n-le2048.true) c.if-d-eq1.true
+pub in_room-requires : goal.in_room-requires
+in_room-requires c =
+    at (goal.at.in_room-requires c).Start 2048 1 (fits 2048 (goal.at.in_room-requires c).Else-table-n
+    (omega arith) c.if-n-le2048.true) c.if-d-eq1.true
 
 pub returns-then-d-eq1 : goal.returns-then-d-eq1
 returns-then-d-eq1 c = let k = back (goal.at.returns-then-d-eq1 c).Start 1 c.if-d-eq1.true in
     record {
-      answer = to_z-of_z w64 _ (search rules) ∙ c.faces_2048.ensures.answer ∙ k.0;
-      buffer = c.faces_2048.ensures.buffer ∙ k.1;
+      answer = to_z-of_z w64 _ (search rules) ∙ c.in_room.ensures.answer ∙ k.0;
+      buffer = c.in_room.ensures.buffer ∙ k.1;
     }
 
-pub faces_2048-requires-then-n-le2048 : goal.faces_2048-requires-then-n-le2048
-faces_2048-requires-then-n-le2048 c = fits 2048 (goal.at.faces_2048-requires-then-n-le2048 c).Else-table-n c.if-n-le2048.true
+pub in_room-requires-then-n-le2048 : goal.in_room-requires-then-n-le2048
+in_room-requires-then-n-le2048 c = fits 2048 (goal.at.in_room-requires-then-n-le2048 c).Else-table-n (omega arith) c.if-n-le2048.true
 
-pub faces_16384-requires : goal.faces_16384-requires
-faces_16384-requires c =
-    at (goal.at.faces_16384-requires c).Start 16384 1 (fits 16384 (goal.at.faces_16384-requires c).Else-table-n c.if-n-le16384.true) c.if-d-eq1-2.true
+pub apart-requires : goal.apart-requires
+apart-requires c =
+    at (goal.at.apart-requires c).Start 16384 1 (fits 16384 (goal.at.apart-requires c).Else-table-n
+    (omega arith) c.if-n-le16384.true) c.if-d-eq1-2.true
 
 pub returns-then-d-eq1-2 : goal.returns-then-d-eq1-2
 returns-then-d-eq1-2 c = let k = back (goal.at.returns-then-d-eq1-2 c).Start 1 c.if-d-eq1-2.true in
     record {
-      answer = to_z-of_z w64 _ (search rules) ∙ c.faces_16384.ensures.answer ∙ k.0;
-      buffer = c.faces_16384.ensures.buffer ∙ k.1;
+      answer = to_z-of_z w64 _ (search rules) ∙ c.apart.ensures.answer ∙ k.0;
+      buffer = c.apart.ensures.buffer ∙ k.1;
     }
 
-pub faces_16384-requires-then-n-le16384 : goal.faces_16384-requires-then-n-le16384
-faces_16384-requires-then-n-le16384 c = fits 16384 (goal.at.faces_16384-requires-then-n-le16384 c).Else-table-n c.if-n-le16384.true
+pub apart-requires-then-n-le16384 : goal.apart-requires-then-n-le16384
+apart-requires-then-n-le16384 c = fits 16384 (goal.at.apart-requires-then-n-le16384 c).Else-table-n (omega arith) c.if-n-le16384.true
 
-pub faces_40960-requires : goal.faces_40960-requires
-faces_40960-requires c =
-    at (goal.at.faces_40960-requires c).Start 40960 1 (fits 40960 (goal.at.faces_40960-requires c).Else-table-n c.if-n-le40960.true) c.if-d-eq1-3.true
+pub apart-requires-then-d-eq1-3 : goal.apart-requires-then-d-eq1-3
+apart-requires-then-d-eq1-3 c =
+    at (goal.at.apart-requires-then-d-eq1-3 c).Start 40960 1 (fits 40960 (goal.at.apart-requires-then-d-eq1-3 c).Else-table-n
+    (omega arith) c.if-n-le40960.true) c.if-d-eq1-3.true
 
 pub returns-then-d-eq1-3 : goal.returns-then-d-eq1-3
 returns-then-d-eq1-3 c = let k = back (goal.at.returns-then-d-eq1-3 c).Start 1 c.if-d-eq1-3.true in
     record {
-      answer = to_z-of_z w64 _ (search rules) ∙ c.faces_40960.ensures.answer ∙ k.0;
-      buffer = c.faces_40960.ensures.buffer ∙ k.1;
+      answer = to_z-of_z w64 _ (search rules) ∙ c.apart-then-d-eq1-3.ensures.answer ∙ k.0;
+      buffer = c.apart-then-d-eq1-3.ensures.buffer ∙ k.1;
     }
 
-pub faces_40960-requires-then-n-le40960 : goal.faces_40960-requires-then-n-le40960
-faces_40960-requires-then-n-le40960 c = fits 40960 (goal.at.faces_40960-requires-then-n-le40960 c).Else-table-n c.if-n-le40960.true
+pub apart-requires-then-n-le40960 : goal.apart-requires-then-n-le40960
+apart-requires-then-n-le40960 c = fits 40960 (goal.at.apart-requires-then-n-le40960 c).Else-table-n (omega arith) c.if-n-le40960.true
 
-pub faces_73728-requires : goal.faces_73728-requires
-faces_73728-requires c =
-    let room = fits 73728 (goal.at.faces_73728-requires c).Else-table-n (few (goal.at.faces_73728-requires c).After-table_words-n) in
-    at (goal.at.faces_73728-requires c).Start 73728 4 room c.if-d-eq4.true
+pub apart-requires-then-d-eq4 : goal.apart-requires-then-d-eq4
+apart-requires-then-d-eq4 c =
+    let room = fits 73728 (goal.at.apart-requires-then-d-eq4 c).Else-table-n (omega arith) (few
+    (goal.at.apart-requires-then-d-eq4 c).After-table_words-n) in
+    at (goal.at.apart-requires-then-d-eq4 c).Start 73728 4 room c.if-d-eq4.true
 
 pub returns-then-d-eq4 : goal.returns-then-d-eq4
 returns-then-d-eq4 c = let k = back (goal.at.returns-then-d-eq4 c).Start 4 c.if-d-eq4.true in
     record {
-      answer = to_z-of_z w64 _ (search rules) ∙ c.faces_73728.ensures.answer ∙ k.0;
-      buffer = c.faces_73728.ensures.buffer ∙ k.1;
+      answer = to_z-of_z w64 _ (search rules) ∙ c.apart-then-d-eq4.ensures.answer ∙ k.0;
+      buffer = c.apart-then-d-eq4.ensures.buffer ∙ k.1;
     }
 
-pub faces_73728-requires-2 : goal.faces_73728-requires-2
-faces_73728-requires-2 c = fits 73728 (goal.at.faces_73728-requires-2 c).Else-table-n (few (goal.at.faces_73728-requires-2 c).After-table_words-n)
+pub apart-requires-2 : goal.apart-requires-2
+apart-requires-2 c = fits 73728 (goal.at.apart-requires-2 c).Else-table-n (omega arith) (few (goal.at.apart-requires-2 c).After-table_words-n)

@@ -154,32 +154,64 @@ sweep_size-m-requires c =
     let l = limits o in
     (l.dimension, steps o, cells c)
 
-pub in_2560-requires : goal.in_2560-requires
-in_2560-requires c = small (goal.at.in_2560-requires c).After-sweep_size-m 320 2560 c.if-m-n.true
+pub in_room-requires : goal.in_room-requires
+in_room-requires c = (small (goal.at.in_room-requires c).After-sweep_size-m 320 2560 c.if-m-n.true, omega arith, omega arith)
 
-pub in_5120-requires : goal.in_5120-requires
-in_5120-requires c = small (goal.at.in_5120-requires c).After-sweep_size-m 320 5120 c.if-m-n-2.true
+pub in_room-requires-then-m-n-2 : goal.in_room-requires-then-m-n-2
+in_room-requires-then-m-n-2 c = (small (goal.at.in_room-requires-then-m-n-2 c).After-sweep_size-m 320 5120 c.if-m-n-2.true, omega arith, omega arith)
 
-pub wide_5120-requires : goal.wide_5120-requires
-wide_5120-requires c = wide (goal.at.wide_5120-requires c).After-sweep_size-m 1920 5120 (omega arith) c.if-m-le5120.true
+pub in_room-requires-then-m-le5120 : goal.in_room-requires-then-m-le5120
+in_room-requires-then-m-le5120 c = (
+  wide (goal.at.in_room-requires-then-m-le5120 c).After-sweep_size-m 1920 5120
+      (omega arith) c.if-m-le5120.true,
+  omega arith,
+  omega arith,
+)
 
-pub in_10240-requires : goal.in_10240-requires
-in_10240-requires c = small (goal.at.in_10240-requires c).After-sweep_size-m 640 10240 c.if-m-n-3.true
+pub in_room-requires-then-m-n-3 : goal.in_room-requires-then-m-n-3
+in_room-requires-then-m-n-3 c = (small (goal.at.in_room-requires-then-m-n-3 c).After-sweep_size-m 640 10240 c.if-m-n-3.true, omega arith, omega arith)
 
-pub wide_10240-requires : goal.wide_10240-requires
-wide_10240-requires c = wide (goal.at.wide_10240-requires c).After-sweep_size-m 3840 10240 (omega arith) c.if-m-le10240.true
+pub in_room-requires-then-m-le10240 : goal.in_room-requires-then-m-le10240
+in_room-requires-then-m-le10240 c = (
+  wide (goal.at.in_room-requires-then-m-le10240 c).After-sweep_size-m 3840 10240
+      (omega arith) c.if-m-le10240.true,
+  omega arith,
+  omega arith,
+)
 
-pub in_20480-requires : goal.in_20480-requires
-in_20480-requires c = small (goal.at.in_20480-requires c).After-sweep_size-m 2560 20480 c.if-m-n-4.true
+pub in_room-requires-then-m-n-4 : goal.in_room-requires-then-m-n-4
+in_room-requires-then-m-n-4 c = (
+  small (goal.at.in_room-requires-then-m-n-4 c).After-sweep_size-m 2560 20480 c.if-m-n-4.true,
+  omega arith,
+  omega arith,
+)
 
-pub wide_20480-requires : goal.wide_20480-requires
-wide_20480-requires c = wide (goal.at.wide_20480-requires c).After-sweep_size-m 7680 20480 (omega arith) c.if-m-le20480.true
+pub in_room-requires-then-m-le20480 : goal.in_room-requires-then-m-le20480
+in_room-requires-then-m-le20480 c = (
+  wide (goal.at.in_room-requires-then-m-le20480 c).After-sweep_size-m 7680 20480
+      (omega arith) c.if-m-le20480.true,
+  omega arith,
+  omega arith,
+)
 
-pub in_40960-requires : goal.in_40960-requires
-in_40960-requires c = small (goal.at.in_40960-requires c).After-sweep_size-m 2560 40960 c.if-m-n-5.true
+pub in_room-requires-then-m-n-5 : goal.in_room-requires-then-m-n-5
+in_room-requires-then-m-n-5 c = (
+  small (goal.at.in_room-requires-then-m-n-5 c).After-sweep_size-m 2560 40960 c.if-m-n-5.true,
+  omega arith,
+  omega arith,
+)
 
-pub in_73728-requires : goal.in_73728-requires
-in_73728-requires c = largest (goal.at.in_73728-requires c).After-sweep_size-m 4608 c.if-n-le4608.true
+pub in_room-requires-then-n-le4608 : goal.in_room-requires-then-n-le4608
+in_room-requires-then-n-le4608 c = (
+  largest (goal.at.in_room-requires-then-n-le4608 c).After-sweep_size-m 4608 c.if-n-le4608.true,
+  omega arith,
+  omega arith,
+)
 
-pub wide_73728-requires : goal.wide_73728-requires
-wide_73728-requires c = largest (goal.at.wide_73728-requires c).After-sweep_size-m 16384 (every (goal.at.wide_73728-requires c).After-sweep_size-m)
+pub in_room-requires-2 : goal.in_room-requires-2
+in_room-requires-2 c = (
+  largest (goal.at.in_room-requires-2 c).After-sweep_size-m 16384 (every
+      (goal.at.in_room-requires-2 c).After-sweep_size-m),
+  omega arith,
+  omega arith,
+)

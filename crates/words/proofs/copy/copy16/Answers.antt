@@ -1,30 +1,25 @@
 -- The goals that the search leaves. Assumes nothing.
-use mathlib.Core.Path.{◌≡◌, refl}
-use Prim.Native.Nat.{◌-◌, ◌+◌}
+use mathlib.Core.Path.{◌∙◌, sym}
+use native.Mathlib.Nat.{add-zero}
 use native.Mathlib.Omega.{arith}
-use lib.ListN.{length-set}
-use borrow.Author.Rules.{rules}
-use Rattle.words.specs.Bytes.{words_from, word16}
-use Rattle.words.proofs.Bytes.{words_next, words-length}
-use Rattle.words.proofs.Writing.{left_starts, left_word, left_ends}
+use Rattle.words.specs.Bytes.{words_from}
+use Rattle.words.proofs.Bytes.{words_get, words-length}
+use Rattle.words.proofs.Writing.{left_starts, left_next, left_none}
 use Rattle.words.proofs.copy.copy16.Goals as goal
 
-pub loop-left-init : goal.loop-left-init
-loop-left-init c =
+pub loop-k-init : goal.loop-k-init
+loop-k-init c =
     let a = c.args in
-    (search rules, search rules, left_starts _ _ _ (omega (arith, words-length a.b.now a.at a.m)))
+    rw add-zero (left_starts _ _ _ (omega (arith, words-length a.b.now a.at a.m)))
 
-pub loop-left-preserved : goal.loop-left-preserved
-loop-left-preserved c =
-    let l = c.loop-left in
-    let b = c.args.b.now in
-    let next = words_next b l.from l.left c.loop-left-test.true in (
-      omega arith,
-      simp length-set (omega arith),
-      rw c.word16.ensures (left_word (word16 b l.from) (words_from b (l.from + 2) (l.left - 1)) _ refl (rw next at l.invariant.2)),
-    )
+pub loop-k-preserved : goal.loop-k-preserved
+loop-k-preserved c =
+    let a = c.args in
+    let k = c.loop-k.k in
+    left_next 0 (words_from a.b.now a.at a.m) k (omega (arith, words-length a.b.now a.at a.m)) c.loop-k.invariant _ _
+    (c.word16.ensures ∙ sym (words_get a.b.now a.at a.m k c.loop-k-test.true)) (omega arith)
 
 pub returns : goal.returns
 returns c =
-    let none : c.loop-left.left ≡ 0 = omega arith in
-    (left_ends (rw none at c.loop-left.invariant.2)).content
+    let a = c.args in
+    (left_none (words_from a.b.now a.at a.m) c.loop-k.k (omega (arith, words-length a.b.now a.at a.m)) c.loop-k.invariant).content

@@ -1,6 +1,0 @@
--- The room's arrays are long enough. Assumes nothing.
-use Rattle.winged.proofs.Inward.{room_arrays}
-use Rattle.winged.proofs.host.rooms.wide_73728.Goals as goal
-
-pub sweep_bytes-requires : goal.sweep_bytes-requires
-sweep_bytes-requires c = room_arrays c.requires
