@@ -120,7 +120,7 @@ def calls(name):
         for function, module, begin, end in functions_in(file.relative_to(ROOT / "crates" / name), text):
             texts[module + function] = text[begin:end]
     last = lambda function: function.rpartition("/")[2]
-    direct = {one: {other for other in texts if other != one and re.search(rf"\b{last(other)}\(", text)} for one, text in texts.items()}
+    direct = {one: {other for other in texts if other != one and re.search(rf"\b{last(other)}(?:::<[^>]*>)?\(", text)} for one, text in texts.items()}
     found = {}
     for one in direct:
         found[one], waiting = set(), [one]

@@ -21,6 +21,7 @@ from compare import edge_files
 TOOL = [sys.executable, "-B", str(ROOT / "tools" / "solid.py")]
 FILES = sorted((ROOT / "examples").glob("*/*.wng"))
 STACK = 1 << 20  # bytes, as docs/man/key.1 says
+ENVIRONMENT = 1 << 16  # bytes, which the system puts on that stack too
 ROOM = 10**6
 UNREAD = b"key: the input could not be read\n"
 UNWRITTEN = b"key: the text could not be written\n"
@@ -183,10 +184,11 @@ def check_failures():
 
 
 def check_stack():
-    """The program keeps to the stack that it is said to take, at its limits and on every sample."""
+    """The program keeps to the stack that it is said to take, at its limits and on every sample, beside a large environment."""
     limit = lambda: resource.setrlimit(resource.RLIMIT_STACK, (STACK, STACK))
+    beside = {**os.environ, "PADDING": "x" * ENVIRONMENT}
     for data in [*edge_files(random.Random(1)), *(file.read_bytes() for file in FILES)]:
-        said = run([PROGRAM], data, preexec_fn=limit)
+        said = run([PROGRAM], data, preexec_fn=limit, env=beside)
         check(f"{len(data)} bytes with {STACK} bytes of stack", (said.returncode, said.stdout) == (0, reference.key(data)))
 
 

@@ -54,10 +54,10 @@ room_small d s n some few =
     (omega (arith, list, mul_assoc s (suc d) 2), omega (arith, table, mul_assoc s (suc d) 3))
 
 pub room_for : (d v s n l t h : ℕ) (cells table uploaded : List ℕ) → Lent d v s cells table uploaded × (s * suc d ≤ n) →
-    (l ≡ min (n * 2) 40960) × (t ≡ min (n * 3) 73728) × (n ≤ 32768) × (0 < h) × (h ≤ 65536) →
+    (l ≡ min (n * 2) 40960) × (t ≡ min (n * 3) 73728) × (0 < h) × (h ≤ 65536) →
     (Lent d v s cells table uploaded × Buckets d s (replicate {A = ℕ} n 0) (replicate {A = ℕ} h 65535) (replicate {A = ℕ} n 0))
     × ((list_length d s ≤ length (replicate {A = ℕ} l 0)) × (table_length d s ≤ length (replicate {A = ℕ} t 0)))
-room_for d v s n l t h cells table uploaded (lent, few) (list, words, _, some, most) =
+room_for d v s n l t h cells table uploaded (lent, few) (list, words, some, most) =
     let small = room_small d s n lent.some few in
     let a = limits_are max_dimension d v s (ap not lent.shape) in
     let room =

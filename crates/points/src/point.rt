@@ -44,12 +44,14 @@ pub(crate) fn move_point(step: Step, n: usize, p: &mut [f64])
     }
 }
 
-// Writes xs from the start of out.
+// Writes xs from the start of out. It is a loop, since the compiler makes the library's copy ask a host for memmove.
 pub(crate) fn put(xs: &[f64], out: &mut [f64])
     requires { length xs.now ≤ length out.old }
     ensures { out.new ≡ xs.now ++ drop (length xs.now) out.old }
 {
-    out[..xs.len()].copy_from_slice(xs);
+    for i in 0..xs.len() {
+        out[i] = xs[i];
+    }
 }
 
 // A row of eight floats that begins with xs.

@@ -16,14 +16,15 @@ pub fn put_byte(buf: &mut [u8], at: usize, b: u8) -> usize
     at + 1
 }
 
-// A fixed text.
+// A fixed text. It is copied by a loop, since the compiler makes the library's copy of lent bytes ask a host for memmove.
 pub fn put_text(buf: &mut [u8], at: usize, text: &[u8]) -> usize
     requires { at + length text.now ≤ length buf.old }
     ensures { Put at text.now buf.old result buf.new }
 {
-    let end = at + text.len();
-    buf[at..end].copy_from_slice(text);
-    end
+    for i in 0..text.len() {
+        buf[at + i] = text[i];
+    }
+    at + text.len()
 }
 
 // The byte of a number's last digit.

@@ -60,7 +60,8 @@ fn write_level<const D: usize>(
     next
 }
 
-// Words of a level.
+// Words of a level. It stays a call: where the compiler knows of what the count is a multiple, it makes the loop of `raise` half as wide.
+#[inline(never)]
 fn level_size(d: usize, s: usize) -> usize
     requires { (d ≤ max_source) × (s * suc d ≤ max_cells) }
     ensures { result ≡ s * prism_size d }
@@ -95,7 +96,9 @@ fn next_level<const D: usize>(
     raise_level(D, v, s, h, table, i - 2, n, out);
 }
 
-// All levels, from the start of the buffer.
+// All levels, from the start of the buffer. It stays a call: seven of them put into their caller would make it too large to be put into its
+// own, and the arrays of both would be on the stack at once.
+#[inline(never)]
 fn write_levels<const D: usize>(
     v: usize,
     s: usize,

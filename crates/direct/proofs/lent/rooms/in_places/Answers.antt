@@ -10,4 +10,7 @@ pub whole_as_slice-in_arrays-2 : goal.whole_as_slice-in_arrays-2
 whole_as_slice-in_arrays-2 g c = omega (arith, c.requires.room)
 
 pub in_arrays-requires : goal.in_arrays-requires
-in_arrays-requires g c = let r = room_for _ _ _ _ _ _ _ _ _ _ c.requires.lent c.requires.room in record { lent = r.0; s_in_bounds = r.1 }
+in_arrays-requires g c =
+    let (list, words, _, some, most) = c.requires.room in
+    let r = room_for _ _ _ _ _ _ _ _ _ _ c.requires.lent (list, words, some, most) in
+    record { lent = r.0; s_in_bounds = r.1 }
