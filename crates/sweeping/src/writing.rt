@@ -96,8 +96,8 @@ fn next_level<const D: usize>(
     raise_level(D, v, s, h, table, i - 2, n, out);
 }
 
-// All levels, from the start of the buffer. It stays a call: seven of them put into their caller would make it too large to be put into its
-// own, and the arrays of both would be on the stack at once.
+// All levels, from the start of the buffer. It stays a call: seven of them would make what sweep is put into too large to be put into its own
+// caller (`swept_key` of page), and then the arrays of both are on the stack at once.
 #[inline(never)]
 fn write_levels<const D: usize>(
     v: usize,
